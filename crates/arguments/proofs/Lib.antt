@@ -1,0 +1,8 @@
+pub mod Argued
+pub mod Within
+pub mod Turns
+pub mod Counts
+pub mod Frames
+pub mod Kept
+pub mod Filling
+pub mod Only

@@ -1,0 +1,121 @@
+-- What is known of one argument's reading whatever its class: it lies in its part, its fields fit a record, and the offset base
+-- changes neither how far it reads nor its fault. Assumes nothing.
+use mathlib.Core.Path.{_≡_, refl, sym, subst}
+use mathlib.Core.Bool.{Bool, true, false, cond}
+use mathlib.Core.List.{List}
+use Prim.Native.Nat.{ℕ, _+_, _^_, _<_, _≤_}
+use native.Mathlib.Omega.{arith}
+use borrow.Author.Tests.{leb-true, ltb-true}
+use lib.Dec.{leb, ltb}
+use lib.ListN.{length, getD, take, drop}
+use lib.Seq.{getD-drop}
+use Rattle.refusal.specs.declared.Fault.the-variants.{RunsOut}
+use Rattle.number.specs.Number.{number}
+use Rattle.number.proofs.Numbers.{number-small}
+use Rattle.types.specs.Tags.{isScalar}
+use Rattle.types.specs.declared.tags.Class.{Class}
+use Rattle.types.specs.declared.tags.Class.the-variants.{Four, Eight, Bare, Text as String, Blob, Scalar, Unknown}
+use Rattle.utf8.specs.Derive.{utf8}
+use Rattle.text.specs.Text.{reach, untilNul, textOf}
+use Rattle.text.specs.declared.Text.{Text}
+use Rattle.text.specs.declared.Text.the-variants.{Found, Lacks}
+use Rattle.arguments.specs.Argument.{argOf, having, textArg}
+use Rattle.arguments.specs.Scans.{usedOf}
+use Rattle.arguments.specs.declared.Arg.{Arg}
+use Rattle.arguments.specs.declared.Arg.the-variants.{Given, Refused}
+
+-- what a test chooses between has a property if both have it, each where it is chosen
+pub by-test : {A : Type 0} (P : A → Type 0) (t : Bool) {x y : A} → (t ≡ true → P x) → (t ≡ false → P y) → P (cond t x y)
+by-test P true f g = f refl
+by-test P false f g = g refl
+
+-- ---- a text lies in its part
+
+abbrev TextIn : ℕ → Text → Type 0
+TextIn m (Found n used) = (n ≤ m) × (used ≤ m)
+TextIn m (Lacks k) = Unit {0}
+
+text-within : (l : List ℕ) (p : ℕ) → TextIn (length l) (textOf l p)
+unfolding textOf
+text-within l p =
+    let n = untilNul l in
+    by-test (TextIn (length l)) (ltb n (length l))
+    (λ h. by-test (TextIn (length l)) (leb (reach p (n + 1)) (length l))
+    (λ k. by-test (TextIn (length l)) (utf8 (take n l)) (λ _. (omega (arith, ltb-true n (length l) h), leb-true (reach p (n + 1)) (length l) k)) (λ _. tt))
+    (λ _. tt))
+    (λ _. tt)
+
+pub found-within : {n used : ℕ} (l : List ℕ) (p : ℕ) → Found n used ≡ textOf l p → (n ≤ length l) × (used ≤ length l)
+found-within l p e = subst (TextIn (length l)) (sym e) (text-within l p)
+
+-- ---- what holds of the fields and of the bytes used
+
+abbrev Holds : (ℕ → ℕ → ℕ → Type 0) → Arg → Type 0
+Holds P (Given a b used) = P a b used
+Holds P (Refused k) = Unit {0}
+
+module _ (P : ℕ → ℕ → ℕ → Type 0) where
+  -- of an argument that is read only if n bytes are there
+  if-there : (n : ℕ) (l : List ℕ) (x : Arg) → (n ≤ length l → Holds P x) → Holds P (having n l x)
+  if-there n l x f = by-test (Holds P) (leb n (length l)) (λ h. f (leb-true n (length l) h)) (λ _. tt)
+
+  of-text : (offset : ℕ) (t : Text) → ((n used : ℕ) → Found n used ≡ t → P offset n used) → Holds P (textArg offset t)
+  of-text offset (Found n used) f = f n used refl
+  of-text offset (Lacks k) f = tt
+
+  -- five cases are enough for all classes
+  module _ (base : ℕ) (l : List ℕ) (p : ℕ)
+      (four : 4 ≤ length l → P (number 4 l) 0 4)
+      (eight : 8 ≤ length l → P (number 4 l) (number 4 (drop 4 l)) 8)
+      (bare : P 0 0 0)
+      (string : (n used : ℕ) → Found n used ≡ textOf l p → P (base + p) n used)
+      (blob : 4 ≤ length l → reach p (4 + number 4 l) ≤ length l → P (base + (p + 4)) (number 4 l) (reach p (4 + number 4 l))) where
+    arg-holds : (class : Class) → Holds P (argOf class base l p)
+    unfolding argOf
+    arg-holds Four = if-there 4 l _ four
+    arg-holds Eight = if-there 8 l _ eight
+    arg-holds Bare = bare
+    arg-holds String = of-text (base + p) (textOf l p) string
+    arg-holds Blob = if-there 4 l _ (λ h. if-there (reach p (4 + number 4 l)) l _ (blob h))
+    arg-holds Scalar = if-there 4 l _ (λ h. by-test (Holds P) (isScalar (number 4 l)) (λ _. four h) (λ _. tt))
+    arg-holds Unknown = tt
+
+-- an argument lies in its part
+pub given-within : {a b used : ℕ} (class : Class) (base : ℕ) (l : List ℕ) (p : ℕ) → Given a b used ≡ argOf class base l p → used ≤ length l
+given-within class base l p e =
+    subst (Holds (λ a b used. used ≤ length l)) (sym e)
+    (arg-holds (λ a b used. used ≤ length l) base l p (λ h. h) (λ h. h) (omega arith) (λ n used f. found-within l p f .1) (λ h k. k) class)
+
+-- its fields fit in 4 bytes
+pub given-fits : {a b used : ℕ} (class : Class) (base : ℕ) (l : List ℕ) (p : ℕ) → ((j : ℕ) → getD l j 0 < 256) → base + p + length l < 256 ^ 4
+    → Given a b used ≡ argOf class base l p → (a < 256 ^ 4) × (b < 256 ^ 4)
+given-fits class base l p bytes low e =
+    let P : ℕ → ℕ → ℕ → Type 0 = λ a b used. (a < 256 ^ 4) × (b < 256 ^ 4) in
+    let n : number 4 l < 256 ^ 4 = number-small 4 l bytes in
+    let m : number 4 (drop 4 l) < 256 ^ 4 = number-small 4 (drop 4 l) (λ j. rw getD-drop (bytes (4 + j))) in
+    subst (Holds P) (sym e)
+    (arg-holds P base l p (λ h. (n, omega arith)) (λ h. (n, m)) (omega arith, omega arith)
+    (λ k used f. (omega arith, omega (arith, found-within l p f .0))) (λ h k. (omega arith, n)) class)
+
+-- ---- the offset base changes neither the bytes used nor the fault
+
+used-there : (n : ℕ) (l : List ℕ) (x y : Arg) → usedOf x ≡ usedOf y → usedOf (having n l x) ≡ usedOf (having n l y)
+used-there n l x y e = by-bool (leb n (length l))
+  where
+    by-bool : (t : Bool) → usedOf (cond t x (Refused RunsOut)) ≡ usedOf (cond t y (Refused RunsOut))
+    by-bool true = e
+    by-bool false = refl
+
+used-text : (o o′ : ℕ) (t : Text) → usedOf (textArg o t) ≡ usedOf (textArg o′ t)
+used-text o o′ (Found n used) = refl
+used-text o o′ (Lacks k) = refl
+
+pub any-base : (class : Class) (base base′ : ℕ) (l : List ℕ) (p : ℕ) → usedOf (argOf class base l p) ≡ usedOf (argOf class base′ l p)
+unfolding argOf
+any-base Four base base′ l p = refl
+any-base Eight base base′ l p = refl
+any-base Bare base base′ l p = refl
+any-base String base base′ l p = used-text (base + p) (base′ + p) (textOf l p)
+any-base Blob base base′ l p = used-there 4 l _ _ (used-there (reach p (4 + number 4 l)) l _ _ refl)
+any-base Scalar base base′ l p = refl
+any-base Unknown base base′ l p = refl

@@ -1,0 +1,4 @@
+pub mod Argument
+pub mod Arguments
+pub mod Readings
+pub mod Scans

@@ -1,0 +1,30 @@
+-- What the two readings of a message's arguments answer and leave, from what `argsOf` says. Assumes nothing.
+use Prim.Native.Nat.{ℕ, _+_, _*_, _≤_}
+use mathlib.Core.List.{List}
+use lib.ListN.{length}
+use Rattle.types.specs.Forest.{Forest, nil, size}
+use Rattle.types.specs.Records.{recordSize}
+use Rattle.arguments.specs.Arguments.{Args, refused, args}
+use Rattle.arguments.specs.declared.Measured.{Measured}
+use Rattle.arguments.specs.declared.Measured.the-variants.{Kept, Refused}
+
+-- the first reading: how many records the kept arguments take and how many bytes were read; or the fault
+unfoldable pub measured : Args → Measured
+measured (refused fault) = Refused fault
+measured (args kept used) = Kept (size kept) used
+
+-- the arguments that are kept
+abbrev pub keptOf : Args → Forest
+keptOf (refused fault) = nil
+keptOf (args kept used) = kept
+
+-- the arguments are not refused
+abbrev pub Accepted : Args → Type 0
+Accepted (refused fault) = ⊥
+Accepted (args kept used) = Unit {0}
+
+-- what the second reading needs: accepted arguments, and room for their records from `index` on
+pub record Room (o : Args) (index : ℕ) (table : List ℕ) : Type 0 where
+  pub accepted : Accepted o
+  pub fits : recordSize * size (keptOf o) ≤ length table
+  pub low : index + size (keptOf o) ≤ 65535

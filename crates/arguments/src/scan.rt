@@ -1,0 +1,81 @@
+// The tags and their data without records: what the first reading finds out. Linear, with no stack for arrays.
+use crate::Arg;
+use crate::read_osc_arg;
+use refusal::Fault;
+use types::tags::Sort;
+use types::tags::sort_of;
+ghost use mathlib.Core.Path.{_≡_};
+ghost use Prim.Native.Nat.{_+_, _≤_};
+ghost use lib.ListN.{length};
+ghost use Rattle.arguments.specs.Scans.{scan, back};
+
+// How many bytes of data tags take, or the fault.
+pub enum Scanned {
+    Used(usize),
+    Refused(Fault),
+}
+
+// What the tags from some place on keep.
+pub enum Back {
+    // They close every array that they open, and `closed` more; they give `count` records.
+    Whole { closed: usize, count: usize },
+    // An array that they open stays open. The last such '[' ends the first `first` of them; those after it give `count` records.
+    Cut { first: usize, count: usize },
+}
+
+// Forward: whether the tags and their data are accepted, and how many bytes they take. Only the number of open arrays is kept.
+pub fn scan_args(tags: &[u8], input: &[u8], pos: usize) -> Scanned
+    requires { ⌜ pos + length (now input) ≤ 65535 ⌝ }
+    ensures { λ r. ⌜ r ≡ scan (now (tags .entry)) (now (input .entry)) pos 0 ⌝ }
+{
+    let mut left = tags;
+    let mut rest = input;
+    let mut at = pos;
+    let mut waiting: usize = 0;
+    while 0 < left.len() {
+        let tag = left[0];
+        left = &left[1..];
+        match sort_of(tag) {
+            Sort::Opens => waiting += 1,
+            Sort::Closes => {
+                if waiting == 0 {
+                    return Scanned::Refused(Fault::NotOpen);
+                }
+                waiting -= 1;
+            }
+            Sort::Leaf(class) => match read_osc_arg(class, rest, 0, at) {
+                Arg::Given { a: _, b: _, used } => {
+                    rest = &rest[used..];
+                    at += used;
+                }
+                Arg::Refused(fault) => return Scanned::Refused(fault),
+            },
+        }
+    }
+    Scanned::Used(at - pos)
+}
+
+// Backward, tags only: where the last '[' stands that is never closed, and how many records follow.
+pub fn look_back(tags: &[u8]) -> Back
+    ensures { λ r. ⌜ r ≡ back (now (tags .entry)) ⌝ }
+{
+    let mut at = tags.len();
+    let mut closed: usize = 0;
+    let mut count: usize = 0;
+    while 0 < at {
+        at -= 1;
+        match sort_of(tags[at]) {
+            Sort::Opens => {
+                if closed == 0 {
+                    let first = at + 1;
+                    return Back::Cut { first, count };
+                }
+                closed -= 1;
+                count += 1;
+            }
+            Sort::Closes => closed += 1,
+            Sort::Leaf(_) => count += 1,
+        }
+    }
+    Back::Whole { closed, count }
+}

@@ -1,0 +1,196 @@
+-- What the decoders answer, from what the first reading gave, and that an answer of packets leaves room for their records. Assumes nothing.
+use mathlib.Core.Path.{_≡_, refl, ap, sym, _∙_, subst}
+use mathlib.Core.List.{List}
+use Prim.Native.Nat.{ℕ, zero, suc, _+_, _-_, _/_, _<_, _≤_}
+use native.Mathlib.Nat.{zero-add}
+use native.Mathlib.Omega.{arith}
+use borrow.Author.Tests.{le-leb, lt-leb}
+use lib.Dec.{leb}
+use lib.ListN.{length, drop, length-drop}
+use Rattle.refusal.specs.declared.Refusal.the-variants.{TooLong, DepthLimit}
+use Rattle.types.specs.Forest.{Forest, nil, node, size, depth, level}
+use Rattle.types.specs.Records.{recordSize}
+use Rattle.decoder.specs.Packet.{Out, fault, one, packet}
+use Rattle.decoder.specs.Framing.{Whole, trees, waiting, refusal, single, udp, Frame, tree, wait, stop, frameOf, first, tcp, before, afterFrame, framesAt, frames, tcpVec}
+use Rattle.decoder.specs.Limits.{limited, decoded, forestOf}
+use Rattle.decoder.specs.Readings.{extent, treeOf, Room, frameExtent, framePacket, Accepted, totalOf, answered}
+use Rattle.decoder.specs.declared.Decoded.{Decoded}
+use Rattle.decoder.specs.declared.Decoded.the-variants.{Packets, Refused}
+use Rattle.decoder.specs.declared.measure.Extent.{Extent}
+use Rattle.decoder.specs.declared.measure.Extent.the-variants as extents
+use Rattle.decoder.specs.declared.frames.FrameExtent.{FrameExtent}
+use Rattle.decoder.specs.declared.frames.FrameExtent.the-variants as frame
+use Rattle.decoder.specs.declared.frames.Total.{Total}
+use Rattle.decoder.specs.declared.frames.Total.the-variants as total
+use Rattle.arguments.proofs.Within.{by-test}
+use Rattle.decoder.proofs.Tests.{by-le, by-both}
+use Rattle.decoder.proofs.Within.{Within, packet-in}
+use Rattle.decoder.proofs.Prefixes.{FrameIn, frame-in}
+
+-- ---- the answer by the first reading
+
+limited-is : (capacity limit : ℕ) (w : Whole) → limited capacity limit w ≡ answered capacity (totalOf limit w)
+limited-is capacity limit waiting = refl
+limited-is capacity limit (refusal k) = refl
+limited-is capacity limit (trees f left) = by-both (λ (x : Decoded) (y : Total). x ≡ answered capacity y) (leb (depth f) limit) refl refl
+
+module _ (rule : List ℕ → Whole) (capacity limit : ℕ) (msg : List ℕ) where
+  pub depth-over : 64 < limit → Refused DepthLimit ≡ decoded rule capacity limit msg
+  unfolding decoded
+  depth-over h = rw (decoded, lt-leb limit 64 h)
+
+  pub length-over : limit ≤ 64 → 65535 < length msg → Refused TooLong ≡ decoded rule capacity limit msg
+  unfolding decoded
+  length-over h g = rw (decoded, le-leb limit 64 h, lt-leb (length msg) 65535 g)
+
+  pub decoded-is : {r : Total} {x : Decoded} → limit ≤ 64 → length msg ≤ 65535 → x ≡ answered capacity r → r ≡ totalOf limit (rule msg) → x ≡ decoded rule capacity limit msg
+  unfolding decoded
+  decoded-is h g a e = a ∙ ap (answered capacity) e ∙ sym (limited-is capacity limit (rule msg)) ∙ rw (decoded, le-leb limit 64 h, le-leb (length msg) 65535 g)
+
+-- ---- the first reading of one packet, and of one frame
+
+one-tree : (kind a b : ℕ) (f : Forest) → depth (node kind a b f nil) ≡ level kind (depth f)
+unfolding depth
+one-tree kind a b f = omega arith
+
+one-size : (kind a b : ℕ) (f : Forest) → size (node kind a b f nil) ≡ 1 + size f
+unfolding size
+one-size kind a b f = omega arith
+
+-- the total of one tree, of n bytes of input
+abbrev pub ofExtent : ℕ → Extent → Total
+ofExtent n (extents.Tree count next) = total.Trees count (n - next)
+ofExtent n (extents.Deep next) = total.Deep
+ofExtent n (extents.Refused k) = total.Refused k
+
+total-single : (n limit : ℕ) (o : Out) → ofExtent n (extent limit 0 o) ≡ totalOf limit (single n o)
+unfolding extent
+total-single n limit (fault k) = refl
+total-single n limit (one k a b f u) =
+    rw (one-tree k a b f, one-size k a b f, zero-add u) (by-both (λ (x : Extent) (y : Total). ofExtent n x ≡ y) (leb (level k (depth f)) limit) refl refl)
+
+pub udp-total : {r : Extent} (limit : ℕ) (msg : List ℕ) → r ≡ extent limit 0 (packet 0 msg 0) → ofExtent (length msg) r ≡ totalOf limit (udp msg)
+unfolding udp
+udp-total limit msg e = ap (ofExtent (length msg)) e ∙ total-single (length msg) limit (packet 0 msg 0)
+
+abbrev pub ofFrame : ℕ → FrameExtent → Total
+ofFrame n (frame.Tree count used) = total.Trees count (n - used)
+ofFrame n (frame.Deep used) = total.Deep
+ofFrame n frame.Waiting = total.Waiting
+ofFrame n (frame.Refused k) = total.Refused k
+
+total-first : (n limit : ℕ) (x : Frame) → ofFrame n (frameExtent limit x) ≡ totalOf limit (first n x)
+total-first n limit wait = refl
+total-first n limit (stop k) = refl
+total-first n limit (tree k a b f u) =
+    rw (one-tree k a b f, one-size k a b f) (by-both (λ (x : FrameExtent) (y : Total). ofFrame n x ≡ y) (leb (level k (depth f)) limit) refl refl)
+
+pub tcp-total : {r : FrameExtent} (limit : ℕ) (msg : List ℕ) → r ≡ frameExtent limit (frameOf 0 msg) → ofFrame (length msg) r ≡ totalOf limit (tcp msg)
+unfolding tcp
+tcp-total limit msg e = ap (ofFrame (length msg)) e ∙ total-first (length msg) limit (frameOf 0 msg)
+
+-- ---- an answer of packets
+
+-- the input is short enough and accepted, and its records fit
+pub record Fitting (w : Whole) (capacity n : ℕ) : Type 0 where
+  pub short : n ≤ 65535
+  pub accepted : Accepted w
+  pub fits : size (forestOf w) ≤ capacity
+
+pub packets-fit : {count left : ℕ} (rule : List ℕ → Whole) (capacity limit : ℕ) (msg : List ℕ) → Packets count left ≡ decoded rule capacity limit msg → Fitting (rule msg) capacity (length msg)
+unfolding decoded
+packets-fit {count} {left} rule capacity limit msg e =
+    by-test (λ (x : Decoded). Packets count left ≡ x → Fitting (rule msg) capacity (length msg)) (leb limit 64)
+    (λ _. by-le (λ (x : Decoded). Packets count left ≡ x → Fitting (rule msg) capacity (length msg)) (length msg) 65535
+    (λ h. by-whole h (rule msg))
+    (λ _ i. let z : _≡_ {A = ℕ} 0 1 = cc in absurd (omega arith)))
+    (λ _ i. let z : _≡_ {A = ℕ} 0 1 = cc in absurd (omega arith))
+    e
+  where
+    by-whole : length msg ≤ 65535 → (w : Whole) → Packets count left ≡ limited capacity limit w → Fitting w capacity (length msg)
+    by-whole h waiting i = let z : _≡_ {A = ℕ} 0 1 = cc in absurd (omega arith)
+    by-whole h (refusal k) i = let z : _≡_ {A = ℕ} 0 1 = cc in absurd (omega arith)
+    by-whole h (trees f n) i =
+        by-test (λ (x : Decoded). Packets count left ≡ x → Fitting (trees f n) capacity (length msg)) (leb (depth f) limit)
+        (λ _. by-le (λ (x : Decoded). Packets count left ≡ x → Fitting (trees f n) capacity (length msg)) (size f) capacity
+        (λ s _. record { short = h; accepted = tt; fits = s })
+        (λ _ j. let z : _≡_ {A = ℕ} 0 1 = cc in absurd (omega arith)))
+        (λ _ j. let z : _≡_ {A = ℕ} 0 1 = cc in absurd (omega arith))
+        i
+
+-- there are no more nodes than bytes
+abbrev WholeIn : ℕ → Whole → Type 0
+WholeIn m w = size (forestOf w) ≤ m
+
+single-in : (n : ℕ) (o : Out) → Within n o → WholeIn n (single n o)
+unfolding size
+single-in n (fault k) w = omega arith
+single-in n (one k a b f u) w = omega arith
+
+first-in : (n : ℕ) (x : Frame) → FrameIn n x → WholeIn n (first n x)
+unfolding size
+first-in n (tree k a b f u) w = omega arith
+first-in n wait w = omega arith
+first-in n (stop k) w = omega arith
+
+before-in : (k a b : ℕ) (f : Forest) (m n : ℕ) (w : Whole) → 1 + size f + m ≤ n → WholeIn m w → WholeIn n (before k a b f w)
+unfolding size
+before-in k a b f m n (trees g j) h v = omega arith
+before-in k a b f m n waiting h v = omega arith
+before-in k a b f m n (refusal j) h v = omega arith
+
+after-in : (go : ℕ → List ℕ → Whole) (base : ℕ) (l : List ℕ) (x : Frame) → ((q : ℕ) (m : List ℕ) → WholeIn (length m) (go q m)) → FrameIn (length l) x → WholeIn (length l) (afterFrame go base l x)
+unfolding size
+after-in go base l (stop k) h w = omega arith
+after-in go base l wait h w = omega arith
+after-in go base l (tree k a b f u) h w =
+    by-le (WholeIn (length l)) (length l) u (λ g. omega arith)
+    (λ g. before-in k a b f (length (drop u l)) (length l) (go (base + u) (drop u l)) (omega (arith, length-drop u l)) (h (base + u) (drop u l)))
+
+frames-at-in : (n base : ℕ) (l : List ℕ) → WholeIn (length l) (framesAt n base l)
+unfolding framesAt size
+frames-at-in zero base l = omega arith
+frames-at-in (suc n) base l = after-in _ base l (frameOf base l) (λ q m. frames-at-in n q m) (frame-in base l)
+
+udp-in : (msg : List ℕ) → WholeIn (length msg) (udp msg)
+unfolding udp
+udp-in msg = single-in (length msg) (packet 0 msg 0) (packet-in 0 msg 0)
+
+tcp-in : (msg : List ℕ) → WholeIn (length msg) (tcp msg)
+unfolding tcp
+tcp-in msg = first-in (length msg) (frameOf 0 msg) (frame-in 0 msg)
+
+vec-in : (msg : List ℕ) → WholeIn (length msg) (tcpVec msg)
+unfolding tcpVec frames
+vec-in msg = frames-at-in (suc (length msg)) 0 msg
+
+room-for : (w : Whole) (n : ℕ) (T : List ℕ) → Fitting w (length T / recordSize) n → WholeIn n w → Room (forestOf w) 0 T
+room-for w n T f v = record { fits = omega (arith, f .fits); low = omega (arith, f .short) }
+
+-- the trees of one packet and of one frame are those of the input
+single-tree : (n : ℕ) (o : Out) → forestOf (single n o) ≡ treeOf o
+single-tree n (fault k) = refl
+single-tree n (one k a b f u) = refl
+
+first-tree : (n : ℕ) (x : Frame) → forestOf (first n x) ≡ treeOf (framePacket x)
+first-tree n (tree k a b f u) = refl
+first-tree n wait = refl
+first-tree n (stop k) = refl
+
+pub udp-tree : (msg : List ℕ) → forestOf (udp msg) ≡ treeOf (packet 0 msg 0)
+unfolding udp
+udp-tree msg = single-tree (length msg) (packet 0 msg 0)
+
+pub tcp-tree : (msg : List ℕ) → forestOf (tcp msg) ≡ treeOf (framePacket (frameOf 0 msg))
+unfolding tcp
+tcp-tree msg = first-tree (length msg) (frameOf 0 msg)
+
+module _ (msg T : List ℕ) where
+  pub udp-room : Fitting (udp msg) (length T / recordSize) (length msg) → Room (treeOf (packet 0 msg 0)) 0 T
+  udp-room f = subst (λ (g : Forest). Room g 0 T) (udp-tree msg) (room-for (udp msg) (length msg) T f (udp-in msg))
+
+  pub tcp-room : Fitting (tcp msg) (length T / recordSize) (length msg) → Room (treeOf (framePacket (frameOf 0 msg))) 0 T
+  tcp-room f = subst (λ (g : Forest). Room g 0 T) (tcp-tree msg) (room-for (tcp msg) (length msg) T f (tcp-in msg))
+
+  pub vec-room : Fitting (tcpVec msg) (length T / recordSize) (length msg) → Room (forestOf (tcpVec msg)) 0 T
+  vec-room f = room-for (tcpVec msg) (length msg) T f (vec-in msg)

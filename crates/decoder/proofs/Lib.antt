@@ -1,0 +1,15 @@
+pub mod Tests
+pub mod Within
+pub mod Prefixes
+pub mod Knot
+pub mod Fronts
+pub mod Bundles
+pub mod Extents
+pub mod Skims
+pub mod Stored
+pub mod Fills
+pub mod Lists
+pub mod Listed
+pub mod Answers
+pub mod Only
+pub mod Examples

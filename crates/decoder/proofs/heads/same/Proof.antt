@@ -1,0 +1,59 @@
+-- `decoder::heads::same` meets its contract. The invariant: from `i` on the two agree as they do from the start.
+-- Assumes nothing.
+use Rattle.decoder.proofs.Fronts.{other-length, same-on, same-not, same-end}
+use Rattle.decoder.specs.Packet.{same}
+use mathlib.Core.Path.{_≡_, refl, sym, _∙_}
+use lib.ListN.{length, drop}
+use Prim.Native.Nat.{_≤_, _-_}
+use borrow.Author.Needs.{needs}
+use Rattle.decoder.proofs.heads.same.Statement.{statement}
+use Rattle.decoder.proofs.heads.same.Tie as tie
+
+abbrev Inv-loop : tie.InvT-loop
+Inv-loop a b i₀ i = (i ≤ length a) × (length a ≡ length b) × (same a b ≡ same (drop i a) (drop i b))
+
+abbrev μ-loop : tie.MeasureT-loop
+μ-loop a b i₀ i = length a - i
+
+returns : tie.Need-returns Inv-loop μ-loop
+returns c = sym (other-length (c .before .args .a .now) (c .before .args .b .now) (c .if1 .taken))
+
+loop-holds : tie.Need-loop-holds Inv-loop μ-loop
+loop-holds c = (search needs, search needs, refl)
+
+shared-slice-read-if2 : tie.Need-shared-slice-read-if2 Inv-loop μ-loop
+shared-slice-read-if2 c = search needs
+
+shared-slice-read-if2-2 : tie.Need-shared-slice-read-if2-2 Inv-loop μ-loop
+shared-slice-read-if2-2 c = search needs
+
+returns-2 : tie.Need-returns-2 Inv-loop μ-loop
+returns-2 c = sym ((c .before .before .before .before .loop .inv .2) ∙ same-not (c .before .before .before .before .before .before .args .a .now) (c .before .before .before .before .before .before .args .b .now) (c .before .before .before .before .loop .i) (search needs) (search needs) (c .if2 .taken))
+
+add-i : tie.Need-add-i Inv-loop μ-loop
+add-i c = search needs
+
+loop-less : tie.Need-loop-less Inv-loop μ-loop
+loop-less c = search needs
+
+loop-again : tie.Need-loop-again Inv-loop μ-loop
+loop-again c = (search needs, search needs, (c .before .before .before .before .loop .inv .2) ∙ same-on (c .before .before .before .before .before .before .args .a .now) (c .before .before .before .before .before .before .args .b .now) (c .before .before .before .before .loop .i) (search needs) (search needs) (c .if2 .left))
+
+returns-3 : tie.Need-returns-3 Inv-loop μ-loop
+returns-3 c = sym ((c .before .loop .inv .2) ∙ same-end (c .before .before .before .args .a .now) (c .before .before .before .args .b .now) (c .before .loop .i) (search needs) (search needs))
+
+pub same-spec : {M : Type 1} → statement M
+same-spec =
+    tie.close
+    (tie.spec
+    Inv-loop
+    μ-loop
+    returns
+    loop-holds
+    shared-slice-read-if2
+    shared-slice-read-if2-2
+    returns-2
+    add-i
+    loop-less
+    loop-again
+    returns-3)

@@ -1,0 +1,5 @@
+pub mod Packet
+pub mod Framing
+pub mod Limits
+pub mod Heads
+pub mod Readings

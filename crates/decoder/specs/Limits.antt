@@ -1,0 +1,40 @@
+-- What the decoders answer and leave in the table: document 01, "Refusal numbers" (the decode order) and "The node table". Assumes nothing.
+use mathlib.Core.Bool.{cond}
+use mathlib.Core.List.{List, _++_}
+use Prim.Native.Nat.{ℕ, _*_}
+use lib.Dec.{leb}
+use lib.ListN.{length, drop}
+use Rattle.refusal.specs.declared.Refusal.the-variants.{TooLong, Unreadable, TooDeep, TableFull, DepthLimit}
+use Rattle.types.specs.Forest.{Forest, nil, size, depth}
+use Rattle.types.specs.Records.{recordSize, recordsOf}
+use Rattle.decoder.specs.Framing.{Whole, trees, waiting, refusal}
+use Rattle.decoder.specs.declared.Decoded.{Decoded}
+use Rattle.decoder.specs.declared.Decoded.the-variants.{Packets, Waiting, Refused}
+
+-- 2 to 8 first, then 9, then 10; both speak of all the trees, and Waiting has none
+abbrev pub limited : ℕ → ℕ → Whole → Decoded
+limited capacity limit (refusal k) = Refused (Unreadable k)
+limited capacity limit waiting = Waiting
+limited capacity limit (trees f left) =
+    cond (leb (depth f) limit) (cond (leb (size f) capacity) (Packets (size f) left) (Refused TableFull)) (Refused TooDeep)
+
+-- what a decoder answers: 13, then 1, then what the rule gives within the limits
+unfoldable pub decoded : (List ℕ → Whole) → ℕ → ℕ → List ℕ → Decoded
+decoded rule capacity limit msg =
+    cond (leb limit 64) (cond (leb (length msg) 65535) (limited capacity limit (rule msg)) (Refused TooLong)) (Refused DepthLimit)
+
+-- the trees that an input is read as
+abbrev pub forestOf : Whole → Forest
+forestOf (trees f left) = f
+forestOf waiting = nil
+forestOf (refusal k) = nil
+
+-- a table with a forest's records over its first bytes; later bytes are unchanged
+unfoldable pub stored : ℕ → Forest → List ℕ → List ℕ
+stored i f table = recordsOf i f ++ drop (recordSize * size f) table
+
+-- the table after an answer: on success exactly 16 times the count are written, and a refusal or Waiting changes no byte
+abbrev pub tabled : Decoded → Forest → List ℕ → List ℕ
+tabled (Packets count left) f table = stored 0 f table
+tabled Waiting f table = table
+tabled (Refused r) f table = table

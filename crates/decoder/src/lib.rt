@@ -1,0 +1,77 @@
+// Packets, bundles and whole inputs (decoder.rs). A packet is read twice: first it is measured, and nothing is written;
+// then, where the table has room, its records are written.
+mod heads; // heads.rt: what stands at the front of a packet, of an element and of a frame
+mod measure; // measure.rt: the first reading of a packet
+mod fill; // fill.rt: the second reading of a packet
+mod frames; // frames.rt: both readings of a whole input
+
+use refusal::Refusal;
+ghost use mathlib.Core.Path.{_≡_};
+ghost use Prim.Native.Nat.{_/_};
+ghost use lib.ListN.{length};
+ghost use Rattle.types.specs.Records.{recordSize};
+ghost use Rattle.decoder.specs.Framing.{udp, tcp, tcpVec};
+ghost use Rattle.decoder.specs.Limits.{decoded, forestOf, tabled};
+
+// Common MTU size for ethernet.
+pub const MTU: usize = 1536;
+
+// What a decoder answers.
+pub enum Decoded {
+    // Records written and input bytes left over, of one packet or of a list of packets.
+    Packets { count: usize, left: usize },
+    // The first frame is not all there: nothing was read.
+    Waiting,
+    Refused(Refusal),
+}
+
+// Reads a packet from all of `msg`, a UDP packet, and writes its records to `table`.
+//
+// Ruled out: a bundle that ends quietly where the table is full; a byte of the table changed by a refusal.
+pub fn decode_udp(msg: &[u8], table: &mut [u8], depth: usize) -> Decoded
+    ensures { λ r. ⌜ r ≡ decoded udp (length (now (table .entry)) / recordSize) depth (now (msg .entry)) ⌝ }
+    ensures { λ r. ⌜ now (table .exit) ≡ tabled r (forestOf (udp (now (msg .entry)))) (now (table .entry)) ⌝ }
+{
+    match frames::answer_udp(msg, types::record::capacity(table), depth) {
+        Decoded::Packets { count, left } => {
+            fill::decode_packet(msg, 0, 0, table, 0);
+            Decoded::Packets { count, left }
+        }
+        Decoded::Waiting => Decoded::Waiting,
+        Decoded::Refused(refusal) => Decoded::Refused(refusal),
+    }
+}
+
+// Reads the first packet of `msg`, bytes of a TCP stream: a 4-byte length, and a packet from everything after it.
+//
+// Ruled out: the packet cut at its length; Waiting by a length that is compared with what follows the prefix.
+pub fn decode_tcp(msg: &[u8], table: &mut [u8], depth: usize) -> Decoded
+    ensures { λ r. ⌜ r ≡ decoded tcp (length (now (table .entry)) / recordSize) depth (now (msg .entry)) ⌝ }
+    ensures { λ r. ⌜ now (table .exit) ≡ tabled r (forestOf (tcp (now (msg .entry)))) (now (table .entry)) ⌝ }
+{
+    match frames::answer_tcp(msg, types::record::capacity(table), depth) {
+        Decoded::Packets { count, left } => {
+            frames::decode_frame(msg, 0, table, 0);
+            Decoded::Packets { count, left }
+        }
+        Decoded::Waiting => Decoded::Waiting,
+        Decoded::Refused(refusal) => Decoded::Refused(refusal),
+    }
+}
+
+// Reads the packets of `msg`, bytes of a TCP stream, one after another, until nothing is left or one waits.
+//
+// Ruled out: the first packet repeated; 9 of an early packet where a later one is refused for any of 2 to 8.
+pub fn decode_tcp_vec(msg: &[u8], table: &mut [u8], depth: usize) -> Decoded
+    ensures { λ r. ⌜ r ≡ decoded tcpVec (length (now (table .entry)) / recordSize) depth (now (msg .entry)) ⌝ }
+    ensures { λ r. ⌜ now (table .exit) ≡ tabled r (forestOf (tcpVec (now (msg .entry)))) (now (table .entry)) ⌝ }
+{
+    match frames::answer_tcp_vec(msg, types::record::capacity(table), depth) {
+        Decoded::Packets { count, left } => {
+            frames::decode_frames(msg, table);
+            Decoded::Packets { count, left }
+        }
+        Decoded::Waiting => Decoded::Waiting,
+        Decoded::Refused(refusal) => Decoded::Refused(refusal),
+    }
+}

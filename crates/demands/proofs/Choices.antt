@@ -1,0 +1,31 @@
+-- What holds of every answer of a decoder, each where it is chosen. Assumes nothing.
+use mathlib.Core.Path.{_≡_}
+use mathlib.Core.Bool.{cond}
+use mathlib.Core.List.{List}
+use Prim.Native.Nat.{ℕ, _<_, _≤_}
+use borrow.Author.Tests.{eqb-true, eqb-false}
+use lib.Dec.{eqb}
+use lib.ListN.{length}
+use Rattle.refusal.specs.declared.Refusal.the-variants.{TooLong, TooDeep, TableFull, DepthLimit}
+use Rattle.types.specs.Forest.{Forest, size, depth}
+use Rattle.decoder.specs.Framing.{Whole, trees}
+use Rattle.decoder.specs.Limits.{limited, decoded}
+use Rattle.decoder.specs.declared.Decoded.{Decoded}
+use Rattle.decoder.specs.declared.Decoded.the-variants.{Packets, Refused}
+use Rattle.arguments.proofs.Within.{by-test}
+use Rattle.decoder.proofs.Tests.{by-le}
+
+pub by-eq : {A : Type 0} (P : A → Type 0) (a b : ℕ) {x y : A} → (a ≡ b → P x) → ((a ≡ b → ⊥) → P y) → P (cond (eqb a b) x y)
+by-eq P a b f g = by-test P (eqb a b) (λ e. f (eqb-true a b e)) (λ e. g (eqb-false a b e))
+
+module _ (P : Decoded → Type 0) where
+  -- 13, then 1, then what the rule gives
+  pub by-decoded : (rule : List ℕ → Whole) (capacity limit : ℕ) (msg : List ℕ) → (64 < limit → P (Refused DepthLimit)) → (65535 < length msg → P (Refused TooLong))
+      → (limit ≤ 64 → length msg ≤ 65535 → P (limited capacity limit (rule msg))) → P (decoded rule capacity limit msg)
+  unfolding decoded
+  by-decoded rule capacity limit msg deep long f = by-le P limit 64 (λ h. by-le P (length msg) 65535 (λ k. f h k) long) deep
+
+  -- of trees: 9, then 10, then their count
+  pub by-trees : (capacity limit : ℕ) (f : Forest) (left : ℕ) → (limit < depth f → P (Refused TooDeep)) → (capacity < size f → P (Refused TableFull))
+      → (depth f ≤ limit → size f ≤ capacity → P (Packets (size f) left)) → P (limited capacity limit (trees f left))
+  by-trees capacity limit f left deep full g = by-le P (depth f) limit (λ h. by-le P (size f) capacity (λ k. g h k) full) deep

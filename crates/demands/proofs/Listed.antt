@@ -1,0 +1,141 @@
+-- Demand 1: each call ends in an answer from document 01 or one of the refusals that it lists for the call. Assumes nothing.
+use mathlib.Core.Path.{_≡_, refl, sym, subst}
+use mathlib.Core.Bool.{Bool, true, false, _&&_}
+use mathlib.Core.List.{List}
+use Prim.Native.Nat.{ℕ, zero, suc, _+_}
+use lib.Dec.{eqb, ltb}
+use lib.ListN.{length, drop}
+use Rattle.refusal.specs.declared.Fault.the-variants.{Empty, RunsOut, NotUtf8, BadStart, NotOpen, UnknownTag, NotScalar}
+use Rattle.number.specs.Pad.{padOf}
+use Rattle.utf8.specs.Derive.{utf8}
+use Rattle.types.specs.Forest.{Forest, nil, node, depth}
+use Rattle.types.specs.Tags.{among}
+use Rattle.types.specs.Records.{kindAt, zerosAt, aAt, bAt}
+use Rattle.types.specs.Value.{ownRules}
+use Rattle.types.specs.Look.{capacity, lookAt}
+use Rattle.types.specs.declared.look.Looked.{Looked}
+use Rattle.number.specs.declared.Padded.{Padded}
+use Rattle.decoder.specs.Packet.{Out, fault, one, packet}
+use Rattle.decoder.specs.Framing.{Whole, trees, waiting, refusal, single, udp, Frame, tree, wait, stop, frameOf, tcp, before, afterFrame, framesAt, frames, tcpVec}
+use Rattle.decoder.specs.Limits.{limited, decoded}
+use Rattle.decoder.specs.declared.Decoded.{Decoded}
+use Rattle.encoder.specs.Osc.{oscString, packetOf}
+use Rattle.encoder.specs.Outcome.{Outcome, write, encoded, Encodes, malformed, formed, stringOutcome}
+use Rattle.demands.specs.Calls.{decode-udp, decode-tcp, decode-tcp-vec, encode, encode-tcp, encode-string, pad, look, text-of, byDecoded, byEncoded, byPadded, byLooked, decodeOrder, encodeOrder, numbersOf, Listed, AnswersListed}
+use Rattle.decoder.proofs.Tests.{by-le}
+use Rattle.arguments.proofs.Within.{by-test}
+use Rattle.demands.proofs.Choices.{by-decoded, by-trees}
+
+-- ---- decoders
+
+-- an input may wait, or not
+abbrev MayWait : Bool → Whole → Type 0
+MayWait b (trees f left) = Unit {0}
+MayWait b waiting = b ≡ true
+MayWait b (refusal k) = Unit {0}
+
+always : (w : Whole) → MayWait true w
+always (trees f left) = tt
+always waiting = refl
+always (refusal k) = tt
+
+single-never : (n : ℕ) (o : Out) → MayWait false (single n o)
+single-never n (fault k) = tt
+single-never n (one kind a b f used) = tt
+
+udp-never : (msg : List ℕ) → MayWait false (udp msg)
+unfolding udp
+udp-never msg = single-never (length msg) (packet 0 msg 0)
+
+before-never : (kind a b : ℕ) (f : Forest) (w : Whole) → MayWait false w → MayWait false (before kind a b f w)
+before-never kind a b f (trees g left) h = tt
+before-never kind a b f waiting h = h
+before-never kind a b f (refusal k) h = tt
+
+after-never : (go : ℕ → List ℕ → Whole) (base : ℕ) (l : List ℕ) (x : Frame) → ((q : ℕ) (m : List ℕ) → MayWait false (go q m)) → MayWait false (afterFrame go base l x)
+after-never go base l (stop k) h = tt
+after-never go base l wait h = tt
+after-never go base l (tree kind a b f used) h =
+    by-le (MayWait false) (length l) used (λ g. tt) (λ g. before-never kind a b f (go (base + used) (drop used l)) (h (base + used) (drop used l)))
+
+frames-never : (n base : ℕ) (l : List ℕ) → MayWait false (framesAt n base l)
+unfolding framesAt
+frames-never zero base l = tt
+frames-never (suc n) base l = after-never _ base l (frameOf base l) (λ q m. frames-never n q m)
+
+vec-never : (msg : List ℕ) → MayWait false (tcpVec msg)
+unfolding tcpVec frames
+vec-never msg = frames-never (suc (length msg)) 0 msg
+
+-- a decoder's answer
+abbrev Decoding : Bool → Decoded → Type 0
+Decoding b r = Listed decodeOrder b (byDecoded r)
+
+limited-listed : (b : Bool) (capacity limit : ℕ) (w : Whole) → MayWait b w → Decoding b (limited capacity limit w)
+limited-listed b capacity limit (trees f left) h = by-trees (Decoding b) capacity limit f left (λ g. refl) (λ g. refl) (λ g k. tt)
+limited-listed b capacity limit waiting h = h
+limited-listed b capacity limit (refusal Empty) h = refl
+limited-listed b capacity limit (refusal RunsOut) h = refl
+limited-listed b capacity limit (refusal NotUtf8) h = refl
+limited-listed b capacity limit (refusal BadStart) h = refl
+limited-listed b capacity limit (refusal NotOpen) h = refl
+limited-listed b capacity limit (refusal UnknownTag) h = refl
+limited-listed b capacity limit (refusal NotScalar) h = refl
+
+decoded-listed : (b : Bool) (rule : List ℕ → Whole) (capacity limit : ℕ) (msg : List ℕ) {r : Decoded} → r ≡ decoded rule capacity limit msg → MayWait b (rule msg) → Decoding b r
+decoded-listed b rule capacity limit msg e h =
+    subst (Decoding b) (sym e) (by-decoded (Decoding b) rule capacity limit msg (λ g. refl) (λ g. refl) (λ g k. limited-listed b capacity limit (rule msg) h))
+
+-- ---- encoders
+
+-- an encoder's answer
+abbrev Encoding : List ℕ → Outcome → Type 0
+Encoding numbers r = Listed numbers false (byEncoded (r .answer))
+
+write-listed : (numbers bs out : List ℕ) → among 1 numbers ≡ true → among 12 numbers ≡ true → Encoding numbers (write bs out)
+unfolding write
+write-listed numbers bs out p q =
+    by-le (Encoding numbers) (length bs) 65535 (λ h. by-le (Encoding numbers) (length bs) (length out) (λ k. tt) (λ k. q)) (λ h. p)
+
+encodes-listed : {frame : ℕ → List ℕ → List ℕ} {t : List ℕ} {count : ℕ} {source out : List ℕ} {r : Outcome} → Encodes frame t count source out r → Encoding encodeOrder r
+unfolding encoded
+encodes-listed (malformed n e) = subst (Encoding encodeOrder) (sym e) refl
+encodes-listed {frame} {source = source} {out = out} (formed kind a b inside w e) =
+    subst (Encoding encodeOrder) (sym e)
+    (by-le (Encoding encodeOrder) (depth (node kind a b inside nil)) 64 (λ h. write-listed encodeOrder (frame kind (packetOf source kind a b inside)) out refl refl) (λ h. refl))
+
+string-listed : (text out : List ℕ) → Encoding (numbersOf (encode-string text out)) (stringOutcome text out)
+unfolding stringOutcome
+string-listed text out =
+    let numbers = numbersOf (encode-string text out) in
+    by-test (Encoding numbers) (utf8 text) (λ h. write-listed numbers (oscString text) out refl refl) (λ h. refl)
+
+-- ---- `pad` and `look`
+
+abbrev Padding : ℕ → Padded → Type 0
+Padding pos r = Listed (numbersOf (pad pos)) false (byPadded r)
+
+pad-listed : (pos : ℕ) → Padding pos (padOf pos)
+pad-listed pos = by-le (Padding pos) pos 0xffff_ffff_ffff_fffc (λ h. tt) (λ h. refl)
+
+abbrev Looking : List ℕ → ℕ → Looked → Type 0
+Looking t i r = Listed (numbersOf (look t i)) false (byLooked r)
+
+look-listed : (t : List ℕ) (i : ℕ) → Looking t i (lookAt t i)
+unfolding lookAt
+look-listed t i =
+    by-test (Looking t i) (ltb i (capacity t))
+    (λ h. by-test (Looking t i) (eqb (zerosAt t i) 0 && ownRules (kindAt t i) (aAt t i) (bAt t i)) (λ k. tt) (λ k. refl)) (λ h. refl)
+
+-- ---- every call
+
+pub listed : AnswersListed
+listed (decode-udp msg table limit) e m = decoded-listed false udp _ limit msg (m .answered) (udp-never msg)
+listed (decode-tcp msg table limit) e m = decoded-listed true tcp _ limit msg (m .answered) (always (tcp msg))
+listed (decode-tcp-vec msg table limit) e m = decoded-listed false tcpVec _ limit msg (m .answered) (vec-never msg)
+listed (encode table count source out) e m = encodes-listed m
+listed (encode-tcp table count source out) e m = encodes-listed m
+listed (encode-string text out) e m = subst (Encoding (numbersOf (encode-string text out))) (sym m) (string-listed text out)
+listed (pad pos) e m = subst (Padding pos) (sym m) (pad-listed pos)
+listed (look table index) e m = subst (Looking table index) (sym m) (look-listed table index)
+listed (text-of value packet label) e m = tt

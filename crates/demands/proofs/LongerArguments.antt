@@ -1,0 +1,131 @@
+-- Bytes appended to a text or to a message's data: what was accepted is read as it was. Assumes nothing.
+use mathlib.Core.Path.{_≡_, refl, ap}
+use mathlib.Core.Bool.{Bool, true, false, cond}
+use mathlib.Core.List.{List, [], _∷_, _++_}
+use Prim.Native.Nat.{ℕ, suc, _+_, _<_, _≤_}
+use native.Mathlib.Omega.{arith}
+use borrow.Author.Tests.{lt-ltb, le-leb, ltb-true}
+use lib.Dec.{eqb, ltb}
+use lib.ListN.{length, take, drop, length-append, length-drop}
+use lib.Seq.{take-append-le, drop-append-le}
+use Rattle.refusal.specs.declared.Fault.the-variants.{NotScalar}
+use Rattle.number.specs.Number.{number}
+use Rattle.utf8.specs.Derive.{utf8}
+use Rattle.types.specs.Forest.{Forest, nil, snoc}
+use Rattle.types.specs.Tags.{sortOf, isScalar}
+use Rattle.types.specs.declared.tags.Class.{Class}
+use Rattle.types.specs.declared.tags.Class.the-variants.{Four, Eight, Bare, Text as String, Blob, Scalar, Unknown}
+use Rattle.types.specs.declared.tags.Sort.{Sort}
+use Rattle.types.specs.declared.tags.Sort.the-variants.{Opens, Closes, Leaf}
+use Rattle.text.specs.Text.{untilNul, reach, textOf}
+use Rattle.text.specs.declared.Text.{Text}
+use Rattle.text.specs.declared.Text.the-variants.{Found, Lacks}
+use Rattle.arguments.specs.Argument.{having, textArg, argOf}
+use Rattle.arguments.specs.Arguments.{Args, refused, args, later, taken, act, readArgs, argsOf}
+use Rattle.arguments.specs.declared.Arg.{Arg}
+use Rattle.arguments.specs.declared.Arg.the-variants.{Given, Refused}
+use Rattle.arguments.proofs.Within.{by-test, given-within}
+use Rattle.decoder.proofs.Tests.{by-le}
+
+-- what was accepted stays
+abbrev pub KeptText : Text → Text → Type 0
+KeptText (Found n used) t = t ≡ Found n used
+KeptText (Lacks k) t = Unit {0}
+
+abbrev KeptArg : Arg → Arg → Type 0
+KeptArg (Given a b used) x = x ≡ Given a b used
+KeptArg (Refused k) x = Unit {0}
+
+abbrev pub KeptArgs : Args → Args → Type 0
+KeptArgs (refused k) x = Unit {0}
+KeptArgs (args f used) x = x ≡ args f used
+
+module _ (more : List ℕ) where
+  -- ---- numbers and texts
+
+  pub number-longer : (n : ℕ) (l : List ℕ) → n ≤ length l → number n (l ++ more) ≡ number n l
+  unfolding number
+  number-longer n l h = rw (take-append-le n l more h)
+
+  nul-longer : (l : List ℕ) → untilNul l < length l → untilNul (l ++ more) ≡ untilNul l
+  nul-longer [] h = absurd (omega arith)
+  nul-longer (b ∷ l) h = by-nul (eqb b 0) h (λ g. nul-longer l g)
+    where
+      by-nul : (t : Bool) → cond t 0 (suc (untilNul l)) < suc (length l) → (untilNul l < length l → untilNul (l ++ more) ≡ untilNul l)
+          → cond t 0 (suc (untilNul (l ++ more))) ≡ cond t 0 (suc (untilNul l))
+      by-nul true g f = refl
+      by-nul false g f = ap suc (f (omega arith))
+
+  pub text-longer : (l : List ℕ) (p : ℕ) → KeptText (textOf l p) (textOf (l ++ more) p)
+  unfolding textOf
+  text-longer l p =
+      let n = untilNul l in
+      by-test (λ t. KeptText t (textOf (l ++ more) p)) (ltb n (length l))
+      (λ h. by-le (λ t. KeptText t (textOf (l ++ more) p)) (reach p (n + 1)) (length l)
+      (λ k. by-test (λ t. KeptText t (textOf (l ++ more) p)) (utf8 (take n l))
+      (λ u. let j : n < length l = ltb-true n (length l) h in
+      rw (textOf, nul-longer l j, lt-ltb n (length (l ++ more)) (omega (arith, length-append l more)), le-leb (reach p (n + 1)) (length (l ++ more)) (omega (arith, length-append l more)), take-append-le n l more (omega arith), u))
+      (λ u. tt))
+      (λ k. tt))
+      (λ h. tt)
+
+  -- ---- one argument
+
+  having-longer : (n : ℕ) (l : List ℕ) (x y : Arg) → (n ≤ length l → KeptArg x y) → KeptArg (having n l x) (having n (l ++ more) y)
+  having-longer n l x y h =
+      by-le (λ z. KeptArg z (having n (l ++ more) y)) n (length l)
+      (λ g. rw (le-leb n (length (l ++ more)) (omega (arith, length-append l more))) (h g)) (λ g. tt)
+
+  text-arg-longer : (offset : ℕ) (t t' : Text) → KeptText t t' → KeptArg (textArg offset t) (textArg offset t')
+  text-arg-longer offset (Found n used) t' e = rw e
+  text-arg-longer offset (Lacks k) t' e = tt
+
+  same-arg : (x : Arg) → KeptArg x x
+  same-arg (Given a b used) = refl
+  same-arg (Refused k) = tt
+
+  arg-longer : (class : Class) (base : ℕ) (l : List ℕ) (p : ℕ) → KeptArg (argOf class base l p) (argOf class base (l ++ more) p)
+  unfolding argOf
+  arg-longer Four base l p = having-longer 4 l _ _ (λ h. rw (number-longer 4 l h))
+  arg-longer Eight base l p =
+      having-longer 8 l _ _ (λ h. let h4 : 4 ≤ length l = omega arith in
+      rw (number-longer 4 l h4, drop-append-le 4 l more h4, number-longer 4 (drop 4 l) (omega (arith, length-drop 4 l))))
+  arg-longer Bare base l p = refl
+  arg-longer String base l p = text-arg-longer (base + p) (textOf l p) (textOf (l ++ more) p) (text-longer l p)
+  arg-longer Blob base l p =
+      let n = number 4 l in
+      having-longer 4 l (having (reach p (4 + n)) l (Given (base + (p + 4)) n (reach p (4 + n)))) _
+      (λ h. rw (number-longer 4 l h) (having-longer (reach p (4 + n)) l _ _ (λ k. refl)))
+  arg-longer Scalar base l p =
+      let n = number 4 l in
+      having-longer 4 l _ _ (λ h. rw (number-longer 4 l h) (same-arg (cond (isScalar n) (Given n 0 4) (Refused NotScalar))))
+  arg-longer Unknown base l p = tt
+
+  -- ---- arguments
+
+  later-longer : (n : ℕ) (x y : Args) → KeptArgs x y → KeptArgs (later n x) (later n y)
+  later-longer n (refused k) y e = tt
+  later-longer n (args f used) y e = rw e
+
+  act-longer : (s : Sort) (go : List ℕ → ℕ → Forest → List Forest → Args) (base tag : ℕ) (l : List ℕ) (p : ℕ) (frame : Forest) (below : List Forest)
+      → ((m : List ℕ) (q : ℕ) (f : Forest) (b : List Forest) → KeptArgs (go m q f b) (go (m ++ more) q f b))
+      → KeptArgs (act s go base tag l p frame below) (act s go base tag (l ++ more) p frame below)
+  act-longer Opens go base tag l p frame below h = h l p nil (frame ∷ below)
+  act-longer Closes go base tag l p frame [] h = tt
+  act-longer Closes go base tag l p frame (outer ∷ below) h = h l p (snoc outer 91 0 0 frame) below
+  act-longer (Leaf class) go base tag l p frame below h = by-arg (argOf class base l p) (argOf class base (l ++ more) p) refl (arg-longer class base l p)
+    where
+      by-arg : (x y : Arg) → x ≡ argOf class base l p → KeptArg x y
+          → KeptArgs (taken (λ m q f. go m q f below) tag l p frame x) (taken (λ m q f. go m q f below) tag (l ++ more) p frame y)
+      by-arg (Refused k) y e s = tt
+      by-arg (Given a b used) y e s =
+          let f = snoc frame tag a b nil in
+          rw (s, drop-append-le used l more (given-within class base l p e)) (later-longer used (go (drop used l) (p + used) f below) (go (drop used l ++ more) (p + used) f below) (h (drop used l) (p + used) f below))
+
+  read-longer : (base : ℕ) (tags l : List ℕ) (p : ℕ) (frame : Forest) (below : List Forest) → KeptArgs (readArgs base tags l p frame below) (readArgs base tags (l ++ more) p frame below)
+  unfolding readArgs
+  read-longer base [] l p frame below = refl
+  read-longer base (tag ∷ tags) l p frame below = act-longer (sortOf tag) _ base tag l p frame below (λ m q f b. read-longer base tags m q f b)
+
+  pub args-longer : (base : ℕ) (tags l : List ℕ) (p : ℕ) → KeptArgs (argsOf base tags l p) (argsOf base tags (l ++ more) p)
+  args-longer base tags l p = read-longer base tags l p nil []

@@ -1,0 +1,59 @@
+-- What `encode` writes for a table, by its contract, is the bytes of the table's tree, and so a packet that OSC 1.0 allows. Assumes nothing.
+use mathlib.Core.Path.{_≡_}
+use mathlib.Core.List.{List}
+use Prim.Native.Nat.{ℕ, _≤_}
+use native.Mathlib.Omega.{arith}
+use borrow.Author.Tests.{le-leb}
+use lib.Dec.{leb}
+use lib.ListN.{length, take}
+use lib.Seq.{take-at}
+use Rattle.types.specs.Forest.{Forest, nil, node, depth}
+use Rattle.table.specs.Tree.{IsTree}
+use Rattle.encoder.specs.Osc.{packetOf}
+use Rattle.encoder.specs.Outcome.{Outcome, Encodes, malformed, formed, plain, encoded, write}
+use Rattle.encoder.specs.declared.Encoded.the-variants.{Written}
+use Rattle.demands.specs.Standards.{Osc10Written}
+use Rattle.table.proofs.Theorem.{tree-formed, tree-unique}
+use Rattle.demands.proofs.OscSpelled.{packet-is}
+use Rattle.arguments.proofs.Within.{by-test}
+use Rattle.demands.proofs.Tables.{spans-fit}
+
+-- the outcome is that of the table's tree
+pub outcome-is : {frame : ℕ → List ℕ → List ℕ} {t : List ℕ} {count : ℕ} {source out : List ℕ} {r : Outcome} {k a b : ℕ} {inside : Forest}
+    → IsTree t count source k a b inside → Encodes frame t count source out r → r ≡ encoded frame source out k a b inside
+outcome-is w (malformed n e) = absurd (n (tree-formed w))
+outcome-is {t = t} {count = count} {k = k} {a = a} {b = b} {inside = inside} w (formed k' a' b' inside' w' e) =
+    let q : node k' a' b' inside' nil ≡ node k a b inside nil = tree-unique t 0 count (node k' a' b' inside' nil) (node k a b inside nil) (w' .spans) (w .spans) in
+    cc
+
+-- what is answered as written stands at the front of the output
+abbrev Holds : List ℕ → Outcome → Type 0
+Holds bs o = (n : ℕ) → o .answer ≡ Written n → take n (o .out) ≡ bs
+
+held : (bs out : List ℕ) → Holds bs (write bs out)
+unfolding write
+held bs out =
+    by-test (Holds bs) (leb (length bs) 65535)
+    (λ _. by-test (Holds bs) (leb (length bs) (length out)) (λ _ n e. let q : length bs ≡ n = cc in take-at bs _ n q) (λ _ n e. let z : _≡_ {A = ℕ} 0 1 = cc in absurd (omega arith)))
+    (λ _ n e. let z : _≡_ {A = ℕ} 0 1 = cc in absurd (omega arith))
+
+module _ (source out : List ℕ) (k a b : ℕ) (inside : Forest) where
+  pub written-held : Holds (packetOf source k a b inside) (encoded plain source out k a b inside)
+  unfolding encoded
+  written-held =
+      by-test (Holds (packetOf source k a b inside)) (leb (depth (node k a b inside nil)) 64) (λ _. held (packetOf source k a b inside) out)
+      (λ _ n e. let z : _≡_ {A = ℕ} 0 1 = cc in absurd (omega arith))
+
+  -- with room it is written
+  pub written-all : depth (node k a b inside nil) ≤ 64 → length (packetOf source k a b inside) ≤ 65535 → length (packetOf source k a b inside) ≤ length out
+      → encoded plain source out k a b inside .answer ≡ Written (length (packetOf source k a b inside))
+  unfolding encoded write
+  written-all d n h =
+      let bs = packetOf source k a b inside in
+      rw (le-leb (depth (node k a b inside nil)) 64 d, le-leb (length bs) 65535 n, le-leb (length bs) (length out) h)
+
+pub osc10-written : Osc10Written
+osc10-written t count source k a b inside small bytes w c out r e n q =
+    let q' : encoded plain source out k a b inside .answer ≡ Written n = rw (outcome-is w e) at q in
+    rw (outcome-is w e, written-held source out k a b inside n q')
+    (packet-is source bytes k a b inside (w .obeys) c (spans-fit t small 0 count (node k a b inside nil) (w .spans)))

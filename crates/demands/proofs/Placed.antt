@@ -1,0 +1,70 @@
+-- Parts of an input that stand at a position: their parts, and the ranges that they are. Assumes nothing.
+use mathlib.Core.Path.{_≡_, refl, sym, ap, _∙_}
+use mathlib.Core.List.{List, [], _∷_, _++_, append-assoc, append-nil}
+use Prim.Native.Nat.{ℕ, zero, suc, _+_, _≤_}
+use native.Mathlib.Omega.{arith}
+use lib.ListN.{length, take, drop, length-append, take-append-drop}
+use lib.Seq.{take-at, drop-at, drop-drop, getD-drop, length-take-le}
+use Rattle.demands.specs.Words.{Bytes}
+use Rattle.demands.specs.Osc10.{Range}
+
+-- l stands at offset q of s
+pub record At (s : List ℕ) (q : ℕ) (l : List ℕ) : Type 0 where
+  pub more : List ℕ
+  pub is : drop q s ≡ l ++ more
+  pub within : q + length l ≤ length s
+
+pub at-all : (s : List ℕ) → At s 0 s
+at-all s = record { more = []; is = sym (append-nil s); within = omega arith }
+
+module _ {s : List ℕ} {q : ℕ} where
+  pub at-front : (x y : List ℕ) → At s q (x ++ y) → At s q x
+  at-front x y h =
+      record { more = y ++ h .more; is = h .is ∙ append-assoc x y (h .more); within = omega (arith, h .within, length-append x y) }
+
+  pub at-back : (x y : List ℕ) → At s q (x ++ y) → At s (q + length x) y
+  at-back x y h =
+      record {
+        more = h .more;
+        is = sym (drop-drop (length x) q s) ∙ ap (drop (length x)) (h .is ∙ append-assoc x y (h .more)) ∙ drop-at x (y ++ h .more) (length x) refl;
+        within = omega (arith, h .within, length-append x y);
+      }
+
+  -- the first n bytes, and those after them
+  pub at-take : {l : List ℕ} (n : ℕ) → At s q l → At s q (take n l)
+  at-take {l} n h = at-front (take n l) (drop n l) (rw take-append-drop h)
+
+  pub at-drop : {l : List ℕ} (n : ℕ) → n ≤ length l → At s q l → At s (q + n) (drop n l)
+  at-drop {l} n k h =
+      let e : length (take n l) ≡ n = length-take-le n l k in
+      rw e at (at-back (take n l) (drop n l) (rw take-append-drop h))
+
+  -- what stands at an offset is a range there
+  pub range-at : {l : List ℕ} → At s q l → Range s q (length l) l
+  range-at {l} h = record { lies = h .within; holds = ap (take (length l)) (h .is) ∙ take-at l (h .more) (length l) refl }
+
+-- the same by position and offset base
+pub at-next : {s : List ℕ} (base p : ℕ) (x y : List ℕ) → At s (base + p) (x ++ y) → At s (base + (p + length x)) y
+at-next base p x y h =
+    let e : base + p + length x ≡ base + (p + length x) = omega arith in
+    rw e at (at-back x y h)
+
+pub at-on : {s l : List ℕ} (base p n : ℕ) → n ≤ length l → At s (base + p) l → At s (base + (p + n)) (drop n l)
+at-on base p n k h =
+    let e : base + p + n ≡ base + (p + n) = omega arith in
+    rw e at (at-drop n k h)
+
+-- ---- a part of bytes is bytes
+
+pub bytes-take : (n : ℕ) (l : List ℕ) → Bytes l → Bytes (take n l)
+bytes-take zero l h i = omega arith
+bytes-take (suc n) [] h i = omega arith
+bytes-take (suc n) (x ∷ l) h zero = h 0
+bytes-take (suc n) (x ∷ l) h (suc i) = bytes-take n l (λ j. h (suc j)) i
+
+pub bytes-drop : (n : ℕ) (l : List ℕ) → Bytes l → Bytes (drop n l)
+bytes-drop n l h i = rw getD-drop (h (n + i))
+
+-- what stands in bytes is bytes
+pub at-bytes : {s : List ℕ} {q : ℕ} {l : List ℕ} → Bytes s → At s q l → Bytes l
+at-bytes {s} {q} {l} h at = rw (range-at at .holds) at (bytes-take (length l) (drop q s) (bytes-drop q s h))

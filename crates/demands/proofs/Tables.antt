@@ -1,0 +1,56 @@
+-- From trees to tables: the fields of a table of bytes fit, and tables of the same tree hold the same. Assumes nothing.
+use mathlib.Core.Path.{_≡_, sym, ap, _∙_}
+use mathlib.Core.Logic.{⊎-elim}
+use mathlib.Core.List.{List}
+use Prim.Native.Nat.{ℕ, _+_, _≤_, _<_}
+use native.Mathlib.Nat.{eq-or-lt-of-le}
+use native.Mathlib.Omega.{arith}
+use lib.ListN.{drop}
+use Rattle.types.specs.Forest.{Forest, nil, node}
+use Rattle.types.specs.Records.{startOf, kindAt, endAt, aAt, bAt}
+use Rattle.table.specs.Tree.{Spans, FieldsFit}
+use Rattle.demands.specs.Words.{Bytes, SameField, Same, both, SameTable}
+use Rattle.demands.specs.Words as words
+use Rattle.number.proofs.Numbers.{number-small}
+use Rattle.table.proofs.Spanned.{spans-size}
+use Rattle.table.proofs.Grown.{lt-or-le}
+use Rattle.demands.proofs.Placed.{bytes-drop}
+use Rattle.demands.proofs.SameTree.{same-size}
+
+-- the fields of a record of bytes fit
+pub spans-fit : (t : List ℕ) → Bytes t → (lo hi : ℕ) (F : Forest) → Spans t lo hi F → FieldsFit F
+unfolding Spans FieldsFit aAt bAt
+spans-fit t small lo hi nil s = tt
+spans-fit t small lo hi (node k a b inside rest) s =
+    let fit : (n : ℕ) → _ = λ n. number-small 4 (drop n t) (bytes-drop n t small) in (
+      rw (← s .1) (fit (startOf lo + 8)),
+      rw (← s .2) (fit (startOf lo + 12)),
+      spans-fit t small (lo + 1) (endAt t lo) inside (s .3),
+      spans-fit t small (endAt t lo) hi rest (s .4),
+    )
+
+-- record i of two tables holds the same
+record SameRecord (s t s' t' : List ℕ) (i : ℕ) : Type 0 where
+  kind : kindAt t i ≡ kindAt t' i
+  ends : endAt t i ≡ endAt t' i
+  second : bAt t i ≡ bAt t' i
+  first : SameField (kindAt t i) s (aAt t i) (bAt t i) s' (aAt t' i)
+
+module _ {s s' : List ℕ} (t t' : List ℕ) where
+  same-records : (lo hi : ℕ) {F F' : Forest} → Same s s' F F' → Spans t lo hi F → Spans t' lo hi F' → (i : ℕ) → lo ≤ i → i < hi → SameRecord s t s' t' i
+  unfolding Spans
+  same-records lo hi words.Same.none x y i l h = absurd (omega (arith, x))
+  same-records lo hi (both {f = f} {f' = f'} e u v) x y i l h =
+      let q : endAt t lo ≡ endAt t' lo = sym (spans-size t (lo + 1) (endAt t lo) f (x .3)) ∙ ap (λ (n : ℕ). lo + 1 + n) (same-size u) ∙ spans-size t' (lo + 1) (endAt t' lo) f' (y .3) in
+      let here : SameRecord s t s' t' lo = record { kind = x .0 ∙ sym (y .0); ends = q; second = x .2 ∙ sym (y .2); first = rw (x .0, x .1, x .2, y .1) e } in
+      let deep = same-records (lo + 1) (endAt t lo) u (x .3) (rw (← q) at (y .3)) i in
+      let later = same-records (endAt t lo) hi v (x .4) (rw (← q) at (y .4)) i in
+      ⊎-elim
+      (λ d. rw (← d) here)
+      (λ g. ⊎-elim (λ d. deep (omega arith) d) (λ d. later d h) (lt-or-le i (endAt t lo)))
+      (eq-or-lt-of-le l)
+
+  pub same-table : (count : ℕ) {F F' : Forest} → Same s s' F F' → Spans t 0 count F → Spans t' 0 count F' → SameTable s t s' t' count
+  same-table count w x y =
+      let at : (i : ℕ) → i < count → SameRecord s t s' t' i = λ i h. same-records 0 count w x y i (omega arith) h in
+      record { kinds = λ i h. at i h .kind; ends = λ i h. at i h .ends; seconds = λ i h. at i h .second; firsts = λ i h. at i h .first }

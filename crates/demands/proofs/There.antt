@@ -1,0 +1,56 @@
+-- The round trip as a fact about calls: `encode`, then `decode_udp` of what was written. Assumes nothing.
+use mathlib.Core.Path.{_≡_, sym, ap, subst, _∙_}
+use mathlib.Core.List.{List}
+use Prim.Native.Nat.{ℕ, _/_, _<_, _≤_}
+use native.Mathlib.Omega.{arith}
+use lib.ListN.{length, take}
+use Rattle.refusal.specs.declared.Refusal.{Refusal}
+use Rattle.types.specs.Forest.{Forest}
+use Rattle.types.specs.Records.{recordSize}
+use Rattle.decoder.specs.Framing.{udp}
+use Rattle.decoder.specs.Limits.{decoded, forestOf, tabled}
+use Rattle.decoder.specs.declared.Decoded.{Decoded}
+use Rattle.decoder.specs.declared.Decoded.the-variants.{Packets}
+use Rattle.encoder.specs.Osc.{packetOf}
+use Rattle.encoder.specs.Outcome.{Outcome, Encodes, plain}
+use Rattle.encoder.specs.declared.Encoded.{Encoded}
+use Rattle.encoder.specs.declared.Encoded.the-variants.{Written, Refused}
+use Rattle.demands.specs.Words.{SameTable}
+use Rattle.demands.specs.Demands.{Playable, PlaysBack}
+use Rattle.demands.specs.There.{CameBack, Returns}
+use Rattle.demands.proofs.OscWritten.{outcome-is, written-all}
+use Rattle.demands.proofs.Trip.{round-trip}
+
+module _ (t : List ℕ) (count : ℕ) (source out : List ℕ) {e : Encoded} {out' : List ℕ} (enc : Encodes plain t count source out (record { answer = e; out = out' })) where
+  -- with room, the answer is the packet's length
+  all-written : {kind a b : ℕ} {inside : Forest} → Playable t count source kind a b inside → length (packetOf source kind a b inside) ≤ length out
+      → e ≡ Written (length (packetOf source kind a b inside))
+  all-written {kind} {a} {b} {inside} p h =
+      ap (λ (o : Outcome). o .answer) (outcome-is (p .formed) enc) ∙ written-all source out kind a b inside (p .shallow) (p .fits) h
+
+  pub not-refused : {x : Refusal} {r : Decoded} (back back' : List ℕ) → e ≡ Refused x → Returns t count source out back r out' back'
+  not-refused back back' q kind a b inside p h room =
+      let w = all-written p h in
+      let z : _≡_ {A = ℕ} 0 1 = cc in
+      absurd (omega arith)
+
+  pub within-output : {n : ℕ} {r : Decoded} (back back' : List ℕ) → e ≡ Written n → length out' ≡ length out → length out' < n
+      → Returns t count source out back r out' back'
+  within-output {n} back back' q l g kind a b inside p h room =
+      let w = all-written p h in
+      let m : n ≡ length (packetOf source kind a b inside) = cc in
+      absurd (omega arith)
+
+  pub comes-back : {n : ℕ} (r : Decoded) (back back' : List ℕ) → e ≡ Written n → r ≡ decoded udp (length back / recordSize) 64 (take n out')
+      → back' ≡ tabled r (forestOf (udp (take n out'))) back → Returns t count source out back r out' back'
+  comes-back {n} r back back' q d s kind a b inside p h room =
+      let w = all-written p h in
+      let m : n ≡ length (packetOf source kind a b inside) = cc in
+      let P = round-trip t count source kind a b inside p out h (record { answer = e; out = out' }) enc back room in
+      let k : P .n ≡ length (packetOf source kind a b inside) = let v = P .written in cc in
+      let d' : r ≡ decoded udp (length back / recordSize) 64 (take (length (packetOf source kind a b inside)) out') = rw m at d in
+      let s' : back' ≡ tabled r (forestOf (udp (take (length (packetOf source kind a b inside)) out'))) back = rw m at s in
+      record {
+        answer = d' ∙ (rw k at (P .decoded));
+        same = rw (s', d') (rw k at (P .same));
+      }

@@ -1,0 +1,113 @@
+-- Examples, computed, that meet the hypotheses of `round-trip` and `osc10-written`: document 01's P3, and a bundle with a message that has a text and an array.
+-- Assumes nothing.
+use mathlib.Core.Path.{refl, sym}
+use mathlib.Core.Bool.{Bool, true, _&&_}
+use mathlib.Core.List.{List, [], _∷_, append-nil}
+use Prim.Native.Nat.{ℕ, zero, suc, _/_, _≤_}
+use native.Mathlib.Omega.{arith}
+use mir.Facts.{and-yes}
+use lib.Dec.{T, leb, leb→le}
+use lib.ListN.{length, take, replicate}
+use Rattle.number.specs.Number.{bytes}
+use Rattle.types.specs.Forest.{Forest, nil, node, size, depth}
+use Rattle.types.specs.Tags.{classOf, sortOf}
+use Rattle.types.specs.Value.{ownRules}
+use Rattle.types.specs.Records.{recordSize, recordOf, recordsOf}
+use Rattle.table.specs.Formed.{rangeOk, allowed}
+use Rattle.table.specs.Tree.{IsTree, Obeys, FieldsFit}
+use Rattle.encoder.specs.Osc.{oscString, dataOf, tagsOf, messageOf, bundleOf, elementsOf, packetOf}
+use Rattle.encoder.specs.Outcome.{formed, plain, encoded, write}
+use Rattle.demands.specs.Words.{Bytes, NoNul, CleanNode, Clean}
+use Rattle.demands.specs.Demands.{Playable, PlaysBack}
+use Rattle.demands.specs.Standards.{Spelled}
+use Rattle.table.proofs.Theorem.{bytes-tree}
+use Rattle.table.proofs.Examples as p3
+use Rattle.demands.proofs.OscWritten.{osc10-written}
+use Rattle.demands.proofs.Trip.{round-trip}
+
+-- ---- a list of bytes, by one test
+
+abbrev pub small : List ℕ → Bool
+small [] = true
+small (x ∷ l) = leb x 255 && small l
+
+pub small-bytes : (l : List ℕ) → T (small l) → Bytes l
+small-bytes [] t i = omega arith
+small-bytes (x ∷ l) t zero = omega (arith, leb→le x 255 (and-yes (leb x 255) (small l) t .0))
+small-bytes (x ∷ l) t (suc i) = small-bytes l (and-yes (leb x 255) (small l) t .1) i
+
+-- ---- a round trip, with what `encode` does by its contract
+
+plays : {t : List ℕ} {count : ℕ} {source : List ℕ} {k a b : ℕ} {inside : Forest} → Playable t count source k a b inside → (out table : List ℕ)
+    → length (packetOf source k a b inside) ≤ length out → count ≤ length table / recordSize → PlaysBack t count source out (encoded plain source out k a b inside) table
+plays w out table h n = round-trip _ _ _ _ _ _ _ w out h _ (formed _ _ _ _ (w .formed) refl) table n
+
+-- ---- P3
+
+abbrev p3-tree : Forest
+p3-tree = node 105 5 0 nil nil
+
+p3-is : IsTree (p3.table 2 2) 2 p3.packet 47 0 2 p3-tree
+unfolding bytes recordOf recordsOf size FieldsFit Obeys ownRules rangeOk allowed sortOf classOf
+p3-is = bytes-tree (p3.table 2 2) [] p3.packet 47 0 2 p3-tree refl (omega arith, omega arith, (omega arith, omega arith, tt, tt), tt) (omega arith) (refl, refl, refl, (refl, refl, refl, tt, tt), tt)
+
+p3-playable : Playable (p3.table 2 2) 2 p3.packet 47 0 2 p3-tree
+unfolding NoNul CleanNode Clean depth bytes oscString dataOf tagsOf messageOf packetOf sortOf classOf
+p3-playable =
+    record {
+      bytes = small-bytes (p3.table 2 2) tt;
+      sourced = small-bytes p3.packet tt;
+      formed = p3-is;
+      clean = ((refl, ((λ e. omega arith), ((λ e. omega arith), tt))), (tt, tt, tt), tt);
+      shallow = omega arith;
+      fits = omega arith;
+    }
+
+-- an output of 12 bytes and a table of two records are enough
+p3-plays : PlaysBack (p3.table 2 2) 2 p3.packet (replicate 12 0) (encoded plain p3.packet (replicate 12 0) 47 0 2 p3-tree) (replicate 32 0)
+unfolding bytes oscString dataOf tagsOf messageOf packetOf sortOf classOf
+p3-plays = plays p3-playable (replicate 12 0) (replicate 32 0) (omega arith) (omega arith)
+
+-- ---- a bundle
+
+-- "/a" and "é"
+abbrev source : List ℕ
+source = 0x2F ∷ 0x61 ∷ 0xC3 ∷ 0xA9 ∷ []
+
+-- a message /a with the text é and an array that holds the integer 7
+abbrev inside : Forest
+inside = node 47 0 2 (node 115 2 2 nil (node 91 0 0 (node 105 7 0 nil nil) nil)) nil
+
+-- the records of the bundle that holds it, to be played at once
+table : List ℕ
+table = recordsOf 0 (node 35 0 1 inside nil)
+
+bundle-is : IsTree table 5 source 35 0 1 inside
+unfolding table size FieldsFit Obeys ownRules rangeOk allowed sortOf classOf
+bundle-is =
+    bytes-tree table [] source 35 0 1 inside (sym (append-nil table))
+    (omega arith, omega arith, (omega arith, omega arith, (omega arith, omega arith, tt, (omega arith, omega arith, (omega arith, omega arith, tt, tt), tt)), tt), tt) (omega arith)
+    (refl, refl, refl, (refl, refl, refl, (refl, refl, refl, tt, (refl, refl, refl, (refl, refl, refl, tt, tt), tt)), tt), tt)
+
+bundle-playable : Playable table 5 source 35 0 1 inside
+unfolding table NoNul CleanNode Clean depth bytes recordOf recordsOf size oscString dataOf tagsOf messageOf bundleOf elementsOf packetOf sortOf classOf
+bundle-playable =
+    record {
+      bytes = small-bytes table tt;
+      sourced = small-bytes source tt;
+      formed = bundle-is;
+      clean = (tt, ((refl, ((λ e. omega arith), ((λ e. omega arith), tt))), (((λ e. omega arith), ((λ e. omega arith), tt)), tt, (tt, (tt, tt, tt), tt)), tt), tt);
+      shallow = omega arith;
+      fits = omega arith;
+    }
+
+bundle-plays : PlaysBack table 5 source (replicate 40 0) (encoded plain source (replicate 40 0) 35 0 1 inside) (replicate 80 0)
+unfolding bytes oscString dataOf tagsOf messageOf bundleOf elementsOf packetOf sortOf classOf
+bundle-plays = plays bundle-playable (replicate 40 0) (replicate 80 0) (omega arith) (omega arith)
+
+-- ---- what is written is an OSC 1.0 packet
+
+bundle-written : Spelled source 35 0 1 inside (take 40 (encoded plain source (replicate 40 0) 35 0 1 inside .out))
+unfolding depth bytes oscString dataOf tagsOf messageOf bundleOf elementsOf packetOf sortOf classOf encoded write
+bundle-written =
+    osc10-written table 5 source 35 0 1 inside (bundle-playable .bytes) (bundle-playable .sourced) bundle-is (bundle-playable .clean) (replicate 40 0) _ (formed 35 0 1 inside bundle-is refl) 40 refl

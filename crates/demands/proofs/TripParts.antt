@@ -1,0 +1,121 @@
+-- What OSC 1.0 spells, read: texts, blobs and the data of one argument. Assumes nothing.
+use mathlib.Core.Path.{_≡_, refl, sym, ap, _∙_}
+use mathlib.Core.Bool.{true}
+use mathlib.Core.List.{List, [], _∷_, _++_, append-assoc}
+use Prim.Native.Nat.{ℕ, suc, _+_, _-_, _*_, _/_, _%_, _^_, _≤_, _<_}
+use native.Mathlib.Omega.{arith}
+use borrow.Author.Tests.{ne-eqb}
+use lib.ListN.{length, take, drop, replicate, length-append, length-replicate}
+use lib.Seq.{take-at, drop-at}
+use Rattle.number.specs.Number.{number}
+use Rattle.utf8.specs.Utf8.{Octets, Decides}
+use Rattle.text.specs.Text.{untilNul, textOf}
+use Rattle.text.specs.declared.Text.the-variants.{Found}
+use Rattle.arguments.specs.Argument.{argOf}
+use Rattle.arguments.specs.declared.Arg.the-variants.{Given}
+use Rattle.demands.specs.Words.{NoNul}
+use Rattle.demands.specs.Osc10.{Atom, IsText, AtomAllowed, int32, OscString, OscBlob, AtomSpells, as-word, as-long, as-bare, as-string, as-blob, as-char, FieldsAre, is-word, is-long, is-bare, is-string, is-blob, is-char}
+use Rattle.number.proofs.Numbers.{length-bytes, read-written}
+use Rattle.text.proofs.Texts.{found}
+use Rattle.arguments.proofs.Argued.{four-given, eight-given, scalar-given, text-given, blob-given}
+use Rattle.demands.proofs.Placed.{At, at-front, at-back, range-at}
+use Rattle.demands.proofs.OscTags.{classIs, scalar-small}
+
+-- ---- texts
+
+-- the first NUL
+nul-after : (text more : List ℕ) → NoNul text → untilNul (text ++ (0 ∷ more)) ≡ length text
+unfolding NoNul
+nul-after [] more h = refl
+nul-after (x ∷ text) more h = rw (ne-eqb x 0 (h .0)) (ap suc (nul-after text more (h .1)))
+
+module _ {text bs : List ℕ} (w : OscString text bs) where
+  string-before : (more : List ℕ) → bs ++ more ≡ text ++ (0 ∷ (replicate (w .additional) 0 ++ more))
+  string-before more = rw (w .spelled) (append-assoc text _ more)
+
+  pub string-length : length bs ≡ length text + 1 + w .additional
+  string-length = ap length (w .spelled) ∙ simp (length-append, length-replicate) (omega arith)
+
+  pub string-take : (more : List ℕ) → take (length text) (bs ++ more) ≡ text
+  string-take more = rw string-before (take-at text _ (length text) refl)
+
+  -- an OSC-string at a multiple of 4 is found, with its padding
+  pub string-read : (more : List ℕ) (p : ℕ) → IsText text → p % 4 ≡ 0 → Found (length text) (length bs) ≡ textOf (bs ++ more) p
+  string-read more p t z =
+      let n = length text in
+      let l = string-length in
+      let r : (p + n + 4) / 4 * 4 - p ≡ length bs = omega (arith, w .few, w .multiple) in
+      let k = length-append bs more in
+      let e : n ≡ untilNul (bs ++ more) = rw string-before (sym (nul-after text _ (t .non-null))) in
+      let d : Decides true (Octets (take n (bs ++ more))) = rw (string-take more) (record { sound = λ _. t .valid; complete = λ _. refl }) in
+      rw r at (found (bs ++ more) p n e (omega arith) (omega arith) d refl)
+
+-- ---- one argument
+
+-- its data is a multiple of 4 bytes
+pub atom-even : {v : Atom} {bs : List ℕ} → AtomSpells v bs → length bs % 4 ≡ 0
+atom-even as-word = rw length-bytes refl
+atom-even as-long = simp (length-append, length-bytes)
+atom-even as-bare = refl
+atom-even (as-string w) = w .multiple
+atom-even (as-blob w) = w .multiple
+atom-even as-char = rw length-bytes refl
+
+-- its data is read as fields that stand for it
+pub record AtomRead (s : List ℕ) (base : ℕ) (v : Atom) (bs l : List ℕ) (p : ℕ) : Type 0 where
+  pub a : ℕ
+  pub b : ℕ
+  pub given : Given a b (length bs) ≡ argOf (classIs v) base l p
+  pub fields : FieldsAre s v a b
+
+four-long : (x : ℕ) (more : List ℕ) → 4 ≤ length (int32 x ++ more)
+four-long x more = simp (length-append, length-bytes) (omega arith)
+
+module _ (s : List ℕ) (base : ℕ) where
+  -- where a blob's content stands
+  blob-at : {content bs : List ℕ} (w : OscBlob content bs) {q : ℕ} → At s q bs → At s (q + 4) content
+  blob-at {content} w {q} h =
+      let n = int32 (length content) in
+      let e : length n ≡ 4 = length-bytes 4 (length content) in
+      let back : At s (q + length n) (content ++ replicate (w .additional) 0) = at-back n _ (rw (w .spelled) at h) in
+      at-front content _ (rw e at back)
+
+  pub atom-read : {v : Atom} {bs : List ℕ} → AtomSpells v bs → AtomAllowed v → (more : List ℕ) (p : ℕ) → p % 4 ≡ 0 → At s (base + p) bs → length bs < 256 ^ 4
+      → AtomRead s base v bs (bs ++ more) p
+  unfolding argOf
+  atom-read (as-word {x = x}) h more p z at low =
+      record { a = x; b = 0; given = rw length-bytes (four-given _ base p (four-long x more) (sym (read-written 4 x more (h .1)))); fields = is-word }
+  atom-read (as-long {high = x} {low = y}) h more p z at low =
+      let e : (int32 x ++ int32 y) ++ more ≡ int32 x ++ (int32 y ++ more) = append-assoc (int32 x) (int32 y) more in
+      let n : length (int32 x ++ int32 y) ≡ 8 = simp (length-append, length-bytes) in
+      let d : drop 4 (int32 x ++ (int32 y ++ more)) ≡ int32 y ++ more = drop-at (int32 x) (int32 y ++ more) 4 (length-bytes 4 x) in
+      let k : 8 ≤ length (int32 x ++ (int32 y ++ more)) = simp (length-append, length-bytes) (omega arith) in
+      record {
+        a = x;
+        b = y;
+        given = rw (n, e) (eight-given _ base p k (sym (read-written 4 x (int32 y ++ more) (h .1))) (sym (ap (number 4) d ∙ read-written 4 y more (h .2))));
+        fields = is-long;
+      }
+  atom-read as-bare h more p z at low = record { a = 0; b = 0; given = refl; fields = is-bare }
+  atom-read (as-string {text = text} w) h more p z at low =
+      record {
+        a = base + p;
+        b = length text;
+        given = text-given _ base p (string-read w more p h z);
+        fields = is-string (range-at (at-front text _ (rw (w .spelled) at at)));
+      }
+  atom-read (as-blob {content = content} {bs = bs} w) h more p z at low =
+      let n = length content in
+      let e : bs ++ more ≡ int32 n ++ ((content ++ replicate (w .additional) 0) ++ more) = rw (w .spelled) (append-assoc (int32 n) _ more) in
+      let l : length bs ≡ 4 + n + w .additional = ap length (w .spelled) ∙ simp (length-append, length-bytes, length-replicate) (omega arith) in
+      let k = length-append bs more in
+      let x : n ≡ number 4 (bs ++ more) = rw e (sym (read-written 4 n _ (omega arith))) in
+      let r : (p + 4 + n + 3) / 4 * 4 - p ≡ length bs = omega (arith, w .few, w .multiple) in
+      record {
+        a = base + p + 4;
+        b = n;
+        given = rw r at (blob-given (bs ++ more) base p (omega arith) x (omega arith));
+        fields = is-blob (range-at (blob-at w at));
+      }
+  atom-read (as-char {x = x}) h more p z at low =
+      record { a = x; b = 0; given = rw length-bytes (scalar-given _ base p (four-long x more) (sym (read-written 4 x more (scalar-small x h))) h); fields = is-char }

@@ -1,0 +1,189 @@
+-- Demand 1's public entry points: what each is handed, what it answers and what its contract says, word for word. Assumes nothing.
+use mathlib.Core.Path.{_≡_}
+use mathlib.Core.Bool.{Bool, true, false}
+use mathlib.Core.List.{List, [], _∷_}
+use Prim.Native.Nat.{ℕ, _/_}
+use lib.ListN.{length}
+use Rattle.refusal.specs.Refusal.{numberOf}
+use Rattle.refusal.specs.declared.Refusal.{Refusal}
+use Rattle.number.specs.Pad.{padOf}
+use Rattle.number.specs.declared.Padded.{Padded}
+use Rattle.number.specs.declared.Padded.the-variants as padded
+use Rattle.types.specs.Tags.{among}
+use Rattle.types.specs.Records.{recordSize}
+use Rattle.types.specs.Look.{lookAt, textOf}
+use Rattle.types.specs.declared.value.OscType.{OscType}
+use Rattle.types.specs.declared.look.Looked.{Looked}
+use Rattle.types.specs.declared.look.Looked.the-variants as looked
+use Rattle.decoder.specs.Framing.{Whole, udp, tcp, tcpVec}
+use Rattle.decoder.specs.Limits.{decoded, forestOf, tabled}
+use Rattle.decoder.specs.declared.Decoded.{Decoded}
+use Rattle.decoder.specs.declared.Decoded.the-variants as decodes
+use Rattle.encoder.specs.Outcome.{Encodes, plain, prefixed, stringOutcome}
+use Rattle.encoder.specs.declared.Encoded.{Encoded}
+use Rattle.encoder.specs.declared.Encoded.the-variants as encodes
+
+-- a call of a public entry point and what it is handed: any bytes, any table, any limits
+pub data Call : Type 0 where
+  decode-udp : (msg table : List ℕ) (depth : ℕ) → Call
+  decode-tcp : (msg table : List ℕ) (depth : ℕ) → Call
+  decode-tcp-vec : (msg table : List ℕ) (depth : ℕ) → Call
+  encode : (table : List ℕ) (count : ℕ) (source out : List ℕ) → Call
+  encode-tcp : (table : List ℕ) (count : ℕ) (source out : List ℕ) → Call
+  encode-string : (text out : List ℕ) → Call
+  pad : (pos : ℕ) → Call
+  look : (table : List ℕ) (index : ℕ) → Call
+  text-of : (value : OscType) (packet label : List ℕ) → Call
+
+-- the type of its answer
+abbrev pub Answer : Call → Type 0
+Answer (decode-udp msg table depth) = Decoded
+Answer (decode-tcp msg table depth) = Decoded
+Answer (decode-tcp-vec msg table depth) = Decoded
+Answer (encode table count source out) = Encoded
+Answer (encode-tcp table count source out) = Encoded
+Answer (encode-string text out) = Encoded
+Answer (pad pos) = Padded
+Answer (look table index) = Looked
+Answer (text-of value packet label) = List ℕ
+
+-- the bytes that it is lent by `&mut`: at most one buffer; what is lent by `&` cannot change
+abbrev pub Lent : Call → Type 0
+Lent (decode-udp msg table depth) = List ℕ
+Lent (decode-tcp msg table depth) = List ℕ
+Lent (decode-tcp-vec msg table depth) = List ℕ
+Lent (encode table count source out) = List ℕ
+Lent (encode-tcp table count source out) = List ℕ
+Lent (encode-string text out) = List ℕ
+Lent (pad pos) = Unit {0}
+Lent (look table index) = Unit {0}
+Lent (text-of value packet label) = Unit {0}
+
+-- those bytes before the call
+abbrev pub lentTo : (c : Call) → Lent c
+lentTo (decode-udp msg table depth) = table
+lentTo (decode-tcp msg table depth) = table
+lentTo (decode-tcp-vec msg table depth) = table
+lentTo (encode table count source out) = out
+lentTo (encode-tcp table count source out) = out
+lentTo (encode-string text out) = out
+lentTo (pad pos) = tt
+lentTo (look table index) = tt
+lentTo (text-of value packet label) = tt
+
+-- how a call ends: its answer, and the lent bytes afterwards
+pub record Ending (c : Call) : Type 0 where
+  pub answer : Answer c
+  pub lent : Lent c
+
+-- a decoder's contract, by its rule: the answer, and the table afterwards
+pub record Decodes (rule : List ℕ → Whole) (msg table : List ℕ) (depth : ℕ) (r : Decoded) (after : List ℕ) : Type 0 where
+  pub answered : r ≡ decoded rule (length table / recordSize) depth msg
+  pub left : after ≡ tabled r (forestOf (rule msg)) table
+
+-- the contract of the entry point
+abbrev pub Meets : (c : Call) → Ending c → Type 0
+Meets (decode-udp msg table depth) e = Decodes udp msg table depth (e .answer) (e .lent)
+Meets (decode-tcp msg table depth) e = Decodes tcp msg table depth (e .answer) (e .lent)
+Meets (decode-tcp-vec msg table depth) e = Decodes tcpVec msg table depth (e .answer) (e .lent)
+Meets (encode table count source out) e = Encodes plain table count source out (record { answer = e .answer; out = e .lent })
+Meets (encode-tcp table count source out) e = Encodes prefixed table count source out (record { answer = e .answer; out = e .lent })
+Meets (encode-string text out) e = record { answer = e .answer; out = e .lent } ≡ stringOutcome text out
+Meets (pad pos) e = e .answer ≡ padOf pos
+Meets (look table index) e = e .answer ≡ lookAt table index
+Meets (text-of value packet label) e = e .answer ≡ textOf value packet label
+
+-- what an answer gives: a result; Waiting; or a refusal, which has its number and nothing else (refusal's `numberOf`)
+pub data Given : Type 0 where
+  result : Given
+  waits : Given
+  refuses : Refusal → Given
+
+-- of a decoder
+abbrev pub byDecoded : Decoded → Given
+byDecoded (decodes.Packets count left) = result
+byDecoded decodes.Waiting = waits
+byDecoded (decodes.Refused r) = refuses r
+
+-- of an encoder
+abbrev pub byEncoded : Encoded → Given
+byEncoded (encodes.Written n) = result
+byEncoded (encodes.Refused r) = refuses r
+
+-- of `pad`
+abbrev pub byPadded : Padded → Given
+byPadded (padded.At pos) = result
+byPadded (padded.Refused r) = refuses r
+
+-- of `look`
+abbrev pub byLooked : Looked → Given
+byLooked (looked.Value v) = result
+byLooked (looked.Refused r) = refuses r
+
+-- of any call
+abbrev pub given : (c : Call) → Answer c → Given
+given (decode-udp msg table depth) r = byDecoded r
+given (decode-tcp msg table depth) r = byDecoded r
+given (decode-tcp-vec msg table depth) r = byDecoded r
+given (encode table count source out) r = byEncoded r
+given (encode-tcp table count source out) r = byEncoded r
+given (encode-string text out) r = byEncoded r
+given (pad pos) r = byPadded r
+given (look table index) r = byLooked r
+given (text-of value packet label) r = result
+
+-- "Decode order: 13, 1, then 2 to 8, then 9, then 10"
+abbrev pub decodeOrder : List ℕ
+decodeOrder = 13 ∷ 1 ∷ 2 ∷ 3 ∷ 4 ∷ 5 ∷ 6 ∷ 7 ∷ 8 ∷ 9 ∷ 10 ∷ []
+
+-- "Encode order: 11, 9 (limit 64), 1, 12"
+abbrev pub encodeOrder : List ℕ
+encodeOrder = 11 ∷ 9 ∷ 1 ∷ 12 ∷ []
+
+-- the refusals that document 01 has for a call, by their numbers
+abbrev pub numbersOf : Call → List ℕ
+numbersOf (decode-udp msg table depth) = decodeOrder
+numbersOf (decode-tcp msg table depth) = decodeOrder
+numbersOf (decode-tcp-vec msg table depth) = decodeOrder
+numbersOf (encode table count source out) = encodeOrder
+numbersOf (encode-tcp table count source out) = encodeOrder
+numbersOf (encode-string text out) = 4 ∷ 1 ∷ 12 ∷ []
+numbersOf (pad pos) = 14 ∷ []
+numbersOf (look table index) = 11 ∷ []
+numbersOf (text-of value packet label) = []
+
+-- "`decode_tcp` may also answer Waiting"
+abbrev pub mayWait : Call → Bool
+mayWait (decode-udp msg table depth) = false
+mayWait (decode-tcp msg table depth) = true
+mayWait (decode-tcp-vec msg table depth) = false
+mayWait (encode table count source out) = false
+mayWait (encode-tcp table count source out) = false
+mayWait (encode-string text out) = false
+mayWait (pad pos) = false
+mayWait (look table index) = false
+mayWait (text-of value packet label) = false
+
+-- a result, Waiting where it may be, or one of these numbers
+abbrev pub Listed : List ℕ → Bool → Given → Type 0
+Listed numbers wait result = Unit {0}
+Listed numbers wait waits = wait ≡ true
+Listed numbers wait (refuses r) = among (numberOf r) numbers ≡ true
+
+-- ---- demand 1
+
+-- a contract settles the answer and every lent byte: no second ending meets it
+abbrev pub Settled : Type 0
+Settled = (c : Call) (e e' : Ending c) → Meets c e → Meets c e' → e ≡ e'
+
+-- and it can be met: no call is without an ending (said by two negations, since whether a table is well formed is decided by code)
+abbrev pub Met : Type 0
+Met = (c : Call) → ((e : Ending c) → Meets c e → ⊥) → ⊥
+
+-- "each call ends in an answer from document 01 or one of its numbered refusals"
+abbrev pub AnswersListed : Type 0
+AnswersListed = (c : Call) (e : Ending c) → Meets c e → Listed (numbersOf c) (mayWait c) (given c (e .answer))
+
+-- "a refusal changes no byte of any lent buffer"; nor does Waiting
+abbrev pub NothingChanged : Type 0
+NothingChanged = (c : Call) (e : Ending c) → Meets c e → (given c (e .answer) ≡ result → ⊥) → e .lent ≡ lentTo c

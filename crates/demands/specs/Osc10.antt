@@ -1,0 +1,200 @@
+-- What the OSC 1.0 specification allows, in its own terms: packets as a syntax, the rules on them, and the bytes that spell them.
+-- Nothing here speaks of the decoder or the encoder. The type tags are document 01's, so without S; text is UTF-8 (RFC 3629) where OSC 1.0 says
+-- ASCII. OSC 1.0 also asks that an enclosed bundle's time tag is not before the enclosing one's: no rule here, so more is allowed. Assumes nothing.
+use mathlib.Core.Path.{_≡_}
+use mathlib.Core.Bool.{true}
+use mathlib.Core.List.{List, [], _∷_, _++_}
+use Prim.Native.Nat.{ℕ, _+_, _%_, _^_, _≤_, _<_, max}
+use lib.ListN.{length, getD, replicate}
+use Rattle.number.specs.Number.{bytes}
+use Rattle.utf8.specs.Utf8.{Octets}
+use Rattle.types.specs.Tags.{among, isScalar}
+use Rattle.types.specs.Forest.{Forest, nil, node}
+use Rattle.table.specs.Formed.{part}
+use Rattle.demands.specs.Words.{Bytes, NoNul}
+
+-- ---- the syntax
+
+-- an argument that is no array, by what its type tag stands for: 32 bits, 64 bits as two halves, no data, an OSC-string, an OSC-blob, a character
+pub data Atom : Type 0 where
+  word : (tag x : ℕ) → Atom
+  long : (tag high low : ℕ) → Atom
+  bare : (tag : ℕ) → Atom
+  string : (text : List ℕ) → Atom
+  blob : (content : List ℕ) → Atom
+  char : (x : ℕ) → Atom
+
+-- a sequence of OSC Arguments, arrays among them
+pub data Arguments : Type 0 where
+  end : Arguments
+  atom : Atom → Arguments → Arguments
+  array : (within rest : Arguments) → Arguments
+
+-- OSC Packet: an OSC Message or an OSC Bundle; and the elements of a bundle
+mutual
+  pub data Packet : Type 0 where
+    message : (address : List ℕ) (arguments : Arguments) → Packet
+    bundle : (seconds fractional : ℕ) (elements : Packets) → Packet
+
+  pub data Packets : Type 0 where
+    none : Packets
+    also : Packet → Packets → Packets
+
+-- ---- the rules
+
+-- the characters of an OSC-string: "a sequence of non-null ASCII characters", here UTF-8 by the grammar of RFC 3629
+pub record IsText (text : List ℕ) : Type 0 where
+  pub non-null : NoNul text
+  pub valid : Octets text
+
+-- the tags of 32 bits: i int32, f float32, r RGBA color, m MIDI message
+abbrev pub words : List ℕ
+words = 105 ∷ 102 ∷ 114 ∷ 109 ∷ []
+
+-- the tags of 64 bits, as two halves: h int64, t OSC-timetag, d float64
+abbrev pub longs : List ℕ
+longs = 104 ∷ 116 ∷ 100 ∷ []
+
+-- the tags of which "no bytes are allocated in the argument data": T True, F False, N Nil, I Infinitum
+abbrev pub bares : List ℕ
+bares = 84 ∷ 70 ∷ 78 ∷ 73 ∷ []
+
+-- numbers fit their bits, a blob's content is bytes, and c is a scalar number (document 01)
+abbrev pub AtomAllowed : Atom → Type 0
+AtomAllowed (word tag x) = (among tag words ≡ true) × (x < 256 ^ 4)
+AtomAllowed (long tag high low) = (among tag longs ≡ true) × (high < 256 ^ 4) × (low < 256 ^ 4)
+AtomAllowed (bare tag) = among tag bares ≡ true
+AtomAllowed (string text) = IsText text
+AtomAllowed (blob content) = Bytes content
+AtomAllowed (char x) = isScalar x ≡ true
+
+-- every argument is allowed
+unfoldable pub ArgumentsAllowed : Arguments → Type 0
+ArgumentsAllowed end = Unit {0}
+ArgumentsAllowed (atom value rest) = AtomAllowed value × ArgumentsAllowed rest
+ArgumentsAllowed (array within rest) = ArgumentsAllowed within × ArgumentsAllowed rest
+
+-- "An OSC Address Pattern is an OSC-string beginning with the character '/'"; a time tag is 64 bits, as two halves
+unfoldable mutual
+  pub Allowed : Packet → Type 0
+  Allowed (message address arguments) = (getD address 0 0 ≡ 47) × IsText address × ArgumentsAllowed arguments
+  Allowed (bundle seconds fractional elements) = (seconds < 256 ^ 4) × (fractional < 256 ^ 4) × AllAllowed elements
+
+  pub AllAllowed : Packets → Type 0
+  AllAllowed none = Unit {0}
+  AllAllowed (also packet rest) = Allowed packet × AllAllowed rest
+
+-- how deep bundles are nested
+unfoldable mutual
+  pub deep : Packet → ℕ
+  deep (message address arguments) = 0
+  deep (bundle seconds fractional elements) = deepest elements + 1
+
+  pub deepest : Packets → ℕ
+  deepest none = 0
+  deepest (also packet rest) = max (deep packet) (deepest rest)
+
+-- ---- the bytes that spell a packet
+
+-- int32, and every other number of 32 bits: big-endian
+abbrev pub int32 : ℕ → List ℕ
+int32 x = bytes 4 x
+
+-- OSC-string: the characters, "followed by a null, followed by 0-3 additional null characters to make the total number of bits a multiple of 32"
+pub record OscString (text bs : List ℕ) : Type 0 where
+  pub additional : ℕ
+  pub few : additional ≤ 3
+  pub spelled : bs ≡ text ++ (0 ∷ replicate additional 0)
+  pub multiple : length bs % 4 ≡ 0
+
+-- OSC-blob: "an int32 size count, followed by that many 8-bit bytes of arbitrary binary data, followed by 0-3 additional zero bytes to make the total number of bits a multiple of 32"
+pub record OscBlob (content bs : List ℕ) : Type 0 where
+  pub additional : ℕ
+  pub few : additional ≤ 3
+  pub spelled : bs ≡ int32 (length content) ++ (content ++ replicate additional 0)
+  pub multiple : length bs % 4 ≡ 0
+
+-- the type tag of an argument that is no array
+abbrev pub tagOf : Atom → ℕ
+tagOf (word tag x) = tag
+tagOf (long tag high low) = tag
+tagOf (bare tag) = tag
+tagOf (string text) = 115
+tagOf (blob content) = 98
+tagOf (char x) = 99
+
+-- "a sequence of characters corresponding exactly to the sequence of OSC Arguments"; an array's stand in brackets
+unfoldable pub tagsOf : Arguments → List ℕ
+tagsOf end = []
+tagsOf (atom value rest) = tagOf value ∷ tagsOf rest
+tagsOf (array within rest) = 91 ∷ (tagsOf within ++ (93 ∷ tagsOf rest))
+
+-- the binary representation of an argument that is no array
+pub data AtomSpells : Atom → List ℕ → Type 0 where
+  as-word : {tag x : ℕ} → AtomSpells (word tag x) (int32 x)
+  as-long : {tag high low : ℕ} → AtomSpells (long tag high low) (int32 high ++ int32 low)
+  as-bare : {tag : ℕ} → AtomSpells (bare tag) []
+  as-string : {text bs : List ℕ} → OscString text bs → AtomSpells (string text) bs
+  as-blob : {content bs : List ℕ} → OscBlob content bs → AtomSpells (blob content) bs
+  as-char : {x : ℕ} → AtomSpells (char x) (int32 x)
+
+-- "a contiguous sequence of the binary representations of each argument"; brackets have none
+pub data ArgumentsSpell : Arguments → List ℕ → Type 0 where
+  no-argument : ArgumentsSpell end []
+  one-atom : {value : Atom} {rest : Arguments} {x y : List ℕ} → AtomSpells value x → ArgumentsSpell rest y → ArgumentsSpell (atom value rest) (x ++ y)
+  one-array : {within rest : Arguments} {x y : List ℕ} → ArgumentsSpell within x → ArgumentsSpell rest y → ArgumentsSpell (array within rest) (x ++ y)
+
+-- "#bundle"
+abbrev pub bundleWord : List ℕ
+bundleWord = 35 ∷ 98 ∷ 117 ∷ 110 ∷ 100 ∷ 108 ∷ 101 ∷ []
+
+-- OSC Message: an OSC Address Pattern, an OSC Type Tag String ("an OSC-string beginning with the character ','"), the OSC Arguments.
+-- OSC Bundle: the OSC-string "#bundle", an OSC Time Tag, zero or more OSC Bundle Elements.
+-- OSC Bundle Element: its size, an int32 that "will always be a multiple of 4", and its contents
+mutual
+  pub data Spells : Packet → List ℕ → Type 0 where
+    as-message : {address : List ℕ} {arguments : Arguments} {a t d : List ℕ} → OscString address a → OscString (44 ∷ tagsOf arguments) t
+        → ArgumentsSpell arguments d → Spells (message address arguments) (a ++ (t ++ d))
+    as-bundle : {seconds fractional : ℕ} {elements : Packets} {w es : List ℕ} → OscString bundleWord w → ElementsSpell elements es
+        → Spells (bundle seconds fractional elements) (w ++ (int32 seconds ++ (int32 fractional ++ es)))
+
+  pub data ElementsSpell : Packets → List ℕ → Type 0 where
+    no-element : ElementsSpell none []
+    element : {packet : Packet} {rest : Packets} {content es : List ℕ} → length content % 4 ≡ 0 → Spells packet content → ElementsSpell rest es
+        → ElementsSpell (also packet rest) (int32 (length content) ++ (content ++ es))
+
+-- ---- the tree of a packet
+
+-- a range of the source that holds a text or a blob
+pub record Range (source : List ℕ) (a b : ℕ) (content : List ℕ) : Type 0 where
+  pub lies : a + b ≤ length source
+  pub holds : part source a b ≡ content
+
+-- the two fields of a node stand for an argument that is no array (document 01, the table of kinds)
+pub data FieldsAre (source : List ℕ) : Atom → (a b : ℕ) → Type 0 where
+  is-word : {tag x : ℕ} → FieldsAre source (word tag x) x 0
+  is-long : {tag high low : ℕ} → FieldsAre source (long tag high low) high low
+  is-bare : {tag : ℕ} → FieldsAre source (bare tag) 0 0
+  is-string : {text : List ℕ} {a b : ℕ} → Range source a b text → FieldsAre source (string text) a b
+  is-blob : {content : List ℕ} {a b : ℕ} → Range source a b content → FieldsAre source (blob content) a b
+  is-char : {x : ℕ} → FieldsAre source (char x) x 0
+
+-- a forest stands for arguments
+pub data ArgumentsAre (source : List ℕ) : Arguments → Forest → Type 0 where
+  no-node : ArgumentsAre source end nil
+  leaf : {value : Atom} {rest : Arguments} {a b : ℕ} {g : Forest} → FieldsAre source value a b → ArgumentsAre source rest g
+      → ArgumentsAre source (atom value rest) (node (tagOf value) a b nil g)
+  branch : {within rest : Arguments} {f g : Forest} → ArgumentsAre source within f → ArgumentsAre source rest g → ArgumentsAre source (array within rest) (node 91 0 0 f g)
+
+-- a node stands for a packet, and a forest for a bundle's elements
+mutual
+  pub data StandsFor (source : List ℕ) : Packet → (kind a b : ℕ) → Forest → Type 0 where
+    is-message : {address : List ℕ} {arguments : Arguments} {a b : ℕ} {f : Forest} → Range source a b address → ArgumentsAre source arguments f
+        → StandsFor source (message address arguments) 47 a b f
+    is-bundle : {seconds fractional : ℕ} {elements : Packets} {f : Forest} → StandFor source elements f
+        → StandsFor source (bundle seconds fractional elements) 35 seconds fractional f
+
+  pub data StandFor (source : List ℕ) : Packets → Forest → Type 0 where
+    no-packet : StandFor source none nil
+    packet : {first : Packet} {rest : Packets} {kind a b : ℕ} {f g : Forest} → StandsFor source first kind a b f → StandFor source rest g
+        → StandFor source (also first rest) (node kind a b f g)

@@ -1,0 +1,23 @@
+-- The round trip of demand 2 as a fact about a function that calls `encode` and then `decode_udp`. Assumes nothing.
+use mathlib.Core.Path.{_≡_}
+use mathlib.Core.List.{List}
+use Prim.Native.Nat.{ℕ, _/_, _≤_}
+use lib.ListN.{length, take}
+use Rattle.types.specs.Forest.{Forest}
+use Rattle.types.specs.Records.{recordSize}
+use Rattle.encoder.specs.Osc.{packetOf}
+use Rattle.decoder.specs.declared.Decoded.{Decoded}
+use Rattle.decoder.specs.declared.Decoded.the-variants.{Packets}
+use Rattle.demands.specs.Words.{SameTable}
+use Rattle.demands.specs.Demands.{Playable}
+
+-- what comes back: the same count with nothing left over, and the same table over the bytes that were written
+pub record CameBack (t : List ℕ) (count : ℕ) (source written : List ℕ) (r : Decoded) (back : List ℕ) : Type 0 where
+  pub answer : r ≡ Packets count 0
+  pub same : SameTable source t written back count
+
+-- for every table that demand 2 speaks of, with room in both buffers
+abbrev pub Returns : List ℕ → ℕ → List ℕ → List ℕ → List ℕ → Decoded → List ℕ → List ℕ → Type 0
+Returns t count source out back r out' back' =
+    (kind a b : ℕ) (inside : Forest) → Playable t count source kind a b inside → length (packetOf source kind a b inside) ≤ length out → count ≤ length back / recordSize
+    → CameBack t count source (take (length (packetOf source kind a b inside)) out') r back'

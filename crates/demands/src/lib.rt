@@ -1,0 +1,27 @@
+// The order's demands as theorems (specs/ and proofs/), and a function that shows the round trip on lent buffers.
+use decoder::Decoded;
+use encoder::Encoded;
+ghost use Rattle.demands.specs.There.{Returns};
+
+// Writes the packet of a table and reads it back from what was written, at depth 64, as playback does.
+//
+// Ruled out: a packet that comes back with bytes left over; a text that comes back as other bytes.
+pub fn there_and_back(
+    table: &[u8],
+    count: usize,
+    source: &[u8],
+    out: &mut [u8],
+    back: &mut [u8],
+) -> Decoded
+    ensures { λ r. ⌜ Returns (now (table .entry)) count (now (source .entry)) (now (out .entry)) (now (back .entry)) r (now (out .exit)) (now (back .exit)) ⌝ }
+{
+    match encoder::encode(table, count, source, out) {
+        Encoded::Written(n) => {
+            if n <= out.len() {
+                return decoder::decode_udp(&out[0..n], back, 64);
+            }
+            Decoded::Waiting
+        }
+        Encoded::Refused(refusal) => Decoded::Refused(refusal),
+    }
+}

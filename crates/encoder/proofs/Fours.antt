@@ -1,0 +1,57 @@
+-- What the encoders write is a multiple of four bytes long. Assumes nothing.
+use mathlib.Core.Path.{_≡_, ap, _∙_}
+use mathlib.Core.Bool.{Bool, true, false, cond}
+use mathlib.Core.List.{List, _++_}
+use Prim.Native.Nat.{ℕ, _%_}
+use native.Mathlib.Omega.{arith}
+use lib.Dec.{leb}
+use lib.ListN.{length, drop}
+use Rattle.refusal.specs.declared.Refusal.{Refusal}
+use Rattle.refusal.specs.declared.Refusal.the-variants.{TooLong, Unreadable, TooDeep, BadTable, OutputShort}
+use Rattle.refusal.specs.declared.Fault.the-variants.{NotUtf8}
+use Rattle.utf8.specs.Derive.{utf8}
+use Rattle.types.specs.Forest.{Forest, nil, node, depth}
+use Rattle.encoder.specs.Osc.{oscString, packetOf}
+use Rattle.encoder.specs.Outcome.{Outcome, refuse, write, plain, prefixed, encoded, Encodes, malformed, formed, stringOutcome}
+use Rattle.encoder.specs.declared.Encoded.the-variants.{Written}
+use Rattle.encoder.proofs.Lengths.{string-even, packet-even, prefixed-even}
+
+-- an outcome that answers a count answers a multiple of four
+abbrev Even : Outcome → Type 0
+Even r = (n : ℕ) → r .answer ≡ Written n → n % 4 ≡ 0
+
+refuse-even : (x : Refusal) (out : List ℕ) → Even (refuse x out)
+refuse-even x out n e = let z : _≡_ {A = ℕ} 0 1 = cc in absurd (omega arith)
+
+cond-even : (x : Bool) (r s : Outcome) → Even r → Even s → Even (cond x r s)
+cond-even true r s p q = p
+cond-even false r s p q = q
+
+write-even : (bs out : List ℕ) → length bs % 4 ≡ 0 → Even (write bs out)
+unfolding write
+write-even bs out h =
+    let done : Outcome = record { answer = Written (length bs); out = bs ++ drop (length bs) out } in
+    cond-even (leb (length bs) 65535) (cond (leb (length bs) (length out)) done (refuse OutputShort out)) (refuse TooLong out)
+    (cond-even (leb (length bs) (length out)) done (refuse OutputShort out) (λ n e. let q : length bs ≡ n = cc in rw (← q) h) (refuse-even OutputShort out))
+    (refuse-even TooLong out)
+
+encodes-even : (frame : ℕ → List ℕ → List ℕ) → ((source : List ℕ) (kind a b : ℕ) (inside : Forest) → length (frame kind (packetOf source kind a b inside)) % 4 ≡ 0)
+    → (t : List ℕ) (count : ℕ) (source out : List ℕ) (r : Outcome) → Encodes frame t count source out r → Even r
+unfolding encoded
+encodes-even frame h t count source out r (malformed n e) = rw e (refuse-even BadTable out)
+encodes-even frame h t count source out r (formed k a b inside tree e) =
+    rw e
+    (cond-even (leb (depth (node k a b inside nil)) 64) (write (frame k (packetOf source k a b inside)) out) (refuse TooDeep out)
+    (write-even (frame k (packetOf source k a b inside)) out (h source k a b inside))
+    (refuse-even TooDeep out))
+
+pub encode-fours : (t : List ℕ) (count : ℕ) (source out : List ℕ) (r : Outcome) → Encodes plain t count source out r → (n : ℕ) → r .answer ≡ Written n → n % 4 ≡ 0
+encode-fours = encodes-even plain packet-even
+
+pub encode-tcp-fours : (t : List ℕ) (count : ℕ) (source out : List ℕ) (r : Outcome) → Encodes prefixed t count source out r → (n : ℕ) → r .answer ≡ Written n → n % 4 ≡ 0
+encode-tcp-fours = encodes-even prefixed prefixed-even
+
+pub encode-string-fours : (text out : List ℕ) (n : ℕ) → stringOutcome text out .answer ≡ Written n → n % 4 ≡ 0
+unfolding stringOutcome
+encode-string-fours text out =
+    cond-even (utf8 text) (write (oscString text) out) (refuse (Unreadable NotUtf8) out) (write-even (oscString text) out (string-even text)) (refuse-even (Unreadable NotUtf8) out)

@@ -1,0 +1,10 @@
+pub mod Lengths
+pub mod Classed
+pub mod Rows
+pub mod Arguments
+pub mod Gaps
+pub mod Packets
+pub mod Sums
+pub mod Answers
+pub mod Only
+pub mod Fours

@@ -1,0 +1,5 @@
+pub mod Osc
+pub mod Outcome
+pub mod Writers
+pub mod Measure
+pub mod Prepare

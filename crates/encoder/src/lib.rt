@@ -1,0 +1,138 @@
+// Packets back to bytes (encoder.rs).
+mod measure; // measure.rt: how long a packet will be
+mod write; // write.rt: the writers
+
+use measure::measure;
+use number::put_u32;
+use refusal::Fault;
+use refusal::Refusal;
+use table::deeper_than;
+use table::is_well_formed;
+use types::record::read_record;
+use utf8::is_utf8;
+use write::encode_packet;
+use write::encode_string_into;
+ghost use mathlib.Core.Path.{_≡_};
+ghost use Rattle.encoder.specs.Osc.{elementOf};
+ghost use Rattle.encoder.specs.Outcome.{Outcome, plain, prefixed, Encodes, stringOutcome};
+ghost use Rattle.encoder.specs.Prepare.{Sized, Writes, Prepares};
+
+// The longest result, prefix included.
+const MOST: usize = 65_535;
+
+// The longest packet that may stand after a prefix.
+const MOST_AFTER_PREFIX: usize = 65_531;
+
+// The longest text that is not too long with its NULs.
+const LONGEST_TEXT: usize = 65_531;
+
+// How deep bundles may be nested.
+const DEEPEST: usize = 64;
+
+// What an encoder answers.
+pub enum Encoded {
+    // The number of bytes written.
+    Written(usize),
+    Refused(Refusal),
+}
+
+// What is known of a packet before a byte of it is written.
+enum Prepared {
+    // Its length, or a number over 65,535 where that is over it.
+    Length(usize),
+    Refused(Refusal),
+}
+
+// Checks a table and measures its packet: 11, then 9.
+fn prepare(table: &[u8], count: usize, source: &[u8]) -> Prepared
+    ensures { λ r. ⌜ Prepares (now (table .entry)) count (now (source .entry)) r ⌝ }
+{
+    if !is_well_formed(table, count, source) {
+        return Prepared::Refused(Refusal::BadTable);
+    }
+    if deeper_than(table, count, DEEPEST) {
+        return Prepared::Refused(Refusal::TooDeep);
+    }
+    let length = measure(table, count) - 4;
+    Prepared::Length(length)
+}
+
+// Writes the packet of a table, which is n bytes long: 1, then 12.
+fn encode_into(table: &[u8], source: &[u8], n: usize, out: &mut [u8]) -> Encoded
+    requires { ⌜ Sized (now source) (now table) n ⌝ }
+    ensures { λ r. ⌜ Writes (λ bs. bs) (now (source .entry)) (now (table .entry)) (now (out .entry)) (record { answer = r; out = now (out .exit) }) ⌝ }
+{
+    if MOST < n {
+        return Encoded::Refused(Refusal::TooLong);
+    }
+    if out.len() < n {
+        return Encoded::Refused(Refusal::OutputShort);
+    }
+    Encoded::Written(encode_packet(table, 0, source, out))
+}
+
+// Writes the message of a table, which is n bytes long, after its length: 1, then 12.
+fn encode_message_tcp(table: &[u8], source: &[u8], n: usize, out: &mut [u8]) -> Encoded
+    requires { ⌜ Sized (now source) (now table) n ⌝ }
+    ensures { λ r. ⌜ Writes elementOf (now (source .entry)) (now (table .entry)) (now (out .entry)) (record { answer = r; out = now (out .exit) }) ⌝ }
+{
+    if MOST_AFTER_PREFIX < n {
+        return Encoded::Refused(Refusal::TooLong);
+    }
+    if out.len() < 4 + n {
+        return Encoded::Refused(Refusal::OutputShort);
+    }
+    put_u32(out, n as u32);
+    let written = 4 + encode_packet(table, 0, source, &mut out[4..]);
+    Encoded::Written(written)
+}
+
+// Writes the packet of a table of `count` records over the first bytes of `out`; its ranges are in `source`.
+//
+// Ruled out: an answer that counts bytes of which none is written; 12 where the packet is over 65,535 bytes, whatever the output's length.
+pub fn encode(table: &[u8], count: usize, source: &[u8], out: &mut [u8]) -> Encoded
+    ensures { λ r. ⌜ Encodes plain (now (table .entry)) count (now (source .entry)) (now (out .entry)) (record { answer = r; out = now (out .exit) }) ⌝ }
+{
+    match prepare(table, count, source) {
+        Prepared::Refused(refusal) => Encoded::Refused(refusal),
+        Prepared::Length(n) => encode_into(table, source, n, out),
+    }
+}
+
+// The same for a stream: a length stands before a message and, as in the Rust, none before a bundle.
+//
+// Ruled out: a length before a bundle; a length that counts its own four bytes.
+pub fn encode_tcp(table: &[u8], count: usize, source: &[u8], out: &mut [u8]) -> Encoded
+    ensures { λ r. ⌜ Encodes prefixed (now (table .entry)) count (now (source .entry)) (now (out .entry)) (record { answer = r; out = now (out .exit) }) ⌝ }
+{
+    match prepare(table, count, source) {
+        Prepared::Refused(refusal) => Encoded::Refused(refusal),
+        Prepared::Length(n) => {
+            let root = read_record(table, 0);
+            if root.kind == b'/' {
+                encode_message_tcp(table, source, n, out)
+            } else {
+                encode_into(table, source, n, out)
+            }
+        }
+    }
+}
+
+// Writes a text with its 1 to 4 NULs over the first bytes of `out`.
+//
+// Ruled out: a text of a multiple of 4 bytes with no NUL after it; 1 for a text that is not UTF-8, however long it is.
+pub fn encode_string(text: &[u8], out: &mut [u8]) -> Encoded
+    ensures { λ r. ⌜ _≡_ {A = Outcome} (record { answer = r; out = now (out .exit) }) (stringOutcome (now (text .entry)) (now (out .entry))) ⌝ }
+{
+    if !is_utf8(text) {
+        return Encoded::Refused(Refusal::Unreadable(Fault::NotUtf8));
+    }
+    let n = text.len();
+    if LONGEST_TEXT < n {
+        return Encoded::Refused(Refusal::TooLong);
+    }
+    if out.len() < n + (4 - n % 4) {
+        return Encoded::Refused(Refusal::OutputShort);
+    }
+    Encoded::Written(encode_string_into(text, out))
+}

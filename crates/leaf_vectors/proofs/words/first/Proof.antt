@@ -1,0 +1,19 @@
+-- `leaf_vectors::words::first` meets its contract. The part has `n` bytes, since the slice has as many.
+-- Assumes nothing.
+use mathlib.Core.Path.{sym}
+use lib.Seq.{length-take-le}
+use borrow.Author.Needs.{needs}
+use Rattle.leaf_vectors.proofs.words.first.Statement.{statement}
+use Rattle.leaf_vectors.proofs.words.first.Tie as tie
+
+slice-aggregate-result : tie.Need-slice-aggregate-result
+slice-aggregate-result c = sym (length-take-le _ _ (search needs))
+
+returns : tie.Need-returns
+returns c = search needs
+
+returns-2 : tie.Need-returns-2
+returns-2 c = search needs
+
+pub first-spec : {M : Type 1} → statement M
+first-spec = tie.close (tie.spec slice-aggregate-result returns returns-2)

@@ -1,0 +1,221 @@
+// What the leaves answer to a question.
+use crate::hex;
+use crate::hex::put_bytes;
+use crate::question;
+use crate::question::Question;
+use crate::value::put_value;
+use crate::words;
+use crate::words::Space;
+use crate::words::front;
+use crate::written::put;
+use crate::written::put_number;
+use number::Padded;
+use refusal::Refusal;
+use text::Lack;
+use text::Text;
+use types::look::Looked;
+use types::value::OscType;
+
+// The largest number of a field.
+const MOST: u64 = 0xffff_ffff;
+
+// The answer to a question whose numbers or bytes no call takes.
+fn put_out_of_range(out: &mut Space) -> usize {
+    put(out, 0, b" out of range")
+}
+
+// The number of a refusal.
+fn put_refusal(out: &mut Space, refusal: Refusal) -> usize {
+    let at = put(out, 0, b" refused");
+    put_number(out, at, refusal::number_of(refusal) as u64)
+}
+
+// Whether bytes are UTF-8.
+fn utf8_answer(out: &mut Space, bytes: &[u8]) -> usize {
+    if utf8::is_utf8(bytes) {
+        return put(out, 0, b" yes");
+    }
+    put(out, 0, b" no")
+}
+
+// The length of a character, by its first byte.
+fn lead_answer(out: &mut Space, bytes: &[u8]) -> usize {
+    if bytes.len() != 1 {
+        return put_out_of_range(out);
+    }
+    put_number(out, 0, utf8::lead(bytes[0]) as u64)
+}
+
+// The next multiple of 4.
+fn pad_answer(out: &mut Space, pos: u64) -> usize {
+    match number::pad(pos) {
+        Padded::At(x) => put_number(out, 0, x),
+        Padded::Refused(refusal) => put_refusal(out, refusal),
+    }
+}
+
+// A number, where the bytes that were written of it are those that it was read from.
+fn put_number_back(out: &mut Space, x: u64, bytes: &[u8], back: &[u8]) -> usize {
+    if check::same(bytes, back) {
+        return put_number(out, 0, x);
+    }
+    put(out, 0, b" written otherwise")
+}
+
+// The number of four bytes.
+fn u32_answer(out: &mut Space, bytes: &[u8]) -> usize {
+    if bytes.len() != 4 {
+        return put_out_of_range(out);
+    }
+    let x = number::be_u32(bytes, 0);
+    let mut back = [0xffu8; 4];
+    number::put_u32(&mut back, x);
+    put_number_back(out, x as u64, bytes, &back)
+}
+
+// The number of eight bytes.
+fn u64_answer(out: &mut Space, bytes: &[u8]) -> usize {
+    if bytes.len() != 8 {
+        return put_out_of_range(out);
+    }
+    let x = number::be_u64(bytes, 0);
+    let mut back = [0xffu8; 8];
+    number::put_u64(&mut back, x);
+    put_number_back(out, x, bytes, &back)
+}
+
+// The lengths of a text.
+fn put_found(out: &mut Space, length: usize, used: usize) -> usize {
+    let first = put(out, 0, b" found");
+    let second = put_number(out, first, length as u64);
+    put_number(out, second, used as u64)
+}
+
+// What a text lacks.
+fn put_lack(out: &mut Space, lack: Lack) -> usize {
+    match lack {
+        Lack::Nul => put(out, 0, b" lacks nul"),
+        Lack::Padding => put(out, 0, b" lacks padding"),
+        Lack::Utf8 => put(out, 0, b" lacks utf8"),
+    }
+}
+
+// The text at a position of a call's input, which has at most 65,535 bytes.
+fn text_answer(out: &mut Space, pos: u64, bytes: &[u8]) -> usize {
+    if 65_279 < pos {
+        return put_out_of_range(out);
+    }
+    if 256 < bytes.len() {
+        return put_out_of_range(out);
+    }
+    match text::read_osc_string(bytes, pos as usize) {
+        Text::Found { length, used } => put_found(out, length, used),
+        Text::Lacks(lack) => put_lack(out, lack),
+    }
+}
+
+// Whether the record at the front of a table has these fields.
+fn is_record(table: &[u8], kind: u8, end: u32, a: u32, b: u32) -> bool {
+    if types::record::capacity(table) == 0 {
+        return false;
+    }
+    let found = types::record::read_record(table, 0);
+    found.kind == kind && found.zeros == 0 && found.end == end && found.a == a && found.b == b
+}
+
+// The bytes of a record, where reading them gives its fields back. What stood there before is not 0.
+fn put_record(out: &mut Space, kind: u8, end: u32, a: u32, b: u32) -> usize {
+    let mut table = [0xffu8; 16];
+    types::record::put_record(&mut table, kind, end, a, b);
+    if is_record(&table, kind, end, a, b) {
+        return put_bytes(out, 0, &table);
+    }
+    put(out, 0, b" read otherwise")
+}
+
+// A record of any four numbers.
+fn record_answer(out: &mut Space, kind: u64, end: u64, a: u64, b: u64) -> usize {
+    if 255 < kind {
+        return put_out_of_range(out);
+    }
+    if MOST < end {
+        return put_out_of_range(out);
+    }
+    if MOST < a {
+        return put_out_of_range(out);
+    }
+    if MOST < b {
+        return put_out_of_range(out);
+    }
+    put_record(out, kind as u8, end as u32, a as u32, b as u32)
+}
+
+// A record of a table as a value.
+fn look_answer(out: &mut Space, index: u64, table: &[u8]) -> usize {
+    match types::look::look(table, index as usize) {
+        Looked::Value(value) => put_value(out, value),
+        Looked::Refused(refusal) => put_refusal(out, refusal),
+    }
+}
+
+// The text that a value names.
+fn put_text<'a>(out: &mut Space, value: OscType, packet: &'a [u8], label: &'a [u8]) -> usize {
+    put_bytes(out, 0, types::look::text_of(value, packet, label))
+}
+
+// The text that the value of a kind and two fields names.
+fn name_answer<'a>(
+    out: &mut Space,
+    kind: u64,
+    a: u64,
+    b: u64,
+    packet: &'a [u8],
+    label: &'a [u8],
+) -> usize {
+    if 255 < kind {
+        return put_out_of_range(out);
+    }
+    if MOST < a {
+        return put_out_of_range(out);
+    }
+    if MOST < b {
+        return put_out_of_range(out);
+    }
+    put_text(
+        out,
+        types::value::value_of(kind as u8, a as u32, b as u32),
+        packet,
+        label,
+    )
+}
+
+// The answer to a question about bytes, before which at most one number stands.
+fn bytes_answer(out: &mut Space, question: Question, x: u64, bytes: &[u8]) -> usize {
+    match question {
+        Question::Utf8 => utf8_answer(out, bytes),
+        Question::Lead => lead_answer(out, bytes),
+        Question::U32 => u32_answer(out, bytes),
+        Question::U64 => u64_answer(out, bytes),
+        Question::Text => text_answer(out, x, bytes),
+        Question::Look => look_answer(out, x, bytes),
+        _ => put(out, 0, b" not understood"),
+    }
+}
+
+// The answer to a question: its numbers stand first, then its bytes.
+pub fn answer(question: Question, asked: &[u8], out: &mut Space) -> usize {
+    let numbers = question::numbers(question);
+    let mut first = [0u8; 256];
+    let mut second = [0u8; 256];
+    let n = hex::bytes(words::word(asked, numbers + 1), &mut first);
+    let m = hex::bytes(words::word(asked, numbers + 2), &mut second);
+    let x = words::number(asked, 1);
+    let y = words::number(asked, 2);
+    let z = words::number(asked, 3);
+    match question {
+        Question::Pad => pad_answer(out, x),
+        Question::Record => record_answer(out, x, y, z, words::number(asked, 4)),
+        Question::Name => name_answer(out, x, y, z, front(&first, n), front(&second, m)),
+        _ => bytes_answer(out, question, x, front(&first, n)),
+    }
+}

@@ -1,0 +1,126 @@
+// Runs the leaves on vectors from outside and says which answers differ. Standard input has one vector to a line,
+// `QUESTION = ANSWER`; an empty line, and one that begins with '#', has none.
+mod words; // words.rt: a line cut into words, and a word read as a number
+mod hex; // hex.rt: bytes as hexadecimal digits, read and written
+mod written; // written.rt: an answer as text
+mod question; // question.rt: what a line asks
+mod answer; // answer.rt: what the leaves answer
+mod value; // value.rt: a value as text
+
+use question::Question;
+ghost use Prim.Native.Nat.{_<_};
+
+// The tally has for each question how many vectors there are, and, this much further, how many of them differ.
+const KINDS: usize = 10;
+
+// The place of a question in the tally.
+fn place(question: Question) -> usize
+    ensures { λ r. ⌜ r < 10 ⌝ }
+{
+    match question {
+        Question::Utf8 => 0,
+        Question::Lead => 1,
+        Question::Pad => 2,
+        Question::U32 => 3,
+        Question::U64 => 4,
+        Question::Text => 5,
+        Question::Record => 6,
+        Question::Look => 7,
+        Question::Name => 8,
+        Question::Unclear => 9,
+    }
+}
+
+// Counts one more at a place of the tally.
+fn add(tally: &mut [u64; 20], at: usize)
+    requires { ⌜ at < 20 ⌝ }
+{
+    tally[at] = std::num::wrapping_add_u64(tally[at], 1);
+}
+
+// Says what differs at a line.
+fn tell(number: u64, expected: &[u8], answered: &[u8]) {
+    io::write_all(1, b"line ");
+    io::print_decimal(1, number);
+    io::write_all(1, b": expected");
+    io::write_all(1, expected);
+    io::write_all(1, b", answered");
+    io::write_all(1, answered);
+    io::write_all(1, b"\n");
+}
+
+// Whether a line holds no vector.
+fn is_comment(line: &[u8]) -> bool {
+    if line.len() == 0 {
+        return true;
+    }
+    line[0] == b'#'
+}
+
+// Asks one line's question, and compares the answer with the one that stands there.
+fn vector(line: &[u8], number: u64, tally: &mut [u64; 20]) {
+    let equals = words::until(line, 0, b'=');
+    let asked = words::first(line, equals);
+    let expected = words::after(line, equals);
+    let question = question::question_of(asked);
+    let at = place(question);
+    let mut out = [0u8; 256];
+    let n = answer::answer(question, asked, &mut out);
+    add(tally, at);
+    if !check::same(expected, words::front(&out, n)) {
+        add(tally, KINDS + at);
+        tell(number, expected, words::front(&out, n));
+    }
+}
+
+// Asks every line of the input.
+fn run(input: &[u8], tally: &mut [u64; 20]) {
+    let mut at = 0;
+    let mut number = 0;
+    while at < input.len() {
+        let end = words::until(input, at, b'\n');
+        number += 1;
+        if !is_comment(&input[at..end]) {
+            vector(&input[at..end], number, tally);
+        }
+        at = end + 1;
+    }
+}
+
+// Says how many vectors a question has.
+fn total(name: &[u8], seen: u64, differ: u64) {
+    io::write_all(1, name);
+    io::write_all(1, b": ");
+    io::print_decimal(1, seen);
+    io::write_all(1, b" vectors, ");
+    io::print_decimal(1, differ);
+    io::write_all(1, b" differ\n");
+}
+
+// Says it of the questions about bytes and numbers.
+fn report_bytes(tally: &[u64; 20]) {
+    total(b"utf8", tally[0], tally[10]);
+    total(b"lead", tally[1], tally[11]);
+    total(b"pad", tally[2], tally[12]);
+    total(b"u32", tally[3], tally[13]);
+    total(b"u64", tally[4], tally[14]);
+}
+
+// Says it of the questions about texts and records.
+fn report_records(tally: &[u64; 20]) {
+    total(b"text", tally[5], tally[15]);
+    total(b"record", tally[6], tally[16]);
+    total(b"look", tally[7], tally[17]);
+    total(b"name", tally[8], tally[18]);
+    total(b"not understood", tally[9], tally[19]);
+}
+
+// A vector that stands past the buffer's 65,536 bytes is not read, so that its question's count differs.
+fn main() {
+    let mut space = io::large_buffer();
+    let n = io::read_full(0, &mut space);
+    let mut tally = [0u64; 20];
+    run(&space[..n], &mut tally);
+    report_bytes(&tally);
+    report_records(&tally);
+}

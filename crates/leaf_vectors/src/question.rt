@@ -1,0 +1,130 @@
+// What a line asks: a name, numbers in decimal, then bytes in hexadecimal.
+use crate::hex;
+use crate::words;
+use crate::words::Numeral;
+ghost use Prim.Native.Nat.{_≤_};
+
+pub enum Question {
+    // `utf8 BYTES`: are they UTF-8?
+    Utf8,
+    // `lead BYTE`: how many bytes has the character that begins so?
+    Lead,
+    // `pad NUMBER`: the next multiple of 4.
+    Pad,
+    // `u32 BYTES`: the number of four bytes.
+    U32,
+    // `u64 BYTES`: the number of eight bytes.
+    U64,
+    // `text POSITION BYTES`: the text that stands there.
+    Text,
+    // `record KIND END A B`: the bytes of a record.
+    Record,
+    // `look INDEX TABLE`: a record as a value.
+    Look,
+    // `name KIND A B PACKET LABEL`: the text that a value names.
+    Name,
+    // Anything else.
+    Unclear,
+}
+
+// Whether a word is a number.
+fn is_number(word: &[u8]) -> bool {
+    match words::decimal(word) {
+        Numeral::Is(_) => true,
+        Numeral::Unclear => false,
+    }
+}
+
+// Whether word `n` is a number, or for a later one bytes.
+fn is_fitting(asked: &[u8], n: usize, numbers: usize) -> bool {
+    let word = words::word(asked, n);
+    if n <= numbers {
+        return is_number(word);
+    }
+    hex::is_bytes(word)
+}
+
+// Whether a name is followed by so many numbers and words of bytes, and by nothing else.
+fn has_shape(asked: &[u8], numbers: usize, parts: usize) -> bool
+    requires { ⌜ (numbers ≤ 4) × (parts ≤ 2) ⌝ }
+{
+    let mut n = 1;
+    while n <= numbers + parts {
+        if !is_fitting(asked, n, numbers) {
+            return false;
+        }
+        n += 1;
+    }
+    words::start(asked, n) == asked.len()
+}
+
+// How many numbers a question has.
+pub fn numbers(question: Question) -> usize
+    ensures { λ r. ⌜ r ≤ 4 ⌝ }
+{
+    match question {
+        Question::Pad => 1,
+        Question::Text => 1,
+        Question::Record => 4,
+        Question::Look => 1,
+        Question::Name => 3,
+        _ => 0,
+    }
+}
+
+// How many words of bytes it has.
+fn parts(question: Question) -> usize
+    ensures { λ r. ⌜ r ≤ 2 ⌝ }
+{
+    match question {
+        Question::Pad => 0,
+        Question::Record => 0,
+        Question::Name => 2,
+        _ => 1,
+    }
+}
+
+// Whether a line asks this question, by its name.
+fn is(asked: &[u8], name: &[u8], question: Question) -> bool {
+    if check::same(words::word(asked, 0), name) {
+        return has_shape(asked, numbers(question), parts(question));
+    }
+    false
+}
+
+// The question of a line, about texts and records.
+fn record_question(asked: &[u8]) -> Question {
+    if is(asked, b"text", Question::Text) {
+        return Question::Text;
+    }
+    if is(asked, b"record", Question::Record) {
+        return Question::Record;
+    }
+    if is(asked, b"look", Question::Look) {
+        return Question::Look;
+    }
+    if is(asked, b"name", Question::Name) {
+        return Question::Name;
+    }
+    Question::Unclear
+}
+
+// The question of a line.
+pub fn question_of(asked: &[u8]) -> Question {
+    if is(asked, b"utf8", Question::Utf8) {
+        return Question::Utf8;
+    }
+    if is(asked, b"lead", Question::Lead) {
+        return Question::Lead;
+    }
+    if is(asked, b"pad", Question::Pad) {
+        return Question::Pad;
+    }
+    if is(asked, b"u32", Question::U32) {
+        return Question::U32;
+    }
+    if is(asked, b"u64", Question::U64) {
+        return Question::U64;
+    }
+    record_question(asked)
+}

@@ -1,0 +1,5 @@
+pub mod Numbers
+pub mod Multiples
+pub mod Parts
+pub mod Writers
+pub mod Only

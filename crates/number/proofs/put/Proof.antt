@@ -1,0 +1,66 @@
+-- `number::put` meets its contract. The invariant: the bytes that are to come, and what stands after them, make the whole.
+-- Assumes nothing.
+use mathlib.Core.Path.{_≡_, refl, _∙_}
+use mathlib.Core.List.{_++_}
+use Prim.Native.Nat.{_≤_, _+_, _-_}
+use native.Mathlib.Omega.{arith}
+use borrow.Author.Needs.{needs}
+use lib.ListN.{length, drop, length-set}
+use Rattle.number.specs.Number.{bytes}
+use Rattle.number.proofs.Numbers.{write-on, length-bytes}
+use Rattle.number.proofs.Writers.{wrote-bytes}
+use Rattle.number.proofs.put.Statement.{statement}
+use Rattle.number.proofs.put.Tie as tie
+
+abbrev Inv-loop : tie.InvT-loop
+Inv-loop out₀ n x left₀ i₀ out left i = (i ≤ n) × (length out ≡ length out₀) × (bytes i left ++ drop i out ≡ bytes n x ++ drop n out₀)
+
+abbrev μ-loop : tie.MeasureT-loop
+μ-loop out₀ n x left₀ i₀ out left i = i
+
+loop-holds : tie.Need-loop-holds Inv-loop μ-loop
+loop-holds c = (search needs, refl, refl)
+
+sub-i : tie.Need-sub-i Inv-loop μ-loop
+sub-i c = search needs
+
+cast-out : tie.Need-cast-out Inv-loop μ-loop
+cast-out c = search needs
+
+slice-write-out : tie.Need-slice-write-out Inv-loop μ-loop
+slice-write-out c = search needs
+
+loop-less : tie.Need-loop-less Inv-loop μ-loop
+loop-less c = search needs
+
+loop-again : tie.Need-loop-again Inv-loop μ-loop
+loop-again c =
+    let l = c .before .loop in (
+      search needs,
+      simp length-set (l .inv .1),
+      write-on (l .out) (l .i) (l .i - 1) (l .left) (omega arith) (omega arith) ∙ l .inv .2,
+    )
+
+same-length : tie.Need-same-length Inv-loop μ-loop
+same-length c = search needs
+
+returns : tie.Need-returns Inv-loop μ-loop
+unfolding bytes
+returns c =
+    let z : c .before .loop .i ≡ 0 = omega arith in
+    wrote-bytes (c .before .before .args .n) (length-bytes _ _) (search needs) (rw z at (c .before .loop .inv .2))
+
+pub put-spec : {M : Type 1} → statement M
+put-spec =
+    tie.close
+    (tie.spec
+    Inv-loop
+    μ-loop
+    loop-holds
+    sub-i
+    cast-out
+    slice-write-out
+    loop-less
+    loop-again
+    same-length
+    returns)

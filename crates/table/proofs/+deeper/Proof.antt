@@ -1,0 +1,95 @@
+-- `table::deeper` meets its contract. The loop's invariant: what is left is too deep exactly where the whole is. A call of itself has a
+-- lower limit, which is the measure; the loop's is how many records are left.
+-- Assumes nothing.
+use Prim.Native.Nat.{ℕ, _<_, _-_}
+use native.Mathlib.Omega.{arith}
+use borrow.Author.Needs.{needs}
+use borrow.Fn.Kinds.{In}
+use borrow.Fn.PlainCycle.{Measures, is, falls, and}
+use Rattle.types.specs.Forest.{Forest}
+use Rattle.types.proofs.record.read_record.Reads as read-record-reads
+use Rattle.table.specs.Tree.{Spans}
+use Rattle.table.proofs.Depths.{Passed, passed-none, passed-all, next-row, next-on, passed-other, found-here, found-inside, passed-bundle}
+use Rattle.table.proofs.deeper.Reads as deeper
+use Rattle.table.proofs.deeper.Kinds as deeper-kinds
+use Rattle.table.proofs.+deeper.Lts-deeper as deeper-lts
+use Rattle.table.proofs.+deeper.{statement}
+use Rattle.table.proofs.+deeper.Tie.{close}
+
+abbrev μ-deeper : Measures 1 deeper-kinds.ps ℕ
+μ-deeper κs a = a .1 .1 .1 .0
+
+abbrev deeper-at : ℕ → In 1 deeper-kinds.ps
+deeper-at t = and 1 deeper-kinds.ps (is 1 deeper-kinds.ps μ-deeper t) deeper.Pre
+
+abbrev deeper-below : ℕ → In 1 deeper-kinds.ps
+deeper-below t = and 1 deeper-kinds.ps (falls 1 deeper-kinds.ps _<_ μ-deeper t) deeper.Pre
+
+abbrev Inv-loop : deeper-lts.InvT-loop
+Inv-loop table lo hi limit at₀ at = (F : Forest) → Spans table lo hi F → Passed table hi limit F at
+
+abbrev μ-loop : deeper-lts.MeasureT-loop
+μ-loop table lo hi limit at₀ at = hi - at
+
+pub +deeper-spec : {M : Type 1} → statement M
++deeper-spec = close μ-deeper λ t. deeper-lts.spec (
+  read-record-reads.Asked,
+  read-record-reads.Learnt,
+  deeper-below t,
+  deeper.Post,
+)
+    (deeper-at t)
+    deeper.Post
+    Inv-loop
+    μ-loop
+    -- loop-holds
+    (λ c. λ F s. passed-none _ _ _ _ F s)
+    -- read-record-requires
+    (λ c κs. omega (arith, c .before .before .before .pre .1 .table))
+    -- cast-end
+    (λ c. search needs)
+    -- returns: a bundle where none may be
+    (λ c. λ F s.
+    let l = c .before .before .before .before .before in
+    found-here (l .before .loop .inv F s) (c .before .before .before .before .read-record .ensures) (l .loop-test .taken) (c .before .if1 .taken) (c .if2 .taken))
+    -- add-deeper
+    (λ c. search needs)
+    -- sub-deeper
+    (λ c. search needs)
+    -- deeper-requires
+    (λ c κs.
+    let g = c .before .before .before .before in
+    let l = g .before in
+    let w = l .before .before .before .pre in
+    (omega (arith, w .0, c .if2 .left), next-row (l .before .loop .inv (w .1 .forest) (w .1 .spans)) (g .read-record .ensures) (l .loop-test .taken) (w .1)))
+    -- returns-2: a bundle inside is too deep
+    (λ c. λ F s.
+    let g = c .before .before .before .before .before .before in
+    let l = g .before in
+    found-inside (l .before .loop .inv F s) (g .read-record .ensures) (l .loop-test .taken)
+    (c .before .before .before .if1 .taken) (c .before .before .if2 .left) (c .before .deeper .ensures) (c .if3 .taken))
+    -- loop-less
+    (λ c.
+    let g = c .before .before .before .before .before .before in
+    let l = g .before in
+    let w = l .before .before .before .pre .1 in
+    omega (arith, next-on (l .before .loop .inv (w .forest) (w .spans)) (g .read-record .ensures) (l .loop-test .taken)))
+    -- loop-again: past a bundle
+    (λ c. λ F s.
+    let g = c .before .before .before .before .before .before in
+    let l = g .before in
+    passed-bundle (l .before .loop .inv F s) (g .read-record .ensures) (l .loop-test .taken)
+    (c .before .before .before .if1 .taken) (c .before .before .if2 .left) (c .before .deeper .ensures) (c .if3 .left))
+    -- loop-less-2
+    (λ c.
+    let g = c .before .before .before in
+    let l = g .before in
+    let w = l .before .before .before .pre .1 in
+    omega (arith, next-on (l .before .loop .inv (w .forest) (w .spans)) (g .read-record .ensures) (l .loop-test .taken)))
+    -- loop-again-2: past any other node
+    (λ c. λ F s.
+    let g = c .before .before .before in
+    let l = g .before in
+    passed-other (l .before .loop .inv F s) (g .read-record .ensures) (l .loop-test .taken) (c .if1 .left))
+    -- returns-3
+    (λ c. λ F s. passed-all (c .before .loop .inv F s) (c .loop-test .left))

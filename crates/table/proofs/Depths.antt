@@ -1,0 +1,97 @@
+-- The walk along a row of records that looks for bundles nested too deep. Assumes nothing.
+use mathlib.Core.Path.{_≡_, refl, sym, ap, subst, _∙_}
+use mathlib.Core.Bool.{Bool, true, false}
+use mathlib.Core.List.{List}
+use Prim.Native.Nat.{ℕ, _+_, _-_, _≤_, _<_, max}
+use native.Mathlib.Omega.{arith}
+use lib.Dec.{ltb}
+use borrow.Author.Tests.{lt-ltb, le-ltb, ltb-true, ltb-false, ne-eqb}
+use Rattle.types.specs.Forest.{Forest, nil, node, level, depth}
+use Rattle.types.specs.Records.{recordAt}
+use Rattle.types.specs.declared.record.Record.{Record}
+use Rattle.table.specs.Tree.{Spans, Row}
+use Rattle.table.proofs.Spanned.{cut, no-more}
+
+-- whether the greater of two numbers is over a limit
+over-left : (limit x y : ℕ) → limit < x → ltb limit (max x y) ≡ true
+over-left limit x y h = lt-ltb limit (max x y) (omega arith)
+
+over-right : (limit x y : ℕ) → x ≤ limit → ltb limit (max x y) ≡ ltb limit y
+over-right limit x y h = go (ltb limit y) refl
+  where
+    go : (b : Bool) → ltb limit y ≡ b → ltb limit (max x y) ≡ b
+    go true e = let l : limit < y = ltb-true limit y e in lt-ltb limit (max x y) (omega arith)
+    go false e = let l : y ≤ limit = ltb-false limit y e in le-ltb limit (max x y) (omega arith)
+
+-- at `at`, what is left is too deep exactly where the whole is
+pub record Passed (t : List ℕ) (hi limit : ℕ) (F : Forest) (at : ℕ) : Type 0 where
+  pub rest : Forest
+  pub spans : Spans t at hi rest
+  pub same : ltb limit (depth F) ≡ ltb limit (depth rest)
+
+pub passed-none : (t : List ℕ) (lo hi limit : ℕ) (F : Forest) → Spans t lo hi F → Passed t hi limit F lo
+passed-none t lo hi limit F s = record { rest = F; spans = s; same = refl }
+
+pub passed-all : {t : List ℕ} {hi limit : ℕ} {F : Forest} {at : ℕ} → Passed t hi limit F at → hi ≤ at → false ≡ ltb limit (depth F)
+unfolding depth
+passed-all {t} {hi} {limit} {F} {at} p h =
+    let e : p .rest ≡ nil = no-more t at hi (p .rest) h (p .spans) in
+    sym (p .same ∙ ap (λ (G : Forest). ltb limit (depth G)) e ∙ le-ltb limit 0 (omega arith))
+
+-- the next node, as it was read: what it contains and what is left
+record Next (t : List ℕ) (hi at : ℕ) (G : Forest) (r : Record) : Type 0 where
+  inside : Forest
+  rest : Forest
+  in-spans : Spans t (at + 1) (r .end) inside
+  rest-spans : Spans t (r .end) hi rest
+  deep : depth G ≡ max (level (r .kind) (depth inside)) (depth rest)
+  on : at < r .end
+  within : r .end ≤ hi
+
+next-read : (t : List ℕ) (hi at : ℕ) (G : Forest) → at < hi → Spans t at hi G → Next t hi at G (recordAt t at)
+unfolding depth
+next-read t hi at G h s =
+    let u = cut t at hi G h s in
+    record { inside = u .inside; rest = u .rest; in-spans = u .in-spans; rest-spans = u .rest-spans; deep = ap depth (u .is); on = u .on; within = u .within }
+
+module _ {t : List ℕ} {hi limit : ℕ} {F : Forest} {at : ℕ} {r : Record} (p : Passed t hi limit F at) (e : r ≡ recordAt t at) (h : at < hi) where
+  next : Next t hi at (p .rest) r
+  next = subst (Next t hi at (p .rest)) (sym e) (next-read t hi at (p .rest) h (p .spans))
+
+  pub next-row : {lo : ℕ} → Row t lo hi → Row t (at + 1) (r .end)
+  next-row w = record { forest = next .inside; spans = next .in-spans; table = omega (arith, w .table, next .within) }
+
+  pub next-on : (at < r .end) × (r .end ≤ hi)
+  next-on = (next .on, next .within)
+
+  is-deep : ltb limit (depth F) ≡ ltb limit (max (level (r .kind) (depth (next .inside))) (depth (next .rest)))
+  is-deep = p .same ∙ ap (ltb limit) (next .deep)
+
+  -- the node is not too deep
+  passed : ((G : Forest) → Spans t (at + 1) (r .end) G → level (r .kind) (depth G) ≤ limit) → Passed t hi limit F (r .end)
+  passed low =
+      record {
+        rest = next .rest;
+        spans = next .rest-spans;
+        same = is-deep ∙ over-right limit (level (r .kind) (depth (next .inside))) (depth (next .rest)) (low (next .inside) (next .in-spans));
+      }
+
+  found : ((G : Forest) → Spans t (at + 1) (r .end) G → limit < level (r .kind) (depth G)) → true ≡ ltb limit (depth F)
+  found high =
+      sym (is-deep ∙ over-left limit (level (r .kind) (depth (next .inside))) (depth (next .rest)) (high (next .inside) (next .in-spans)))
+
+  -- no bundle
+  pub passed-other : (r .kind ≡ 35 → ⊥) → Passed t hi limit F (r .end)
+  passed-other k = passed (λ G s. rw (ne-eqb (r .kind) 35 k) (omega arith))
+
+  -- a bundle, where none may be
+  pub found-here : r .kind ≡ 35 → limit ≡ 0 → true ≡ ltb limit (depth F)
+  found-here k z = found (λ G s. rw k (omega arith))
+
+  -- a bundle whose elements are one level nearer to the limit
+  module _ (k : r .kind ≡ 35) (z : limit ≡ 0 → ⊥) {x : Bool} (d : (G : Forest) → Spans t (at + 1) (r .end) G → x ≡ ltb (limit - 1) (depth G)) where
+    pub found-inside : x ≡ true → true ≡ ltb limit (depth F)
+    found-inside y = found (λ G s. let l : limit - 1 < depth G = ltb-true (limit - 1) (depth G) (sym (d G s) ∙ y) in rw k (omega arith))
+
+    pub passed-bundle : x ≡ false → Passed t hi limit F (r .end)
+    passed-bundle y = passed (λ G s. let l : depth G ≤ limit - 1 = ltb-false (limit - 1) (depth G) (sym (d G s) ∙ y) in rw k (omega arith))

@@ -1,0 +1,18 @@
+-- `table::is_packet` meets its contract: the arms of the `match` are the list of the definition.
+-- Assumes nothing.
+use mathlib.Core.Path.{refl, sym}
+use mathlib.Core.Bool.{true}
+use mathlib.Core.List.{[], _∷_}
+use Rattle.types.proofs.Keys.{by-keys, not-among}
+use Rattle.table.specs.Formed.{isPacket}
+use Rattle.table.proofs.is_packet.Statement.{statement}
+use Rattle.table.proofs.is_packet.Tie as tie
+
+returns : tie.Need-returns
+returns c = by-keys isPacket true (35 ∷ 47 ∷ []) (refl, (refl, tt)) _ (c .match .keys1)
+
+returns-2 : tie.Need-returns-2
+returns-2 c = sym (not-among (35 ∷ 47 ∷ []) _ (c .match .rest .1))
+
+pub is-packet-spec : {M : Type 1} → statement M
+is-packet-spec = tie.close (tie.spec returns returns-2)

@@ -1,0 +1,3 @@
+pub mod Nuls
+pub mod Texts
+pub mod Only

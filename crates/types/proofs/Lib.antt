@@ -1,0 +1,6 @@
+pub mod Keys
+pub mod Floats
+pub mod Recorded
+pub mod Named
+pub mod Looks
+pub mod Only

@@ -1,0 +1,33 @@
+-- `types::value::own_rules` meets its contract. A packet's kind by its keys, any other by its sort.
+-- Assumes nothing.
+use mathlib.Core.List.{[], _∷_}
+use mathlib.Core.Bool.{true}
+use mathlib.Core.Path.{refl, _∙_, ap}
+use Prim.Native.Nat.{ℕ}
+use borrow.Author.Needs.{needs}
+use Rattle.types.specs.Value.{ownRules, argRules}
+use Rattle.types.specs.declared.tags.Sort.{Sort}
+use Rattle.types.proofs.Keys.{by-keys, not-among}
+use Rattle.types.proofs.value.own_rules.Statement.{statement}
+use Rattle.types.proofs.value.own_rules.Tie as tie
+
+sort-of-requires : tie.Need-sort-of-requires
+sort-of-requires c κs = search needs
+
+arg-rules-requires : tie.Need-arg-rules-requires
+arg-rules-requires c κs = search needs
+
+returns : tie.Need-returns
+unfolding ownRules
+returns c =
+    let a = c .before .args in
+    by-keys (λ (k : ℕ). ownRules k (a .a) (a .b)) true (35 ∷ 47 ∷ []) (refl, (refl, tt)) _ (c .match .keys1)
+
+returns-2 : tie.Need-returns-2
+unfolding ownRules
+returns-2 c =
+    let a = c .before .before .before .args in
+    rw (not-among (35 ∷ 47 ∷ []) _ (c .before .before .match .rest .1)) (c .arg-rules .ensures ∙ ap (λ (s : Sort). argRules s (a .a) (a .b)) (c .before .sort-of .ensures))
+
+pub own-rules-spec : {M : Type 1} → statement M
+own-rules-spec = tie.close (tie.spec sort-of-requires arg-rules-requires returns returns-2)

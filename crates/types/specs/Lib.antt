@@ -1,0 +1,5 @@
+pub mod Tags
+pub mod Forest
+pub mod Records
+pub mod Value
+pub mod Look

@@ -1,0 +1,65 @@
+// One record of the node table: kind (1 byte), three zero bytes, end (4), a (4), b (4), big-endian.
+use number::be_u32;
+use number::put_u32;
+ghost use mathlib.Core.Path.{_≡_};
+ghost use mathlib.Core.List.{[], _∷_};
+ghost use Prim.Native.Nat.{_+_, _*_, _/_, _≤_, _<_};
+ghost use lib.ListN.{length};
+ghost use Rattle.number.specs.Wrote.{Wrote};
+ghost use Rattle.types.specs.Records.{recordSize, recordOf, recordAt};
+
+// The bytes of a record.
+pub const RECORD_SIZE: usize = 16;
+
+// The fields of a record; `zeros` is the number of the three bytes that must be 0.
+pub struct Record {
+    pub kind: u8,
+    pub zeros: u32,
+    pub end: u32,
+    pub a: u32,
+    pub b: u32,
+}
+
+// How many records a slice has room for.
+pub fn capacity(table: &[u8]) -> usize
+    ensures { λ r. ⌜ r ≡ length (now (table .entry)) / recordSize ⌝ }
+{
+    table.len() / RECORD_SIZE
+}
+
+// Writes a kind and the three zero bytes.
+fn put_kind(table: &mut [u8], kind: u8)
+    requires { ⌜ 4 ≤ length (now table) ⌝ }
+    ensures { λ _. ⌜ Wrote (kind ∷ 0 ∷ 0 ∷ 0 ∷ []) (now (table .entry)) (now (table .exit)) ⌝ }
+{
+    table[0] = kind;
+    table[1] = 0;
+    table[2] = 0;
+    table[3] = 0;
+}
+
+// Writes a record over the first bytes of `table`.
+pub fn put_record(table: &mut [u8], kind: u8, end: u32, a: u32, b: u32)
+    requires { ⌜ recordSize ≤ length (now table) ⌝ }
+    ensures { λ _. ⌜ Wrote (recordOf kind end a b) (now (table .entry)) (now (table .exit)) ⌝ }
+{
+    put_kind(table, kind);
+    put_u32(&mut table[4..], end);
+    put_u32(&mut table[8..], a);
+    put_u32(&mut table[12..], b);
+}
+
+// Reads record `index`.
+pub fn read_record(table: &[u8], index: usize) -> Record
+    requires { ⌜ index < length (now table) / recordSize ⌝ }
+    ensures { λ r. ⌜ r ≡ recordAt (now (table .entry)) index ⌝ }
+{
+    let at = RECORD_SIZE * index;
+    Record {
+        kind: table[at],
+        zeros: be_u32(table, at) % 0x100_0000,
+        end: be_u32(table, at + 4),
+        a: be_u32(table, at + 8),
+        b: be_u32(table, at + 12),
+    }
+}

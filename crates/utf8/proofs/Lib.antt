@@ -1,0 +1,8 @@
+-- The laws of `utf8`: of its tables, of the grammar, of the automaton and of characters. Assumes nothing.
+pub mod Table
+pub mod Same
+pub mod Rules
+pub mod Grammar
+pub mod Steps
+pub mod Chars
+pub mod Only

@@ -1,0 +1,5 @@
+-- What the contracts of `utf8` say, and what its proofs cite. Assumes nothing.
+pub mod Utf8
+pub mod Derive
+pub mod States
+pub mod Lead
