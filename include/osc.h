@@ -1,0 +1,91 @@
+/* Sennorbai: Open Sound Control packets and node tables. C99 and C++17. Link with libosc.a (rt staticlib osc).
+ *
+ * No function allocates, keeps a pointer or has a state. Every pointer may be to any bytes, and a length may be 0;
+ * slices that a call may write must not overlap the others. A refusal changes no byte.
+ *
+ * A node table has records of OSC_RECORD bytes, big-endian: kind (1), three zero bytes, end (4), a (4), b (4). */
+#ifndef SENNORBAI_OSC_H
+#define SENNORBAI_OSC_H
+
+#include <stddef.h>
+#include <stdint.h>
+
+#ifdef __cplusplus
+extern "C" {
+#endif
+
+/* The bytes of a record, the longest input and result in bytes, and the deepest nesting of bundles. */
+enum { OSC_RECORD = 16, OSC_LONGEST = 65535, OSC_DEEPEST = 64 };
+
+/* The refusals, by their numbers. */
+enum {
+    OSC_TOO_LONG = 1,      /* decode input or encoded result over 65,535 bytes */
+    OSC_EMPTY = 2,         /* a packet of no bytes */
+    OSC_RUNS_OUT = 3,      /* a field, NUL, padding or TCP prefix runs past the bytes there */
+    OSC_NOT_UTF8 = 4,      /* text is not UTF-8 */
+    OSC_BAD_START = 5,     /* first string is neither '/'-led nor exactly "#bundle" */
+    OSC_NOT_OPEN = 6,      /* ']' with no array open */
+    OSC_UNKNOWN_TAG = 7,   /* unknown type tag */
+    OSC_NOT_SCALAR = 8,    /* 'c' is not a scalar number */
+    OSC_TOO_DEEP = 9,      /* bundles nested deeper than the limit */
+    OSC_TABLE_FULL = 10,   /* the result has more records than the capacity */
+    OSC_BAD_TABLE = 11,    /* table not well formed, or a record asked for does not exist */
+    OSC_OUTPUT_SHORT = 12, /* output slice shorter than the result */
+    OSC_DEPTH_LIMIT = 13,  /* depth limit over 64 */
+    OSC_PAD_OVERFLOW = 14  /* osc_pad of a position over 2^64 - 4 */
+};
+
+/* Decoders. They read `len` bytes at `msg` and write records to the `table_len` bytes at `table`.
+ * Bits 56 to 63 of the answer are the refusal's number, 0 where there is an answer; bits 32 to 55 the count of records;
+ * bits 0 to 31 the input bytes left over, which are the last ones. Waiting is count 0 with the whole input left. */
+
+/* One packet from all of a UDP packet. */
+uint64_t osc_decode_udp(const uint8_t *msg, size_t len, uint8_t *table, size_t table_len, uint64_t depth);
+
+/* The first packet of a TCP stream: a 4-byte length and a packet. It may answer Waiting. */
+uint64_t osc_decode_tcp(const uint8_t *msg, size_t len, uint8_t *table, size_t table_len, uint64_t depth);
+
+/* The packets of a TCP stream, one after another in the table. */
+uint64_t osc_decode_tcp_vec(const uint8_t *msg, size_t len, uint8_t *table, size_t table_len, uint64_t depth);
+
+/* Encoders. They write the packet of `count` records over the first bytes of `out`; ranges lie in `source`.
+ * Bits 56 to 63 of the answer are the refusal's number; bits 0 to 31 the bytes written. */
+
+/* One packet. */
+uint64_t osc_encode(const uint8_t *table, size_t table_len, uint64_t count, const uint8_t *source, size_t source_len,
+                    uint8_t *out, size_t out_len);
+
+/* One packet, with a length before a message and none before a bundle. */
+uint64_t osc_encode_tcp(const uint8_t *table, size_t table_len, uint64_t count, const uint8_t *source,
+                        size_t source_len, uint8_t *out, size_t out_len);
+
+/* A text with its 1 to 4 NULs. */
+uint64_t osc_encode_string(const uint8_t *text, size_t len, uint8_t *out, size_t out_len);
+
+/* The next multiple of 4, or OSC_PAD_OVERFLOW, which is none. */
+uint64_t osc_pad(uint64_t pos);
+
+/* The kind of a record in the low byte, by that record's own rules; bits 56 to 63 are the refusal's number. */
+uint64_t osc_look(const uint8_t *table, size_t table_len, uint64_t index);
+
+/* ---- an answer, taken apart */
+
+/* The refusal's number, 0 where there is an answer. */
+static inline unsigned osc_refusal(uint64_t answer) { return (unsigned)(answer >> 56); }
+
+/* The count of records that a decoder wrote. */
+static inline uint32_t osc_count(uint64_t answer) { return (uint32_t)(answer >> 32) & 0xFFFFFFu; }
+
+/* The input bytes that a decoder left over. */
+static inline uint32_t osc_left(uint64_t answer) { return (uint32_t)answer; }
+
+/* The bytes that an encoder wrote. */
+static inline uint32_t osc_written(uint64_t answer) { return (uint32_t)answer; }
+
+/* The kind that osc_look found. */
+static inline uint8_t osc_kind(uint64_t answer) { return (uint8_t)answer; }
+
+#ifdef __cplusplus
+}
+#endif
+#endif
