@@ -1,7 +1,9 @@
-/* Runs the decoders on hostile input under whatever stack the process has, and says how long each took against a
- * well-behaved packet of that size. Run it with a small stack: `ulimit -s 64`, or `qemu-x86_64 -s 65536`. */
+/* Runs the decoders on hostile input, on a thread whose stack has as many bytes as the first word says (65,536 where
+ * there is none), and says how long each took. A process stack would not do: an emulator may round a small one up. */
+#include <pthread.h>
 #include "../include/osc.h"
 #include <stdio.h>
+#include <stdlib.h>
 #include <string.h>
 #include <time.h>
 
@@ -62,7 +64,7 @@ static void run(const char *name, int call, size_t n) {
            osc_count(answer), osc_left(answer), us);
 }
 
-int main(void) {
+static void *all(void *unused) {
     for (int call = 0; call < 3; call++) {
         size_t from = call ? 4 : 0;
         if (call) put_u32(0, 0);
@@ -80,5 +82,14 @@ int main(void) {
         msg[n - 9] = 'x';
         run("32,000 arrays, damaged", call, n);
     }
-    return 0;
+    return unused;
+}
+
+int main(int argc, char **argv) {
+    size_t size = argc > 1 ? strtoul(argv[1], NULL, 10) : 65536;
+    pthread_attr_t attributes;
+    pthread_t thread;
+    if (pthread_attr_init(&attributes) || pthread_attr_setstacksize(&attributes, size)) return 2;
+    if (pthread_create(&thread, &attributes, all, NULL)) return 3;
+    return pthread_join(thread, NULL) ? 4 : 0;
 }
