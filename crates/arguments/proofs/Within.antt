@@ -11,6 +11,8 @@ use lib.ListN.{length, getD, take, drop}
 use lib.Seq.{getD-drop}
 use Rattle.refusal.specs.declared.Fault.the-variants.{RunsOut}
 use Rattle.number.specs.Number.{number}
+use Rattle.number.proofs.Choices.{by-test}
+use Rattle.text.proofs.Within.{found-in}
 use Rattle.number.proofs.Numbers.{number-small}
 use Rattle.types.specs.Tags.{isScalar}
 use Rattle.types.specs.declared.tags.Class.{Class}
@@ -23,30 +25,6 @@ use Rattle.arguments.specs.Argument.{argOf, having, textArg}
 use Rattle.arguments.specs.Scans.{usedOf}
 use Rattle.arguments.specs.declared.Arg.{Arg}
 use Rattle.arguments.specs.declared.Arg.the-variants.{Given, Refused}
-
--- what a test chooses between has a property if both have it, each where it is chosen
-pub by-test : {A : Type 0} (P : A → Type 0) (t : Bool) {x y : A} → (t ≡ true → P x) → (t ≡ false → P y) → P (cond t x y)
-by-test P true f g = f refl
-by-test P false f g = g refl
-
--- ---- a text lies in its part
-
-abbrev TextIn : ℕ → Text → Type 0
-TextIn m (Found n used) = (n ≤ m) × (used ≤ m)
-TextIn m (Lacks k) = Unit {0}
-
-text-within : (l : List ℕ) (p : ℕ) → TextIn (length l) (textOf l p)
-unfolding textOf
-text-within l p =
-    let n = untilNul l in
-    by-test (TextIn (length l)) (ltb n (length l))
-    (λ h. by-test (TextIn (length l)) (leb (reach p (n + 1)) (length l))
-    (λ k. by-test (TextIn (length l)) (utf8 (take n l)) (λ _. (omega (arith, ltb-true n (length l) h), leb-true (reach p (n + 1)) (length l) k)) (λ _. tt))
-    (λ _. tt))
-    (λ _. tt)
-
-pub found-within : {n used : ℕ} (l : List ℕ) (p : ℕ) → Found n used ≡ textOf l p → (n ≤ length l) × (used ≤ length l)
-found-within l p e = subst (TextIn (length l)) (sym e) (text-within l p)
 
 -- ---- what holds of the fields and of the bytes used
 
@@ -84,7 +62,7 @@ module _ (P : ℕ → ℕ → ℕ → Type 0) where
 pub given-within : {a b used : ℕ} (class : Class) (base : ℕ) (l : List ℕ) (p : ℕ) → Given a b used ≡ argOf class base l p → used ≤ length l
 given-within class base l p e =
     subst (Holds (λ a b used. used ≤ length l)) (sym e)
-    (arg-holds (λ a b used. used ≤ length l) base l p (λ h. h) (λ h. h) (omega arith) (λ n used f. found-within l p f .1) (λ h k. k) class)
+    (arg-holds (λ a b used. used ≤ length l) base l p (λ h. h) (λ h. h) (omega arith) (λ n used f. found-in l p f .1) (λ h k. k) class)
 
 -- its fields fit in 4 bytes
 pub given-fits : {a b used : ℕ} (class : Class) (base : ℕ) (l : List ℕ) (p : ℕ) → ((j : ℕ) → getD l j 0 < 256) → base + p + length l < 256 ^ 4
@@ -95,7 +73,7 @@ given-fits class base l p bytes low e =
     let m : number 4 (drop 4 l) < 256 ^ 4 = number-small 4 (drop 4 l) (λ j. rw getD-drop (bytes (4 + j))) in
     subst (Holds P) (sym e)
     (arg-holds P base l p (λ h. (n, omega arith)) (λ h. (n, m)) (omega arith, omega arith)
-    (λ k used f. (omega arith, omega (arith, found-within l p f .0))) (λ h k. (omega arith, n)) class)
+    (λ k used f. (omega arith, omega (arith, found-in l p f))) (λ h k. (omega arith, n)) class)
 
 -- ---- the offset base changes neither the bytes used nor the fault
 

@@ -22,8 +22,7 @@ use Rattle.decoder.specs.declared.frames.FrameExtent.{FrameExtent}
 use Rattle.decoder.specs.declared.frames.FrameExtent.the-variants as frame
 use Rattle.decoder.specs.declared.frames.Total.{Total}
 use Rattle.decoder.specs.declared.frames.Total.the-variants as total
-use Rattle.arguments.proofs.Within.{by-test}
-use Rattle.decoder.proofs.Tests.{by-le, by-both}
+use Rattle.number.proofs.Choices.{by-test, by-le, by-both}
 use Rattle.decoder.proofs.Within.{Within, packet-in}
 use Rattle.decoder.proofs.Prefixes.{FrameIn, frame-in}
 

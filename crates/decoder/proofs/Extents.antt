@@ -10,6 +10,7 @@ use lib.Dec.{leb, leb·zero}
 use lib.ListN.{length, take, drop}
 use Rattle.refusal.specs.declared.Fault.{Fault}
 use Rattle.refusal.specs.declared.Fault.the-variants as faults
+use Rattle.number.proofs.Choices.{by-test, by-le, by-both}
 use Rattle.number.proofs.Parts.{tail}
 use Rattle.types.specs.Forest.{Forest, nil, size, depth, level}
 use Rattle.text.specs.Text.{textOf}
@@ -25,8 +26,6 @@ use Rattle.decoder.specs.declared.heads.Start.the-variants as start
 use Rattle.decoder.specs.declared.heads.Sized.the-variants as sized
 use Rattle.decoder.specs.declared.measure.Extent.{Extent}
 use Rattle.decoder.specs.declared.measure.Extent.the-variants.{Tree, Deep, Refused}
-use Rattle.arguments.proofs.Within.{by-test}
-use Rattle.decoder.proofs.Tests.{by-le, by-both}
 use Rattle.decoder.proofs.Within.{Within, types-found}
 use Rattle.decoder.proofs.Fronts.{started, packet-start, held, element-size}
 use Rattle.decoder.proofs.Bundles.{contents, bundle-long, ended, first-trees, first-rest, Stepped, stepped, Counted, counted-start, counted-on}

@@ -12,6 +12,7 @@ use lib.ListN.{length, getD, take, drop, drop-of-length-le, length-drop, length-
 use lib.Seq.{drop-cons}
 use Rattle.refusal.specs.declared.Fault.the-variants as faults
 use Rattle.number.specs.Number.{number}
+use Rattle.number.proofs.Choices.{by-test, by-le, by-both}
 use Rattle.number.proofs.Parts.{tail}
 use Rattle.utf8.specs.Lead.{lead}
 use Rattle.utf8.specs.Derive.{utf8}
@@ -27,10 +28,8 @@ use Rattle.decoder.specs.declared.heads.Start.{Start}
 use Rattle.decoder.specs.declared.heads.Start.the-variants.{Message, Bundle, Refused}
 use Rattle.decoder.specs.declared.heads.Sized.{Sized}
 use Rattle.decoder.specs.declared.heads.Sized.the-variants.{Holds, RunsOut}
-use Rattle.arguments.proofs.Within.{by-test}
-use Rattle.decoder.proofs.Tests.{by-le, by-both}
 use Rattle.decoder.proofs.Knot.{packet-eq}
-use Rattle.decoder.proofs.Within.{found-in}
+use Rattle.text.proofs.Within.{found-in}
 
 -- ---- a packet
 

@@ -1,5 +1,6 @@
-pub mod Tests
+pub mod Chosen
 pub mod Within
+pub mod Sizes
 pub mod Prefixes
 pub mod Knot
 pub mod Fronts

@@ -9,13 +9,12 @@ use lib.ListN.{length, drop, length-drop}
 use Rattle.refusal.specs.declared.Fault.the-variants as faults
 use Rattle.number.specs.Number.{number}
 use Rattle.types.specs.Forest.{size}
-use Rattle.arguments.proofs.Within.{by-test}
 use Rattle.decoder.specs.Packet.{Out, fault, one, packet}
 use Rattle.decoder.specs.Framing.{Frame, tree, wait, stop, framed, frameOf}
 use Rattle.decoder.specs.Heads.{prefixOf}
 use Rattle.decoder.specs.declared.heads.Prefix.{Prefix}
 use Rattle.decoder.specs.declared.heads.Prefix.the-variants as prefix
-use Rattle.decoder.proofs.Tests.{by-le, by-both}
+use Rattle.number.proofs.Choices.{by-test, by-le, by-both}
 use Rattle.decoder.proofs.Within.{Within, packet-in}
 
 -- the frame with this prefix

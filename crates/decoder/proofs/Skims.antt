@@ -7,6 +7,7 @@ use native.Mathlib.Omega.{arith}
 use lib.Dec.{leb}
 use lib.ListN.{length, take, drop, length-drop}
 use Rattle.refusal.specs.declared.Fault.{Fault}
+use Rattle.number.proofs.Choices.{by-test}
 use Rattle.number.proofs.Parts.{tail}
 use Rattle.types.specs.Forest.{level, depth}
 use Rattle.decoder.specs.Packet.{Out, fault, one, Elements, upto, after, messageOf, bundleWith, filling, packet, elements}
@@ -18,7 +19,6 @@ use Rattle.decoder.specs.declared.heads.Sized.the-variants as sized
 use Rattle.decoder.specs.declared.measure.Extent.{Extent}
 use Rattle.decoder.specs.declared.measure.Extent.the-variants.{Tree, Deep, Refused}
 use Rattle.decoder.specs.declared.measure.Skimmed.the-variants.{Takes, Fails}
-use Rattle.arguments.proofs.Within.{by-test}
 use Rattle.decoder.proofs.Fronts.{started, packet-start, held, element-size}
 use Rattle.decoder.proofs.Bundles.{bundle-short, bundle-long, ended, first-used, first-in}
 use Rattle.decoder.proofs.Extents.{element-runs-out}

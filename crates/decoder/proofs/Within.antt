@@ -16,30 +16,11 @@ use Rattle.text.specs.declared.Text.the-variants.{Found, Lacks}
 use Rattle.text.specs.declared.Lack.{Lack}
 use Rattle.arguments.specs.Arguments.{Args, refused, args, argsOf}
 use Rattle.arguments.specs.Readings.{keptOf}
+use Rattle.text.proofs.Within.{TextIn, text-within, found-in}
+use Rattle.number.proofs.Choices.{by-test, by-le}
 use Rattle.arguments.proofs.Counts.{kept-few, args-within}
 use Rattle.decoder.specs.Packet.{Out, fault, one, Elements, upto, after, tagsIn, messageWith, typesThen, messageOf, same, bundleWord, bundleWith, bundleOf, filling, elementOf, joined, goOn, elementsOf, startsWith, packetOf, packetAt, elementsAt, packet, elements}
 use Rattle.decoder.specs.Readings.{bundle, element, usedBy, treesIn}
-use Rattle.arguments.proofs.Within.{by-test}
-use Rattle.decoder.proofs.Tests.{by-le}
-
--- ---- a text that was found
-
--- it lies in its part, and is UTF-8
-abbrev TextIn : List ℕ → Text → Type 0
-TextIn l (Found n used) = (n < used) × (used ≤ length l) × (utf8 (take n l) ≡ true)
-TextIn l (Lacks k) = Unit {0}
-
-text-within : (l : List ℕ) (p : ℕ) → TextIn l (textOf l p)
-unfolding textOf
-text-within l p =
-    by-test (TextIn l) (ltb (untilNul l) (length l))
-    (λ h. by-le (TextIn l) (reach p (untilNul l + 1)) (length l)
-    (λ k. by-test (TextIn l) (utf8 (take (untilNul l) l)) (λ e. (omega arith, k, e)) (λ e. tt))
-    (λ k. tt))
-    (λ h. tt)
-
-pub found-in : {n used : ℕ} (l : List ℕ) (p : ℕ) → Found n used ≡ textOf l p → (n < used) × (used ≤ length l) × (utf8 (take n l) ≡ true)
-found-in l p e = subst (TextIn l) (sym e) (text-within l p)
 
 -- ---- packets
 

@@ -14,7 +14,7 @@ use Rattle.decoder.specs.declared.Decoded.{Decoded}
 use Rattle.decoder.specs.declared.Decoded.the-variants.{Packets, Refused}
 use Rattle.demands.specs.Demands.{answer, after}
 use Rattle.types.proofs.Recorded.{length-records}
-use Rattle.demands.proofs.Choices.{by-decoded, by-trees}
+use Rattle.decoder.proofs.Chosen.{by-decoded, by-trees}
 
 -- the input is read as trees of so many nodes, and so many bytes are left
 pub record Accepted (w : Whole) (count left : ℕ) : Type 0 where

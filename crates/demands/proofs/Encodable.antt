@@ -17,11 +17,11 @@ use Rattle.decoder.specs.declared.Decoded.{Decoded}
 use Rattle.decoder.specs.declared.Decoded.the-variants.{Packets, Refused}
 use Rattle.demands.specs.Words.{Bytes}
 use Rattle.demands.specs.Demands.{after, RecordsHold, Encodable}
-use Rattle.decoder.proofs.Tests.{by-le}
+use Rattle.number.proofs.Choices.{by-le}
 use Rattle.table.proofs.Grown.{lt-or-le}
 use Rattle.table.proofs.Theorem.{tree-formed, bytes-tree}
 use Rattle.demands.proofs.Placed.{At, at-all, at-drop}
-use Rattle.demands.proofs.Choices.{by-decoded, by-trees}
+use Rattle.decoder.proofs.Chosen.{by-decoded, by-trees}
 use Rattle.demands.proofs.Answers.{accepted, after-is, no-packets}
 use Rattle.demands.proofs.Counts.{records-hold-udp, records-hold-tcp, records-hold-vec}
 use Rattle.demands.proofs.EncodableArgs.{Sound, NodeSound, sound-nil, sound-node}

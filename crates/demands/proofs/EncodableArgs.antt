@@ -27,9 +27,9 @@ use Rattle.table.specs.Formed.{part, inside, rangeOk, isPacket, allowed}
 use Rattle.table.specs.Tree.{Obeys, FieldsFit}
 use Rattle.demands.specs.Words.{Bytes}
 use Rattle.demands.specs.Osc10.{words, longs, bares}
-use Rattle.arguments.proofs.Within.{by-test, given-within, given-fits}
-use Rattle.decoder.proofs.Tests.{by-le}
-use Rattle.decoder.proofs.Within.{found-in}
+use Rattle.number.proofs.Choices.{by-test, by-le}
+use Rattle.arguments.proofs.Within.{given-within, given-fits}
+use Rattle.text.proofs.Within.{found-in}
 use Rattle.demands.proofs.Placed.{At, at-take, at-on, at-bytes, range-at}
 use Rattle.demands.proofs.OscTags.{of-among, HasTag, HasSort, has-sort}
 

@@ -16,11 +16,10 @@ use Rattle.arguments.specs.Arguments.{Args, refused, args, argsOf}
 use Rattle.decoder.specs.Packet.{Out, fault, one, Elements, upto, after, tagsIn, messageWith, typesThen, messageOf, same, bundleWord, bundleWith, bundleOf, filling, elementOf, joined, goOn, elementsOf, startsWith, packetOf, packetAt, elementsAt, packet}
 use Rattle.table.specs.Formed.{rangeOk, allowed}
 use Rattle.demands.specs.Words.{Bytes}
+use Rattle.number.proofs.Choices.{by-test, by-le}
 use Rattle.number.proofs.Numbers.{number-small}
-use Rattle.decoder.proofs.Tests.{by-le}
-use Rattle.decoder.proofs.Within.{found-in}
+use Rattle.text.proofs.Within.{found-in}
 use Rattle.demands.proofs.Placed.{At, at-take, at-on, at-bytes, bytes-drop}
-use Rattle.arguments.proofs.Within.{by-test}
 use Rattle.demands.proofs.EncodableArgs.{Sound, NodeSound, sound-nil, sound-node, text-range, args-sound}
 
 -- ---- what was read is sound

@@ -1,4 +1,3 @@
-pub mod Choices
 pub mod Answers
 pub mod Counts
 pub mod Room

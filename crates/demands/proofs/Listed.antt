@@ -22,9 +22,8 @@ use Rattle.decoder.specs.declared.Decoded.{Decoded}
 use Rattle.encoder.specs.Osc.{oscString, packetOf}
 use Rattle.encoder.specs.Outcome.{Outcome, write, encoded, Encodes, malformed, formed, stringOutcome}
 use Rattle.demands.specs.Calls.{decode-udp, decode-tcp, decode-tcp-vec, encode, encode-tcp, encode-string, pad, look, text-of, byDecoded, byEncoded, byPadded, byLooked, decodeOrder, encodeOrder, numbersOf, Listed, AnswersListed}
-use Rattle.decoder.proofs.Tests.{by-le}
-use Rattle.arguments.proofs.Within.{by-test}
-use Rattle.demands.proofs.Choices.{by-decoded, by-trees}
+use Rattle.number.proofs.Choices.{by-test, by-le}
+use Rattle.decoder.proofs.Chosen.{by-decoded, by-trees}
 
 -- ---- decoders
 

@@ -16,8 +16,8 @@ use Rattle.decoder.specs.Limits.{decoded, forestOf}
 use Rattle.decoder.specs.declared.Decoded.the-variants.{Packets}
 use Rattle.demands.specs.Words.{Continues, message, bundle, Unlimited}
 use Rattle.demands.specs.Demands.{answer, GoesOn, MoreBytes}
-use Rattle.decoder.proofs.Tests.{by-le}
-use Rattle.demands.proofs.Choices.{by-decoded, by-trees}
+use Rattle.number.proofs.Choices.{by-le}
+use Rattle.decoder.proofs.Chosen.{by-decoded, by-trees}
 use Rattle.demands.proofs.Answers.{accepted, after-is, after-records}
 use Rattle.demands.proofs.LongerArguments.{number-longer}
 use Rattle.demands.proofs.LongerPackets.{Grows, was-refused, same-message, longer-bundle, packet-grows}

@@ -24,8 +24,8 @@ use Rattle.arguments.specs.Argument.{having, textArg, argOf}
 use Rattle.arguments.specs.Arguments.{Args, refused, args, later, taken, act, readArgs, argsOf}
 use Rattle.arguments.specs.declared.Arg.{Arg}
 use Rattle.arguments.specs.declared.Arg.the-variants.{Given, Refused}
-use Rattle.arguments.proofs.Within.{by-test, given-within}
-use Rattle.decoder.proofs.Tests.{by-le}
+use Rattle.number.proofs.Choices.{by-test, by-le}
+use Rattle.arguments.proofs.Within.{given-within}
 
 -- what was accepted stays
 abbrev pub KeptText : Text → Text → Type 0

@@ -17,11 +17,10 @@ use Rattle.arguments.specs.Arguments.{Args, refused, args, argsOf}
 use Rattle.decoder.specs.Packet.{Out, fault, one, Elements, upto, after, tagsIn, messageWith, typesThen, messageOf, same, bundleWord, bundleWith, bundleOf, filling, elementOf, startsWith, packetOf, packet, elements}
 use Rattle.decoder.specs.Readings.{bundle, element, treesIn}
 use Rattle.demands.specs.Words.{Begins, none, also}
-use Rattle.decoder.proofs.Tests.{by-le, by-both}
+use Rattle.number.proofs.Choices.{by-eq, by-le, by-both}
 use Rattle.decoder.proofs.Knot.{packet-eq}
-use Rattle.decoder.proofs.Within.{found-in}
+use Rattle.text.proofs.Within.{found-in}
 use Rattle.decoder.proofs.Bundles.{ended, first-trees, first-in}
-use Rattle.demands.proofs.Choices.{by-eq}
 use Rattle.demands.proofs.LongerArguments.{KeptText, KeptArgs, number-longer, text-longer, args-longer}
 
 -- a message is the same and takes as many bytes; a bundle keeps its time tag and begins with the same elements

@@ -11,8 +11,8 @@ use Rattle.types.specs.declared.tags.Class.{Class}
 use Rattle.types.specs.declared.tags.Class.the-variants.{Four, Eight, Bare, Text, Blob, Scalar, Unknown}
 use Rattle.types.specs.declared.tags.Sort.{Sort}
 use Rattle.types.specs.declared.tags.Sort.the-variants.{Opens, Closes, Leaf}
-use Rattle.arguments.proofs.Within.{by-test}
 use Rattle.demands.specs.Osc10.{Atom, word, long, bare, string, blob, char, words, longs, bares, AtomAllowed, tagOf}
+use Rattle.number.proofs.Choices.{by-test}
 
 -- ---- one of a list
 

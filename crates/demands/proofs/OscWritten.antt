@@ -13,9 +13,9 @@ use Rattle.encoder.specs.Osc.{packetOf}
 use Rattle.encoder.specs.Outcome.{Outcome, Encodes, malformed, formed, plain, encoded, write}
 use Rattle.encoder.specs.declared.Encoded.the-variants.{Written}
 use Rattle.demands.specs.Standards.{Osc10Written}
+use Rattle.number.proofs.Choices.{by-test}
 use Rattle.table.proofs.Theorem.{tree-formed, tree-unique}
 use Rattle.demands.proofs.OscSpelled.{packet-is}
-use Rattle.arguments.proofs.Within.{by-test}
 use Rattle.demands.proofs.Tables.{spans-fit}
 
 -- the outcome is that of the table's tree

@@ -16,8 +16,7 @@ use Rattle.encoder.specs.Outcome.{Outcome, write, encoded, Encodes, malformed, 
 use Rattle.encoder.specs.Osc.{oscString, packetOf}
 use Rattle.demands.specs.Calls.{Call, decode-udp, decode-tcp, decode-tcp-vec, encode, encode-tcp, encode-string, pad, look, text-of, Ending, Decodes, Answer, Lent, result, byDecoded, byEncoded, Settled, Met, NothingChanged}
 use Rattle.demands.specs.Demands.{answer, after}
-use Rattle.decoder.proofs.Tests.{by-le}
-use Rattle.arguments.proofs.Within.{by-test}
+use Rattle.number.proofs.Choices.{by-test, by-le}
 use Rattle.table.proofs.Theorem.{formed-tree, tree-formed, tree-unique}
 
 -- ---- no second ending

@@ -10,7 +10,7 @@ use Rattle.decoder.specs.Framing.{Whole, trees, waiting, refusal}
 use Rattle.decoder.specs.Limits.{limited, decoded}
 use Rattle.demands.specs.Words.{NotFull}
 use Rattle.demands.specs.Demands.{MoreRoom}
-use Rattle.demands.proofs.Choices.{by-decoded, by-trees}
+use Rattle.decoder.proofs.Chosen.{by-decoded, by-trees}
 use Rattle.demands.proofs.Answers.{after-records}
 
 module _ {capacity capacity' limit limit' : ℕ} (c : capacity ≤ capacity') (d : limit ≤ limit') where

@@ -1,3 +1,4 @@
+pub mod Choices
 pub mod Numbers
 pub mod Multiples
 pub mod Parts

@@ -1,3 +1,4 @@
 pub mod Nuls
 pub mod Texts
+pub mod Within
 pub mod Only

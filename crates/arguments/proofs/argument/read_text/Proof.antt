@@ -3,7 +3,7 @@
 use mathlib.Core.Path.{sym, _∙_}
 use native.Mathlib.Omega.{arith}
 use Rattle.arguments.proofs.Argued.{text-given, text-lacks}
-use Rattle.arguments.proofs.Within.{found-within}
+use Rattle.text.proofs.Within.{found-in}
 use borrow.Author.Needs.{needs}
 use Rattle.arguments.proofs.argument.read_text.Statement.{statement}
 use Rattle.arguments.proofs.argument.read_text.Tie as tie
@@ -21,7 +21,7 @@ cast-t10 : tie.Need-cast-t10
 cast-t10 c = search needs
 
 cast-t11 : tie.Need-cast-t11
-cast-t11 c = omega (arith, found-within _ _ (sym (c .before .length .given .1) ∙ c .before .before .before .read-osc-string .ensures))
+cast-t11 c = omega (arith, found-in _ _ (sym (c .before .length .given .1) ∙ c .before .before .before .read-osc-string .ensures))
 
 enum-known-lack : tie.Need-enum-known-lack
 enum-known-lack c = search needs

@@ -3,7 +3,8 @@
 use Rattle.number.proofs.Parts.{tail, length-lent}
 use Rattle.decoder.proofs.Fills.{args-room, args-refused, message-fills, fills-none}
 use Rattle.decoder.proofs.Fronts.{types-tags, args-fit}
-use Rattle.decoder.proofs.Within.{found-in, types-lack}
+use Rattle.text.proofs.Within.{found-in}
+use Rattle.decoder.proofs.Within.{types-lack}
 use Rattle.arguments.proofs.Counts.{measured-within, measured-room}
 use Rattle.number.proofs.Writers.{wrote-length}
 use lib.ListN.{length-drop}

@@ -1,7 +1,7 @@
 -- `decoder::heads::read_start` meets its contract. Each answer is a case of `startOf`.
 -- Assumes nothing.
 use Rattle.decoder.proofs.Fronts.{start-empty, start-message, start-bundle, start-other, start-lacks, is-word}
-use Rattle.decoder.proofs.Within.{found-in}
+use Rattle.text.proofs.Within.{found-in}
 use Rattle.decoder.specs.declared.heads.Start.the-variants.{Refused}
 use native.Mathlib.Omega.{arith}
 use mathlib.Core.Path.{ap, sym, _∙_}

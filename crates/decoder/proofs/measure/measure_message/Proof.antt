@@ -2,7 +2,8 @@
 -- Assumes nothing.
 use Rattle.decoder.proofs.Extents.{refused-is, message-exit}
 use Rattle.decoder.proofs.Fronts.{types-tags, args-fit}
-use Rattle.decoder.proofs.Within.{found-in, types-lack}
+use Rattle.text.proofs.Within.{found-in}
+use Rattle.decoder.proofs.Within.{types-lack}
 use Rattle.decoder.specs.declared.measure.Extent.the-variants.{Refused}
 use Rattle.arguments.proofs.Counts.{measured-within}
 use Rattle.number.proofs.Parts.{tail}

@@ -1,22 +1,15 @@
 -- What holds of every answer of a decoder, each where it is chosen. Assumes nothing.
 use mathlib.Core.Path.{_≡_}
-use mathlib.Core.Bool.{cond}
 use mathlib.Core.List.{List}
 use Prim.Native.Nat.{ℕ, _<_, _≤_}
-use borrow.Author.Tests.{eqb-true, eqb-false}
-use lib.Dec.{eqb}
 use lib.ListN.{length}
 use Rattle.refusal.specs.declared.Refusal.the-variants.{TooLong, TooDeep, TableFull, DepthLimit}
 use Rattle.types.specs.Forest.{Forest, size, depth}
+use Rattle.number.proofs.Choices.{by-le}
 use Rattle.decoder.specs.Framing.{Whole, trees}
 use Rattle.decoder.specs.Limits.{limited, decoded}
 use Rattle.decoder.specs.declared.Decoded.{Decoded}
 use Rattle.decoder.specs.declared.Decoded.the-variants.{Packets, Refused}
-use Rattle.arguments.proofs.Within.{by-test}
-use Rattle.decoder.proofs.Tests.{by-le}
-
-pub by-eq : {A : Type 0} (P : A → Type 0) (a b : ℕ) {x y : A} → (a ≡ b → P x) → ((a ≡ b → ⊥) → P y) → P (cond (eqb a b) x y)
-by-eq P a b f g = by-test P (eqb a b) (λ e. f (eqb-true a b e)) (λ e. g (eqb-false a b e))
 
 module _ (P : Decoded → Type 0) where
   -- 13, then 1, then what the rule gives

@@ -1,0 +1,81 @@
+-- Every tree takes at least as many bytes as it has nodes, and what is left comes after them. Assumes nothing.
+use Prim.Native.Nat.{ℕ, zero, suc, _+_, _-_, _≤_}
+use mathlib.Core.List.{List}
+use native.Mathlib.Omega.{arith}
+use lib.ListN.{length, drop, length-drop}
+use Rattle.number.specs.Number.{number}
+use Rattle.types.specs.Forest.{Forest, size}
+use Rattle.number.proofs.Choices.{by-le}
+use Rattle.decoder.specs.Packet.{Out, fault, one, packet}
+use Rattle.decoder.specs.Framing.{Whole, trees, waiting, refusal, single, udp, Frame, tree, wait, stop, framed, frameOf, first, tcp, before, afterFrame, framesAt, frames, tcpVec}
+use Rattle.decoder.proofs.Within.{Within, packet-in}
+
+-- m bytes give no more nodes than they have, less those that are left
+abbrev pub WholeIn : ℕ → Whole → Type 0
+WholeIn m (trees f left) = size f + left ≤ m
+WholeIn m waiting = Unit {0}
+WholeIn m (refusal k) = Unit {0}
+
+-- a frame's prefix gives no node
+abbrev FrameIn : ℕ → Frame → Type 0
+FrameIn m (tree kind a b f used) = (5 + size f ≤ used) × (used ≤ m)
+FrameIn m wait = Unit {0}
+FrameIn m (stop k) = Unit {0}
+
+-- ---- one packet
+
+single-in : (n : ℕ) (o : Out) → Within n o → WholeIn n (single n o)
+unfolding size
+single-in n (fault k) w = tt
+single-in n (one kind a b f used) w = omega arith
+
+pub udp-in : (msg : List ℕ) → WholeIn (length msg) (udp msg)
+unfolding udp
+udp-in msg = single-in (length msg) (packet 0 msg 0) (packet-in 0 msg 0)
+
+framed-in : (n : ℕ) (o : Out) → 4 ≤ n → Within (n - 4) o → FrameIn n (framed o)
+framed-in n (fault k) h w = tt
+framed-in n (one kind a b f used) h w = omega arith
+
+frame-in : (base : ℕ) (l : List ℕ) → FrameIn (length l) (frameOf base l)
+unfolding frameOf
+frame-in base l =
+    by-le (FrameIn (length l)) 4 (length l)
+    (λ h. by-le (FrameIn (length l)) (number 4 l) (length l) (λ k. framed-in (length l) (packet base (drop 4 l) 4) h (rw length-drop at (packet-in base (drop 4 l) 4))) (λ k. tt))
+    (λ h. tt)
+
+first-in : (n : ℕ) (x : Frame) → FrameIn n x → WholeIn n (first n x)
+unfolding size
+first-in n (tree kind a b f used) w = omega arith
+first-in n wait w = tt
+first-in n (stop k) w = tt
+
+pub tcp-in : (msg : List ℕ) → WholeIn (length msg) (tcp msg)
+unfolding tcp
+tcp-in msg = first-in (length msg) (frameOf 0 msg) (frame-in 0 msg)
+
+-- ---- a list of packets
+
+before-in : (kind a b : ℕ) (f : Forest) (m n : ℕ) (x : Whole) → 1 + size f + m ≤ n → WholeIn m x → WholeIn n (before kind a b f x)
+unfolding size
+before-in kind a b f m n (trees g left) h w = omega arith
+before-in kind a b f m n waiting h w = tt
+before-in kind a b f m n (refusal k) h w = tt
+
+after-in : (go : ℕ → List ℕ → Whole) (base : ℕ) (l : List ℕ) (x : Frame) → ((q : ℕ) (m : List ℕ) → WholeIn (length m) (go q m)) → FrameIn (length l) x
+    → WholeIn (length l) (afterFrame go base l x)
+unfolding size
+after-in go base l (stop k) h w = tt
+after-in go base l wait h w = omega arith
+after-in go base l (tree kind a b f used) h w =
+    by-le (WholeIn (length l)) (length l) used (λ g. omega arith)
+    (λ g. before-in kind a b f (length (drop used l)) (length l) (go (base + used) (drop used l)) (omega (arith, length-drop used l)) (h (base + used) (drop used l)))
+
+frames-in : (n base : ℕ) (l : List ℕ) → WholeIn (length l) (framesAt n base l)
+unfolding framesAt
+frames-in zero base l = tt
+frames-in (suc n) base l = after-in _ base l (frameOf base l) (λ q m. frames-in n q m) (frame-in base l)
+
+pub vec-in : (msg : List ℕ) → WholeIn (length msg) (tcpVec msg)
+unfolding tcpVec frames
+vec-in msg = frames-in (suc (length msg)) 0 msg

@@ -1,0 +1,22 @@
+-- What holds of a choice by a test, and of two choices by one test. Assumes nothing.
+use mathlib.Core.Path.{_≡_, refl}
+use mathlib.Core.Bool.{Bool, true, false, cond}
+use Prim.Native.Nat.{ℕ, _<_, _≤_}
+use borrow.Author.Tests.{eqb-true, eqb-false, leb-true, leb-false}
+use lib.Dec.{eqb, leb}
+
+-- what a test chooses between has a property if both have it, each where it is chosen
+pub by-test : {A : Type 0} (P : A → Type 0) (t : Bool) {x y : A} → (t ≡ true → P x) → (t ≡ false → P y) → P (cond t x y)
+by-test P true f g = f refl
+by-test P false f g = g refl
+
+pub by-eq : {A : Type 0} (P : A → Type 0) (a b : ℕ) {x y : A} → (a ≡ b → P x) → ((a ≡ b → ⊥) → P y) → P (cond (eqb a b) x y)
+by-eq P a b f g = by-test P (eqb a b) (λ e. f (eqb-true a b e)) (λ e. g (eqb-false a b e))
+
+pub by-le : {A : Type 0} (P : A → Type 0) (a b : ℕ) {x y : A} → (a ≤ b → P x) → (b < a → P y) → P (cond (leb a b) x y)
+by-le P a b f g = by-test P (leb a b) (λ e. f (leb-true a b e)) (λ e. g (leb-false a b e))
+
+-- a relation between the results of two choices by one test
+pub by-both : {A B : Type 0} (R : A → B → Type 0) (t : Bool) {x y : A} {x' y' : B} → R x x' → R y y' → R (cond t x y) (cond t x' y')
+by-both R true f g = f
+by-both R false f g = g
