@@ -1,0 +1,90 @@
+-- An answer is taken apart as include/osc.h does it: the three parts of a decoder's number, and the two of an encoder's, are what was put
+-- into it, so no two answers have one number. Assumes nothing.
+use mathlib.Core.Path.{_≡_, sym, subst}
+use mathlib.Core.List.{List}
+use Prim.Native.Nat.{ℕ, _+_, _*_, _/_, _%_, _<_, _≤_}
+use native.Mathlib.Omega.{arith}
+use lib.ListN.{length}
+use Rattle.refusal.specs.Refusal.{numberOf}
+use Rattle.refusal.specs.declared.Refusal.{Refusal}
+use Rattle.number.proofs.Choices.{by-test, by-le}
+use Rattle.utf8.specs.Derive.{utf8}
+use Rattle.types.specs.Forest.{Forest, nil, node, depth}
+use Rattle.decoder.specs.declared.Decoded.{Decoded}
+use Rattle.decoder.specs.declared.Decoded.the-variants as decodes
+use Rattle.encoder.specs.Osc.{oscString, packetOf}
+use Rattle.encoder.specs.Outcome.{Outcome, write, encoded, Encodes, malformed, formed, stringOutcome}
+use Rattle.encoder.specs.declared.Encoded.{Encoded}
+use Rattle.encoder.specs.declared.Encoded.the-variants as encodes
+use Rattle.osc.specs.Answers.{decodedNumber, Fits, encodedNumber, Tells}
+
+-- `osc_refusal`: bits 56 to 63
+abbrev pub refusalIn : ℕ → ℕ
+refusalIn x = x / 0x100_0000_0000_0000
+
+-- `osc_count`: bits 32 to 55
+abbrev pub countIn : ℕ → ℕ
+countIn x = x / 0x1_0000_0000 % 0x100_0000
+
+-- `osc_left`, `osc_written`: bits 0 to 31
+abbrev pub lowIn : ℕ → ℕ
+lowIn x = x % 0x1_0000_0000
+
+-- what the parts of a decoder's number say of its answer to n bytes
+abbrev pub Parts : ℕ → Decoded → ℕ → Type 0
+Parts n (decodes.Packets count left) x = (refusalIn x ≡ 0) × (countIn x ≡ count) × (lowIn x ≡ left)
+Parts n decodes.Waiting x = (refusalIn x ≡ 0) × (countIn x ≡ 0) × (lowIn x ≡ n)
+Parts n (decodes.Refused r) x = (refusalIn x ≡ numberOf r) × (countIn x ≡ 0) × (lowIn x ≡ 0)
+
+pub decoded-apart : (n : ℕ) (answer : Decoded) → Fits n answer → Parts n answer (decodedNumber n answer)
+decoded-apart n (decodes.Packets count left) h = (omega arith, omega arith, omega arith)
+decoded-apart n decodes.Waiting h = (omega arith, omega arith, omega arith)
+decoded-apart n (decodes.Refused r) h = (omega arith, omega arith, omega arith)
+
+-- ---- an encoder's number
+
+-- no encoder writes more than 65,535 bytes
+abbrev Small : Encoded → Type 0
+Small (encodes.Written n) = n ≤ 65535
+Small (encodes.Refused r) = Unit {0}
+
+write-small : (bs out : List ℕ) → Small (write bs out .answer)
+unfolding write
+write-small bs out =
+    by-le (λ (o : Outcome). Small (o .answer)) (length bs) 65535
+    (λ h. by-le (λ (o : Outcome). Small (o .answer)) (length bs) (length out) (λ k. h) (λ k. tt))
+    (λ h. tt)
+
+encoded-small : (frame : ℕ → List ℕ → List ℕ) (source out : List ℕ) (kind a b : ℕ) (inside : Forest) → Small (encoded frame source out kind a b inside .answer)
+unfolding encoded
+encoded-small frame source out kind a b inside =
+    by-le (λ (o : Outcome). Small (o .answer)) (depth (node kind a b inside nil)) 64 (λ h. write-small (frame kind (packetOf source kind a b inside)) out) (λ h. tt)
+
+encodes-small : {frame : ℕ → List ℕ → List ℕ} {table : List ℕ} {count : ℕ} {source out : List ℕ} {r : Outcome} → Encodes frame table count source out r → Small (r .answer)
+encodes-small (malformed n e) = subst (λ (o : Outcome). Small (o .answer)) (sym e) tt
+encodes-small {frame} {table} {count} {source} {out} (formed kind a b inside tree e) =
+    subst (λ (o : Outcome). Small (o .answer)) (sym e) (encoded-small frame source out kind a b inside)
+
+string-small : (text out : List ℕ) → Small (stringOutcome text out .answer)
+unfolding stringOutcome
+string-small text out = by-test (λ (o : Outcome). Small (o .answer)) (utf8 text) (λ h. write-small (oscString text) out) (λ h. tt)
+
+-- what the parts of an encoder's number say of its answer
+abbrev pub EncodedParts : Encoded → ℕ → Type 0
+EncodedParts (encodes.Written n) x = (refusalIn x ≡ 0) × (lowIn x ≡ n)
+EncodedParts (encodes.Refused r) x = (refusalIn x ≡ numberOf r) × (lowIn x ≡ 0)
+
+encoded-apart : (answer : Encoded) → Small answer → EncodedParts answer (encodedNumber answer)
+encoded-apart (encodes.Written n) h = (omega arith, omega arith)
+encoded-apart (encodes.Refused r) h = (omega arith, omega arith)
+
+-- of `osc_encode` and `osc_encode_tcp`
+pub told-apart : (frame : ℕ → List ℕ → List ℕ) (table : List ℕ) (count : ℕ) (source out₀ : List ℕ) (told : ℕ) (out : List ℕ)
+    → (t : Tells (Encodes frame table count source out₀) told out) → EncodedParts (t .answer) told
+told-apart frame table count source out₀ told out t = subst (EncodedParts (t .answer)) (sym (t .number)) (encoded-apart (t .answer) (encodes-small (t .outcome)))
+
+-- of `osc_encode_string`
+pub string-told-apart : (text out₀ : List ℕ) (told : ℕ) (out : List ℕ) → (t : Tells (λ o. o ≡ stringOutcome text out₀) told out) → EncodedParts (t .answer) told
+string-told-apart text out₀ told out t =
+    subst (EncodedParts (t .answer)) (sym (t .number))
+    (encoded-apart (t .answer) (subst (λ (o : Outcome). Small (o .answer)) (sym (t .outcome)) (string-small text out₀)))

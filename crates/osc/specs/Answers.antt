@@ -1,0 +1,74 @@
+-- The C boundary: every answer as one number of 64 bits, as include/osc.h has it. Assumes nothing.
+use mathlib.Core.Path.{_≡_}
+use mathlib.Core.Bool.{cond}
+use mathlib.Core.List.{List}
+use Prim.Native.Nat.{ℕ, _+_, _*_, _≤_}
+use Rattle.refusal.specs.Refusal.{numberOf}
+use Rattle.refusal.specs.declared.Refusal.{Refusal}
+use Rattle.number.specs.declared.Padded.{Padded}
+use Rattle.number.specs.declared.Padded.the-variants as padded
+use Rattle.types.specs.declared.value.OscType.{OscType}
+use Rattle.types.specs.declared.value.OscType.the-variants as value
+use Rattle.types.specs.declared.look.Looked.{Looked}
+use Rattle.types.specs.declared.look.Looked.the-variants as looked
+use Rattle.decoder.specs.declared.Decoded.{Decoded}
+use Rattle.decoder.specs.declared.Decoded.the-variants as decodes
+use Rattle.encoder.specs.Outcome.{Outcome}
+use Rattle.encoder.specs.declared.Encoded.{Encoded}
+use Rattle.encoder.specs.declared.Encoded.the-variants as encodes
+
+-- a refusal: its number in bits 56 to 63, and nothing below
+abbrev pub refusalNumber : Refusal → ℕ
+refusalNumber r = numberOf r * 0x100_0000_0000_0000
+
+-- a decoder's answer to n bytes: the count in bits 32 to 55, the bytes left in bits 0 to 31; Waiting is count 0 with the whole input left
+abbrev pub decodedNumber : ℕ → Decoded → ℕ
+decodedNumber n (decodes.Packets count left) = count * 0x1_0000_0000 + left
+decodedNumber n decodes.Waiting = n
+decodedNumber n (decodes.Refused r) = refusalNumber r
+
+-- what an answer to n bytes holds has room in those bits
+abbrev pub Fits : ℕ → Decoded → Type 0
+Fits n (decodes.Packets count left) = (count ≤ 65535) × (left ≤ 65535)
+Fits n decodes.Waiting = n ≤ 65535
+Fits n (decodes.Refused r) = Unit {0}
+
+-- an encoder's answer: the bytes written in bits 0 to 31
+abbrev pub encodedNumber : Encoded → ℕ
+encodedNumber (encodes.Written n) = n
+encodedNumber (encodes.Refused r) = refusalNumber r
+
+-- an encoder's call: it has an outcome of the kind asked for, and what is told is that outcome's answer
+pub record Tells (Outcomes : Outcome → Type 0) (told : ℕ) (out : List ℕ) : Type 0 where
+  pub answer : Encoded
+  pub outcome : Outcomes (record { answer = answer; out = out })
+  pub number : told ≡ encodedNumber answer
+
+-- `pad`: the position, or 14
+abbrev pub paddedNumber : Padded → ℕ
+paddedNumber (padded.At pos) = pos
+paddedNumber (padded.Refused r) = numberOf r
+
+-- the kind of a value: document 01's table of kinds
+abbrev pub kindOf : OscType → ℕ
+kindOf (value.Message offset n) = 47
+kindOf (value.Bundle t) = 35
+kindOf (value.Int n) = 105
+kindOf (value.Float x v) = 102
+kindOf (value.String offset n) = 115
+kindOf (value.Blob offset n) = 98
+kindOf (value.Time t) = 116
+kindOf (value.Long n) = 104
+kindOf (value.Double x v) = 100
+kindOf (value.Char x) = 99
+kindOf (value.Color x) = 114
+kindOf (value.Midi x) = 109
+kindOf (value.Bool truth) = cond truth 84 70
+kindOf value.Nil = 78
+kindOf value.Inf = 73
+kindOf value.Array = 91
+
+-- `look`: the kind in the low byte
+abbrev pub lookedNumber : Looked → ℕ
+lookedNumber (looked.Value v) = kindOf v
+lookedNumber (looked.Refused r) = refusalNumber r
