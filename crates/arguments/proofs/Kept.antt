@@ -31,7 +31,7 @@ later-none : (o : Args) → later 0 o ≡ o
 later-none (refused fault) = refl
 later-none (args kept used) = ap (args kept) (omega arith)
 
-later-later : (m n : ℕ) (o : Args) → later m (later n o) ≡ later (m + n) o
+pub later-later : (m n : ℕ) (o : Args) → later m (later n o) ≡ later (m + n) o
 later-later m n (refused fault) = refl
 later-later m n (args kept used) = ap (args kept) (omega arith)
 

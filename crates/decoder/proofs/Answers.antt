@@ -1,17 +1,17 @@
 -- What the decoders answer, from what the first reading gave, and that an answer of packets leaves room for their records. Assumes nothing.
 use mathlib.Core.Path.{_≡_, refl, ap, sym, _∙_, subst}
 use mathlib.Core.List.{List}
-use Prim.Native.Nat.{ℕ, zero, suc, _+_, _-_, _/_, _<_, _≤_}
+use Prim.Native.Nat.{ℕ, _+_, _-_, _/_, _<_, _≤_}
 use native.Mathlib.Nat.{zero-add}
 use native.Mathlib.Omega.{arith}
 use borrow.Author.Tests.{le-leb, lt-leb}
 use lib.Dec.{leb}
-use lib.ListN.{length, drop, length-drop}
+use lib.ListN.{length}
 use Rattle.refusal.specs.declared.Refusal.the-variants.{TooLong, DepthLimit}
 use Rattle.types.specs.Forest.{Forest, nil, node, size, depth, level}
 use Rattle.types.specs.Records.{recordSize}
 use Rattle.decoder.specs.Packet.{Out, fault, one, packet}
-use Rattle.decoder.specs.Framing.{Whole, trees, waiting, refusal, single, udp, Frame, tree, wait, stop, frameOf, first, tcp, before, afterFrame, framesAt, frames, tcpVec}
+use Rattle.decoder.specs.Framing.{Whole, trees, waiting, refusal, single, udp, Frame, tree, wait, stop, frameOf, first, tcp, tcpVec}
 use Rattle.decoder.specs.Limits.{limited, decoded, forestOf}
 use Rattle.decoder.specs.Readings.{extent, treeOf, Room, frameExtent, framePacket, Accepted, totalOf, answered}
 use Rattle.decoder.specs.declared.Decoded.{Decoded}
@@ -23,8 +23,7 @@ use Rattle.decoder.specs.declared.frames.FrameExtent.the-variants as fra
 use Rattle.decoder.specs.declared.frames.Total.{Total}
 use Rattle.decoder.specs.declared.frames.Total.the-variants as total
 use Rattle.number.proofs.Choices.{by-test, by-le, by-both}
-use Rattle.decoder.proofs.Within.{Within, packet-in}
-use Rattle.decoder.proofs.Prefixes.{FrameIn, frame-in}
+use Rattle.decoder.proofs.Sizes.{WholeIn, nodes-in, udp-in, tcp-in, vec-in}
 
 -- ---- the answer by the first reading
 
@@ -117,54 +116,8 @@ packets-fit {count} {left} rule capacity limit msg e =
         (λ _ j. let z : _≡_ {A = ℕ} 0 1 = cc in absurd (omega arith))
         i
 
--- there are no more nodes than bytes
-abbrev WholeIn : ℕ → Whole → Type 0
-WholeIn m w = size (forestOf w) ≤ m
-
-single-in : (n : ℕ) (o : Out) → Within n o → WholeIn n (single n o)
-unfolding size
-single-in n (fault k) w = omega arith
-single-in n (one k a b f u) w = omega arith
-
-first-in : (n : ℕ) (x : Frame) → FrameIn n x → WholeIn n (first n x)
-unfolding size
-first-in n (tree k a b f u) w = omega arith
-first-in n wait w = omega arith
-first-in n (stop k) w = omega arith
-
-before-in : (k a b : ℕ) (f : Forest) (m n : ℕ) (w : Whole) → 1 + size f + m ≤ n → WholeIn m w → WholeIn n (before k a b f w)
-unfolding size
-before-in k a b f m n (trees g j) h v = omega arith
-before-in k a b f m n waiting h v = omega arith
-before-in k a b f m n (refusal j) h v = omega arith
-
-after-in : (go : ℕ → List ℕ → Whole) (base : ℕ) (l : List ℕ) (x : Frame) → ((q : ℕ) (m : List ℕ) → WholeIn (length m) (go q m)) → FrameIn (length l) x → WholeIn (length l) (afterFrame go base l x)
-unfolding size
-after-in go base l (stop k) h w = omega arith
-after-in go base l wait h w = omega arith
-after-in go base l (tree k a b f u) h w =
-    by-le (WholeIn (length l)) (length l) u (λ g. omega arith)
-    (λ g. before-in k a b f (length (drop u l)) (length l) (go (base + u) (drop u l)) (omega (arith, length-drop u l)) (h (base + u) (drop u l)))
-
-frames-at-in : (n base : ℕ) (l : List ℕ) → WholeIn (length l) (framesAt n base l)
-unfolding framesAt size
-frames-at-in zero base l = omega arith
-frames-at-in (suc n) base l = after-in _ base l (frameOf base l) (λ q m. frames-at-in n q m) (frame-in base l)
-
-udp-in : (msg : List ℕ) → WholeIn (length msg) (udp msg)
-unfolding udp
-udp-in msg = single-in (length msg) (packet 0 msg 0) (packet-in 0 msg 0)
-
-tcp-in : (msg : List ℕ) → WholeIn (length msg) (tcp msg)
-unfolding tcp
-tcp-in msg = first-in (length msg) (frameOf 0 msg) (frame-in 0 msg)
-
-vec-in : (msg : List ℕ) → WholeIn (length msg) (tcpVec msg)
-unfolding tcpVec frames
-vec-in msg = frames-at-in (suc (length msg)) 0 msg
-
 room-for : (w : Whole) (n : ℕ) (T : List ℕ) → Fitting w (length T / recordSize) n → WholeIn n w → Room (forestOf w) 0 T
-room-for w n T f v = record { fits = omega (arith, f .fits); low = omega (arith, f .short) }
+room-for w n T f v = record { fits = omega (arith, f .fits); low = omega (arith, f .short, nodes-in n w v) }
 
 -- the trees of one packet and of one frame are those of the input
 single-tree : (n : ℕ) (o : Out) → forestOf (single n o) ≡ treeOf o

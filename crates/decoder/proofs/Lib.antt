@@ -1,7 +1,7 @@
 pub mod Chosen
 pub mod Within
-pub mod Sizes
 pub mod Prefixes
+pub mod Sizes
 pub mod Knot
 pub mod Fronts
 pub mod Bundles

@@ -3,12 +3,13 @@ use Prim.Native.Nat.{ℕ, zero, suc, _+_, _-_, _≤_}
 use mathlib.Core.List.{List}
 use native.Mathlib.Omega.{arith}
 use lib.ListN.{length, drop, length-drop}
-use Rattle.number.specs.Number.{number}
 use Rattle.types.specs.Forest.{Forest, size}
 use Rattle.number.proofs.Choices.{by-le}
 use Rattle.decoder.specs.Packet.{Out, fault, one, packet}
-use Rattle.decoder.specs.Framing.{Whole, trees, waiting, refusal, single, udp, Frame, tree, wait, stop, framed, frameOf, first, tcp, before, afterFrame, framesAt, frames, tcpVec}
+use Rattle.decoder.specs.Framing.{Whole, trees, waiting, refusal, single, udp, Frame, tree, wait, stop, frameOf, first, tcp, before, afterFrame, framesAt, frames, tcpVec}
+use Rattle.decoder.specs.Limits.{forestOf}
 use Rattle.decoder.proofs.Within.{Within, packet-in}
+use Rattle.decoder.proofs.Prefixes.{FrameIn, frame-in}
 
 -- m bytes give no more nodes than they have, less those that are left
 abbrev pub WholeIn : ℕ → Whole → Type 0
@@ -16,11 +17,11 @@ WholeIn m (trees f left) = size f + left ≤ m
 WholeIn m waiting = Unit {0}
 WholeIn m (refusal k) = Unit {0}
 
--- a frame's prefix gives no node
-abbrev FrameIn : ℕ → Frame → Type 0
-FrameIn m (tree kind a b f used) = (5 + size f ≤ used) × (used ≤ m)
-FrameIn m wait = Unit {0}
-FrameIn m (stop k) = Unit {0}
+pub nodes-in : (n : ℕ) (w : Whole) → WholeIn n w → size (forestOf w) ≤ n
+unfolding size
+nodes-in n (trees f left) h = omega arith
+nodes-in n waiting h = omega arith
+nodes-in n (refusal k) h = omega arith
 
 -- ---- one packet
 
@@ -32,17 +33,6 @@ single-in n (one kind a b f used) w = omega arith
 pub udp-in : (msg : List ℕ) → WholeIn (length msg) (udp msg)
 unfolding udp
 udp-in msg = single-in (length msg) (packet 0 msg 0) (packet-in 0 msg 0)
-
-framed-in : (n : ℕ) (o : Out) → 4 ≤ n → Within (n - 4) o → FrameIn n (framed o)
-framed-in n (fault k) h w = tt
-framed-in n (one kind a b f used) h w = omega arith
-
-frame-in : (base : ℕ) (l : List ℕ) → FrameIn (length l) (frameOf base l)
-unfolding frameOf
-frame-in base l =
-    by-le (FrameIn (length l)) 4 (length l)
-    (λ h. by-le (FrameIn (length l)) (number 4 l) (length l) (λ k. framed-in (length l) (packet base (drop 4 l) 4) h (rw length-drop at (packet-in base (drop 4 l) 4))) (λ k. tt))
-    (λ h. tt)
 
 first-in : (n : ℕ) (x : Frame) → FrameIn n x → WholeIn n (first n x)
 unfolding size

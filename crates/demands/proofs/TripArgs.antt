@@ -11,6 +11,7 @@ use Rattle.arguments.specs.Argument.{argOf}
 use Rattle.arguments.specs.Arguments.{Args, refused, args, later, readArgs}
 use Rattle.arguments.specs.declared.Arg.the-variants.{Given}
 use Rattle.demands.specs.Osc10.{Atom, Arguments, end, atom, array, AtomAllowed, ArgumentsAllowed, tagOf, tagsOf, ArgumentsSpell, no-argument, one-atom, one-array, ArgumentsAre, no-node, leaf, branch}
+use Rattle.arguments.proofs.Kept.{later-later}
 use Rattle.demands.proofs.Placed.{At, at-front, at-next}
 use Rattle.demands.proofs.TripParts.{atom-even, AtomRead, atom-read}
 use Rattle.demands.proofs.OscTags.{classIs, atom-sort}
@@ -35,9 +36,6 @@ unfolding join
 join-nil f = refl
 
 -- ---- bytes that were read before
-later-later : (n m : ℕ) (x : Args) → later n (later m x) ≡ later (n + m) x
-later-later n m (refused k) = refl
-later-later n m (args f u) = ap (args f) (omega arith)
 
 later-none : (x : Args) → later 0 x ≡ x
 later-none (refused k) = refl

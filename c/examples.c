@@ -1,0 +1,208 @@
+/* Runs document 01's examples, and cases of its refusals, through every function of include/osc.h, and compares. Each slice is
+ * an allocation of exactly its length, so that a memory checker sees a read or a write past it. It ends with 1 where
+ * something differs. It compiles as C99 and as C++17. */
+#include "../include/osc.h"
+#include <stdio.h>
+#include <stdlib.h>
+#include <string.h>
+
+static int passed, failed;
+
+static void same(const char *name, uint64_t got, uint64_t due) {
+    if (got == due) {
+        passed++;
+        return;
+    }
+    failed++;
+    printf("%s: %016llX in place of %016llX\n", name, (unsigned long long)got, (unsigned long long)due);
+}
+
+/* A copy of n bytes in an allocation of its own. */
+static uint8_t *copy(const uint8_t *from, size_t n) {
+    uint8_t *p = (uint8_t *)malloc(n ? n : 1);
+    if (!p) exit(2);
+    if (n) memcpy(p, from, n);
+    return p;
+}
+
+/* A buffer of n bytes, all 0xAA. */
+static uint8_t *blank(size_t n) {
+    uint8_t *p = (uint8_t *)malloc(n ? n : 1);
+    if (!p) exit(2);
+    memset(p, 0xAA, n);
+    return p;
+}
+
+/* Bytes from digits; spaces are passed over. */
+static size_t bytes_of(const char *hex, uint8_t *to) {
+    size_t n = 0;
+    unsigned digit, high = 0, half = 0;
+    for (; *hex; hex++) {
+        if (*hex == ' ') continue;
+        digit = (unsigned)(*hex <= '9' ? *hex - '0' : *hex - 'A' + 10);
+        if (half) to[n++] = (uint8_t)(high * 16 + digit);
+        high = digit;
+        half = !half;
+    }
+    return n;
+}
+
+/* The first bytes of a buffer of `room` bytes are these, and the others are 0xAA still. */
+static void holds(const char *name, const uint8_t *buffer, size_t room, const uint8_t *due, size_t n) {
+    size_t i;
+    uint64_t wrong = 0;
+    for (i = 0; i < room; i++) wrong += buffer[i] != (i < n ? due[i] : 0xAA);
+    same(name, wrong, 0);
+}
+
+enum call { UDP, TCP, TCP_VEC };
+
+/* A decoder's answer, in its parts, and its whole table. */
+static void decodes(const char *name, enum call call, const char *hex, size_t records, uint64_t depth, unsigned refusal,
+                    uint32_t left, const char *table_hex) {
+    uint8_t bytes[256], due[256];
+    size_t n = bytes_of(hex, bytes), m = bytes_of(table_hex, due), room = OSC_RECORD * records;
+    uint8_t *msg = copy(bytes, n), *table = blank(room);
+    uint64_t answer = call == UDP   ? osc_decode_udp(msg, n, table, room, depth)
+                      : call == TCP ? osc_decode_tcp(msg, n, table, room, depth)
+                                    : osc_decode_tcp_vec(msg, n, table, room, depth);
+    same(name, osc_refusal(answer), refusal);
+    same(name, osc_count(answer), m / OSC_RECORD);
+    same(name, osc_left(answer), left);
+    holds(name, table, room, due, m);
+    free(msg);
+    free(table);
+}
+
+/* What a decoder refuses. */
+static void refuses(const char *name, enum call call, const char *hex, unsigned refusal) {
+    decodes(name, call, hex, 8, 64, refusal, 0, "");
+}
+
+/* An encoder's answer, in its parts, and its whole output. */
+static void encodes(const char *name, int tcp, const char *table_hex, uint64_t count, const char *source_text, size_t room,
+                    unsigned refusal, const char *out_hex) {
+    uint8_t bytes[256], due[256];
+    size_t n = bytes_of(table_hex, bytes), m = bytes_of(out_hex, due), len = strlen(source_text);
+    uint8_t *table = copy(bytes, n), *source = copy((const uint8_t *)source_text, len), *out = blank(room);
+    uint64_t answer = tcp ? osc_encode_tcp(table, n, count, source, len, out, room)
+                          : osc_encode(table, n, count, source, len, out, room);
+    same(name, osc_refusal(answer), refusal);
+    same(name, osc_written(answer), m);
+    holds(name, out, room, due, m);
+    free(table);
+    free(source);
+    free(out);
+}
+
+static void writes_text(const char *name, const char *text_hex, size_t room, unsigned refusal, const char *out_hex) {
+    uint8_t bytes[256], due[256];
+    size_t n = bytes_of(text_hex, bytes), m = bytes_of(out_hex, due);
+    uint8_t *text = copy(bytes, n), *out = blank(room);
+    uint64_t answer = osc_encode_string(text, n, out, room);
+    same(name, osc_refusal(answer), refusal);
+    same(name, osc_written(answer), m);
+    holds(name, out, room, due, m);
+    free(text);
+    free(out);
+}
+
+static void looks(const char *name, const char *table_hex, uint64_t index, unsigned refusal, uint8_t kind) {
+    uint8_t bytes[256];
+    size_t n = bytes_of(table_hex, bytes);
+    uint8_t *table = copy(bytes, n);
+    uint64_t answer = osc_look(table, n, index);
+    same(name, osc_refusal(answer), refusal);
+    same(name, osc_kind(answer), kind);
+    free(table);
+}
+
+/* "/a" with the integer 5, and its table. */
+#define FIVE "2F610000 2C690000 00000005"
+#define FIVE_TABLE "2F000000 00000002 00000000 00000002 69000000 00000002 00000005 00000000"
+#define EMPTY_BUNDLE "2362756E 646C6500 00000000 00000001"
+#define BUNDLE_TABLE "23000000 00000001 00000000 00000001"
+
+static void examples(void) {
+    refuses("P1", UDP, "", OSC_EMPTY);
+    refuses("P2", UDP, "2F000000", OSC_RUNS_OUT);
+    decodes("P3", UDP, FIVE, 8, 64, 0, 0, FIVE_TABLE);
+    decodes("P4", UDP, "2F610000 58690000 00000005", 8, 64, 0, 0, FIVE_TABLE);
+    decodes("P5", UDP, "2F610000 00000000", 8, 64, 0, 0, "2F000000 00000001 00000000 00000002");
+    decodes("P6", UDP, "2F610000 2C695B69 00000000 00000001 00000002", 8, 64, 0, 0,
+            "2F000000 00000002 00000000 00000002 69000000 00000002 00000002 00000000");
+    refuses("P7", UDP, "2F610000 2C5D0000", OSC_NOT_OPEN);
+    refuses("P8", UDP, "2F610000 2C780000", OSC_UNKNOWN_TAG);
+    refuses("P9", UDP, "2F610000 2C630000 0000D800", OSC_NOT_SCALAR);
+    refuses("P10", UDP, "2FFF0000", OSC_NOT_UTF8);
+    refuses("P11", UDP, "61000000", OSC_BAD_START);
+    decodes("P12", UDP, EMPTY_BUNDLE "00000000", 8, 64, 0, 4, BUNDLE_TABLE);
+    refuses("P13", TCP, "00000008 2F610000", OSC_RUNS_OUT);
+    decodes("P14", TCP, "00000009 2F610000", 8, 64, 0, 8, "");
+}
+
+static void limits(void) {
+    uint8_t *msg = blank(65536);
+    decodes("depth 1", UDP, EMPTY_BUNDLE, 1, 1, 0, 0, BUNDLE_TABLE);
+    decodes("depth 0", UDP, EMPTY_BUNDLE, 1, 0, OSC_TOO_DEEP, 0, "");
+    decodes("depth 65", UDP, FIVE, 8, 65, OSC_DEPTH_LIMIT, 0, "");
+    decodes("depth 2^32", UDP, FIVE, 8, 0x100000000u, OSC_DEPTH_LIMIT, 0, "");
+    decodes("two records", UDP, FIVE, 2, 64, 0, 0, FIVE_TABLE);
+    decodes("one record", UDP, FIVE, 1, 64, OSC_TABLE_FULL, 0, "");
+    decodes("no record", UDP, FIVE, 0, 64, OSC_TABLE_FULL, 0, "");
+    same("65,536 bytes", osc_refusal(osc_decode_udp(msg, 65536, NULL, 0, 64)), OSC_TOO_LONG);
+    same("65,535 bytes", osc_refusal(osc_decode_udp(msg, 65535, NULL, 0, 64)), OSC_RUNS_OUT);
+    free(msg);
+}
+
+static void streams(void) {
+    decodes("a frame", TCP, "0000000C" FIVE "00", 8, 64, 0, 1,
+            "2F000000 00000002 00000004 00000002 69000000 00000002 00000005 00000000");
+    decodes("two frames", TCP_VEC, "0000000C" FIVE "00000010" EMPTY_BUNDLE, 8, 64, 0, 0,
+            "2F000000 00000002 00000004 00000002 69000000 00000002 00000005 00000000 23000000 00000003 00000000 00000001");
+    decodes("a frame and a part", TCP_VEC, "0000000C" FIVE "00000010 2362", 8, 64, 0, 6,
+            "2F000000 00000002 00000004 00000002 69000000 00000002 00000005 00000000");
+    refuses("three bytes", TCP_VEC, "000000", OSC_RUNS_OUT);
+}
+
+static void encoders(void) {
+    encodes("five", 0, FIVE_TABLE, 2, "/a", 12, 0, FIVE);
+    encodes("five, with room", 0, FIVE_TABLE, 2, "/a", 15, 0, FIVE);
+    encodes("five in a stream", 1, FIVE_TABLE, 2, "/a", 16, 0, "0000000C" FIVE);
+    encodes("a bundle", 0, BUNDLE_TABLE, 1, "", 16, 0, EMPTY_BUNDLE);
+    encodes("a bundle in a stream", 1, BUNDLE_TABLE, 1, "", 16, 0, EMPTY_BUNDLE);
+    encodes("no room", 0, FIVE_TABLE, 2, "/a", 11, OSC_OUTPUT_SHORT, "");
+    encodes("no room for the length", 1, FIVE_TABLE, 2, "/a", 15, OSC_OUTPUT_SHORT, "");
+    encodes("no record", 0, FIVE_TABLE, 0, "/a", 12, OSC_BAD_TABLE, "");
+    encodes("a count of 2^32 + 2", 0, FIVE_TABLE, 0x100000002u, "/a", 12, OSC_BAD_TABLE, "");
+    encodes("a range past the source", 0, FIVE_TABLE, 2, "/", 12, OSC_BAD_TABLE, "");
+    writes_text("a text", "6162", 4, 0, "61620000");
+    writes_text("a text of four", "61626364", 8, 0, "6162636400000000");
+    writes_text("a text without room", "61626364", 7, OSC_OUTPUT_SHORT, "");
+    writes_text("no UTF-8", "FF", 4, OSC_NOT_UTF8, "");
+}
+
+static void leaves(void) {
+    same("pad 0", osc_pad(0), 0);
+    same("pad 1", osc_pad(1), 4);
+    same("pad 4", osc_pad(4), 4);
+    same("pad 2^64 - 4", osc_pad(0xFFFFFFFFFFFFFFFCu), 0xFFFFFFFFFFFFFFFCu);
+    same("pad 2^64 - 3", osc_pad(0xFFFFFFFFFFFFFFFDu), OSC_PAD_OVERFLOW);
+    looks("a message", FIVE_TABLE, 0, 0, '/');
+    looks("an integer", FIVE_TABLE, 1, 0, 'i');
+    looks("no third record", FIVE_TABLE, 2, OSC_BAD_TABLE, 0);
+    looks("record 2^32", FIVE_TABLE, 0x100000000u, OSC_BAD_TABLE, 0);
+    looks("a second field", "69000000 00000001 00000005 00000001", 0, OSC_BAD_TABLE, 0);
+    looks("true", "54000000 00000001 00000000 00000000", 0, 0, 'T');
+    looks("false", "46000000 00000001 00000000 00000000", 0, 0, 'F');
+}
+
+int main(void) {
+    examples();
+    limits();
+    streams();
+    encoders();
+    leaves();
+    printf("%d passed, %d failed\n", passed, failed);
+    return failed != 0;
+}

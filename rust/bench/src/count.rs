@@ -1,0 +1,100 @@
+//! Instructions, which noise doesn't move: the benchmark runs itself under valgrind's callgrind, which writes a file of counts
+//! whenever `counted` is left.
+
+use crate::clock::{Figure, Row};
+use crate::inputs::Input;
+use crate::work::{work, Task, Work, SIDES, TASKS};
+use std::fs;
+use std::path::{Path, PathBuf};
+use std::process::{Command, Stdio};
+
+/// The argument that makes the benchmark do each piece of work once to be counted.
+pub const CHILD: &str = "--counted";
+
+/// One call, between the two moments at which callgrind starts and stops.
+#[no_mangle]
+#[inline(never)]
+pub extern "Rust" fn counted(work: &mut Work) {
+    (work.times)(1);
+}
+
+/// Under callgrind: each piece of work, in the order of the rows.
+pub fn child(inputs: &[Input]) {
+    for task in TASKS {
+        for input in inputs {
+            SIDES.iter().filter_map(|&side| work(side, task, input)).for_each(once);
+        }
+    }
+}
+
+/// Under callgrind by hand: the work of one side on one input, to see which functions the instructions go to.
+pub fn one(inputs: &[Input], wanted: &[String]) {
+    for input in inputs {
+        for (task, side) in TASKS.iter().flat_map(|&task| SIDES.map(|side| (task, side))) {
+            if wanted == [task.name(), side.name(), input.name] {
+                return work(side, task, input).into_iter().for_each(once);
+            }
+        }
+    }
+    eprintln!("a task, a side and an input are wanted, by their names in the tables");
+}
+
+/// Does the work once to warm up and once to be counted.
+fn once(mut work: Work) {
+    (work.times)(1);
+    counted(&mut work);
+}
+
+/// Counts every side on every input, or says why not.
+pub fn count(inputs: &[Input]) -> Result<Vec<(Task, Vec<Row>)>, String> {
+    let place = std::env::temp_dir().join(format!("sennorbai-counts-{}", std::process::id()));
+    fs::create_dir(&place).map_err(|error| error.to_string())?;
+    let file = place.join("counts");
+    let mut counts = Counts { file: file.clone(), next: 1 };
+    let both = |()| TASKS.iter().map(|&task| Ok((task, counts.rows(task, inputs)?))).collect();
+    let rows = under_callgrind(&file).and_then(both);
+    fs::remove_dir_all(&place).map_err(|error| error.to_string())?;
+    rows
+}
+
+fn under_callgrind(file: &Path) -> Result<(), String> {
+    let program = std::env::current_exe().map_err(|error| error.to_string())?;
+    let status = Command::new("valgrind")
+        .args(["--tool=callgrind", "--toggle-collect=counted", "--dump-after=counted"])
+        .arg(format!("--callgrind-out-file={}", file.display()))
+        .arg(program)
+        .arg(CHILD)
+        .stderr(Stdio::null())
+        .status();
+    match status {
+        Ok(status) if status.success() => Ok(()),
+        Ok(status) => Err(format!("valgrind ended with {status}")),
+        Err(error) => Err(format!("valgrind: {error}")),
+    }
+}
+
+/// Callgrind's files: `file.1`, `file.2` and so on, one for each piece of work.
+struct Counts {
+    file: PathBuf,
+    next: usize,
+}
+
+impl Counts {
+    fn rows(&mut self, task: Task, inputs: &[Input]) -> Result<Vec<Row>, String> {
+        inputs.iter().map(|input| self.row(task, input)).collect()
+    }
+
+    fn row(&mut self, task: Task, input: &Input) -> Result<Row, String> {
+        let figures = SIDES.iter().map(|&side| work(side, task, input).map(|work| self.figure(work.agrees)).transpose());
+        Ok(Row { name: input.name, bytes: input.bytes.len(), figures: figures.collect::<Result<_, String>>()? })
+    }
+
+    fn figure(&mut self, agrees: bool) -> Result<Figure, String> {
+        let file = self.file.with_extension(self.next.to_string());
+        let text = fs::read_to_string(&file).map_err(|error| format!("callgrind's file {}: {error}", self.next))?;
+        self.next += 1;
+        let total = text.lines().find_map(|line| line.strip_prefix("totals: "));
+        let per_call = total.and_then(|total| total.trim().parse().ok()).ok_or("callgrind's file has no totals")?;
+        Ok(Figure { per_call, agrees })
+    }
+}

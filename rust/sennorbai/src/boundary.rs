@@ -1,0 +1,200 @@
+//! The static library's functions as they are, over lent slices: what include/osc.h declares. The only unsafe code.
+//!
+//! A decoder's answer has the refusal's number in bits 56 to 63 (0 where there is an answer), the count of records in bits 32
+//! to 55 and the input bytes left over in bits 0 to 31; Waiting is count 0 with the whole input left. An encoder's answer has
+//! that number and, in bits 0 to 31, the bytes written.
+//!
+//! The functions of the crate's root take these answers apart and are what a program should call.
+#![allow(unsafe_code)]
+
+use crate::{Color, Midi, Refusal, Table, Time, Value, RECORD};
+
+mod c {
+    extern "C" {
+        pub fn osc_decode_udp(msg: *const u8, len: usize, table: *mut u8, table_len: usize, depth: u64) -> u64;
+        pub fn osc_decode_tcp(msg: *const u8, len: usize, table: *mut u8, table_len: usize, depth: u64) -> u64;
+        pub fn osc_decode_tcp_vec(msg: *const u8, len: usize, table: *mut u8, table_len: usize, depth: u64) -> u64;
+        #[rustfmt::skip]
+        pub fn osc_encode(
+            table: *const u8,
+            table_len: usize,
+            count: u64,
+            source: *const u8,
+            source_len: usize,
+            out: *mut u8,
+            out_len: usize,
+        ) -> u64;
+        #[rustfmt::skip]
+        pub fn osc_encode_tcp(
+            table: *const u8,
+            table_len: usize,
+            count: u64,
+            source: *const u8,
+            source_len: usize,
+            out: *mut u8,
+            out_len: usize,
+        ) -> u64;
+        pub fn osc_encode_string(text: *const u8, len: usize, out: *mut u8, out_len: usize) -> u64;
+        pub fn osc_pad(pos: u64) -> u64;
+        pub fn osc_look(table: *const u8, table_len: usize, index: u64) -> u64;
+    }
+}
+
+// SAFETY, of every call of `c` below: each pointer is that of a slice which lives through the call, with that slice's length;
+// what may be written is lent by `&mut`, so nothing else names it; the functions keep no pointer, and are proved for every
+// input.
+
+/// `osc_decode_udp`: one packet from all of a UDP packet.
+pub fn decode_udp(msg: &[u8], table: &mut [u8], depth: u64) -> u64 {
+    unsafe { c::osc_decode_udp(msg.as_ptr(), msg.len(), table.as_mut_ptr(), table.len(), depth) }
+}
+
+/// `osc_decode_tcp`: the first packet of a TCP stream.
+pub fn decode_tcp(msg: &[u8], table: &mut [u8], depth: u64) -> u64 {
+    unsafe { c::osc_decode_tcp(msg.as_ptr(), msg.len(), table.as_mut_ptr(), table.len(), depth) }
+}
+
+/// `osc_decode_tcp_vec`: the packets of a TCP stream.
+pub fn decode_tcp_vec(msg: &[u8], table: &mut [u8], depth: u64) -> u64 {
+    unsafe { c::osc_decode_tcp_vec(msg.as_ptr(), msg.len(), table.as_mut_ptr(), table.len(), depth) }
+}
+
+/// `osc_encode`: the packet of `count` records.
+pub fn encode(table: &[u8], count: u64, source: &[u8], out: &mut [u8]) -> u64 {
+    unsafe { c::osc_encode(table.as_ptr(), table.len(), count, source.as_ptr(), source.len(), out.as_mut_ptr(), out.len()) }
+}
+
+/// `osc_encode_tcp`: the same for a stream; a length stands before a message and none before a bundle.
+pub fn encode_tcp(table: &[u8], count: u64, source: &[u8], out: &mut [u8]) -> u64 {
+    unsafe {
+        c::osc_encode_tcp(table.as_ptr(), table.len(), count, source.as_ptr(), source.len(), out.as_mut_ptr(), out.len())
+    }
+}
+
+/// `osc_encode_string`: a text with its 1 to 4 NULs.
+pub fn encode_string(text: &[u8], out: &mut [u8]) -> u64 {
+    unsafe { c::osc_encode_string(text.as_ptr(), text.len(), out.as_mut_ptr(), out.len()) }
+}
+
+/// `osc_pad`: the next multiple of 4, or 14, which is none, for a position over 2^64 - 4.
+pub fn pad(pos: u64) -> u64 {
+    unsafe { c::osc_pad(pos) }
+}
+
+/// `osc_look`: the kind of a record in the low byte; bits 56 to 63 are the refusal's number.
+pub fn look(table: &[u8], index: u64) -> u64 {
+    unsafe { c::osc_look(table.as_ptr(), table.len(), index) }
+}
+
+/// The three decoders.
+pub(crate) enum Decoder {
+    Udp,
+    Tcp,
+    TcpVec,
+}
+
+/// The records of well-formed trees, one after another, and the bytes that their ranges lie in.
+///
+/// The two constructors are the only ones: each asks the library, and its contract is what `value` rests on. Nothing can write
+/// to the slices while this value lives.
+#[derive(Clone, Copy)]
+pub(crate) struct Nodes<'a> {
+    records: &'a [[u8; RECORD]],
+    source: &'a [u8],
+}
+
+impl<'a> Nodes<'a> {
+    /// What a decoder gives, and the number of input bytes left over.
+    #[inline]
+    pub fn decode(by: Decoder, msg: &'a [u8], table: &'a mut [u8], depth: u64) -> Result<(Nodes<'a>, usize), Refusal> {
+        let answer = Refusal::settle(match by {
+            Decoder::Udp => decode_udp(msg, table, depth),
+            Decoder::Tcp => decode_tcp(msg, table, depth),
+            Decoder::TcpVec => decode_tcp_vec(msg, table, depth),
+        })?;
+        let count = (answer >> 32) as usize;
+        Ok((Nodes { records: &table.as_chunks().0[..count], source: msg }, answer as u32 as usize))
+    }
+
+    /// A table from anywhere, if it is well formed. The encoder's first test is that, and 11 is given for nothing else; with no
+    /// room to write to it ends in another refusal.
+    pub fn check(table: Table<'a>) -> Result<Nodes<'a>, Refusal> {
+        match Refusal::settle(encode(table.bytes, table.count as u64, table.source, &mut [])) {
+            Err(Refusal::BadTable) => Err(Refusal::BadTable),
+            _ => Ok(Nodes { records: &table.bytes.as_chunks().0[..table.count], source: table.source }),
+        }
+    }
+
+    /// The records as bytes.
+    pub fn bytes(self) -> &'a [u8] {
+        self.records.as_flattened()
+    }
+
+    /// The bytes that the ranges lie in.
+    pub fn source(self) -> &'a [u8] {
+        self.source
+    }
+
+    /// The number of records.
+    #[inline]
+    pub fn count(self) -> usize {
+        self.records.len()
+    }
+
+    /// The kind of a record.
+    #[inline]
+    pub fn kind(self, index: usize) -> u8 {
+        self.records[index][0]
+    }
+
+    /// The index of the first record after a node and all that it contains.
+    #[inline]
+    pub fn end(self, index: usize) -> usize {
+        let [_, _, _, _, e, f, g, h, ..] = self.records[index];
+        u32::from_be_bytes([e, f, g, h]) as usize
+    }
+
+    /// What a record says.
+    #[inline]
+    pub fn value(self, index: usize) -> Value<'a> {
+        let [kind, _, _, _, _, _, _, _, p, q, r, s, t, u, v, w] = self.records[index];
+        let (a, b) = (u32::from_be_bytes([p, q, r, s]), u32::from_be_bytes([t, u, v, w]));
+        let long = (a as u64) << 32 | b as u64;
+        match kind {
+            // SAFETY: the records are of well-formed trees, so the range of a `/`, `s` or `b` lies in `source`; that of a `/`
+            // or `s` is valid UTF-8.
+            b'/' => Value::Message(unsafe { self.text(a, b) }),
+            b's' => Value::Text(unsafe { self.text(a, b) }),
+            b'b' => Value::Blob(unsafe { self.part(a, b) }),
+            // SAFETY: the number of a `c` in a well-formed tree is a scalar number.
+            b'c' => Value::Char(unsafe { char::from_u32_unchecked(a) }),
+            b'#' => Value::Bundle(Time { seconds: a, fractional: b }),
+            b't' => Value::Time(Time { seconds: a, fractional: b }),
+            b'i' => Value::Int(a as i32),
+            b'f' => Value::Float(f32::from_bits(a)),
+            b'h' => Value::Long(long as i64),
+            b'd' => Value::Double(f64::from_bits(long)),
+            b'r' => Value::Color(Color { red: p, green: q, blue: r, alpha: s }),
+            b'm' => Value::Midi(Midi { port: p, status: q, data1: r, data2: s }),
+            b'T' => Value::Bool(true),
+            b'F' => Value::Bool(false),
+            b'N' => Value::Nil,
+            b'I' => Value::Inf,
+            // The only kind left is `[`.
+            _ => Value::Array,
+        }
+    }
+
+    /// The bytes of a range, which lies in the source.
+    #[inline]
+    unsafe fn part(self, offset: u32, length: u32) -> &'a [u8] {
+        let from = offset as usize;
+        unsafe { self.source.get_unchecked(from..from + length as usize) }
+    }
+
+    /// The text of a range, which lies in the source and is valid UTF-8.
+    #[inline]
+    unsafe fn text(self, offset: u32, length: u32) -> &'a str {
+        unsafe { core::str::from_utf8_unchecked(self.part(offset, length)) }
+    }
+}

@@ -1,0 +1,72 @@
+//! The encoders over lent buffers.
+
+use crate::{boundary, Refusal, Table};
+
+/// Writes the one packet of a table over the first bytes of `out`, and lends them back. Later bytes are unchanged.
+///
+/// ```
+/// use sennorbai::{decode_udp, encode, Refusal, DEEPEST};
+///
+/// let msg = b"/cue\0\0\0\0,i\0\0\0\0\0\x07";
+/// let (mut table, mut out) = ([0; 64], [0; 64]);
+/// let packet = decode_udp(msg, &mut table, DEEPEST)?;
+/// assert_eq!(encode(packet.table(), &mut out)?, msg);
+/// assert_eq!(encode(packet.table(), &mut out[..15]), Err(Refusal::OutputShort));
+/// # Ok::<(), Refusal>(())
+/// ```
+pub fn encode<'o>(table: Table<'_>, out: &'o mut [u8]) -> Result<&'o [u8], Refusal> {
+    let answer = boundary::encode(table.bytes, table.count as u64, table.source, out);
+    written(answer, out)
+}
+
+/// Writes the packet as [`encode`] does, with its length before a message and, as in rosc, none before a bundle.
+///
+/// ```
+/// use sennorbai::{decode_udp, encode_tcp, Refusal, DEEPEST};
+///
+/// let (mut table, mut out) = ([0; 64], [0; 64]);
+/// let packet = decode_udp(b"/a\0\0,\0\0\0", &mut table, DEEPEST)?;
+/// assert_eq!(encode_tcp(packet.table(), &mut out)?, b"\0\0\0\x08/a\0\0,\0\0\0");
+/// # Ok::<(), Refusal>(())
+/// ```
+pub fn encode_tcp<'o>(table: Table<'_>, out: &'o mut [u8]) -> Result<&'o [u8], Refusal> {
+    let answer = boundary::encode_tcp(table.bytes, table.count as u64, table.source, out);
+    written(answer, out)
+}
+
+/// Writes a text, given as bytes, with 1 to 4 NULs over the first bytes of `out`, and lends them back.
+///
+/// ```
+/// use sennorbai::{encode_string, Refusal};
+///
+/// let mut out = [0xAA; 8];
+/// assert_eq!(encode_string(b"abc", &mut out)?, b"abc\0");
+/// assert_eq!(encode_string(b"\xFF", &mut out), Err(Refusal::NotUtf8));
+/// # Ok::<(), Refusal>(())
+/// ```
+pub fn encode_string<'o>(text: &[u8], out: &'o mut [u8]) -> Result<&'o [u8], Refusal> {
+    let answer = boundary::encode_string(text, out);
+    written(answer, out)
+}
+
+/// The next multiple of 4.
+///
+/// ```
+/// use sennorbai::{pad, Refusal};
+///
+/// assert_eq!(pad(10), Ok(12));
+/// assert_eq!(pad(u64::MAX), Err(Refusal::PadOverflow));
+/// ```
+pub fn pad(pos: u64) -> Result<u64, Refusal> {
+    let answer = boundary::pad(pos);
+    // The one answer that is no multiple of 4 is the refusal's number.
+    if answer == Refusal::PadOverflow.number() as u64 {
+        return Err(Refusal::PadOverflow);
+    }
+    Ok(answer)
+}
+
+/// The bytes that an encoder wrote, by its answer.
+fn written(answer: u64, out: &mut [u8]) -> Result<&[u8], Refusal> {
+    Refusal::settle(answer).map(|answer| &out[..answer as u32 as usize])
+}

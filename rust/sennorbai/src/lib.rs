@@ -1,0 +1,64 @@
+//! Open Sound Control for the recorder: safe Rust over the proved static library.
+//!
+//! A packet is read into a table that the caller lends, and a table is written back into bytes that the caller lends. Nothing
+//! is allocated, and nothing is kept from one call to the next. Every call ends in an answer or in one of document 01's
+//! numbered [`Refusal`]s, which changes no lent byte.
+//!
+//! - [`decode_udp`], [`decode_tcp`] and [`decode_tcp_vec`] read. They give a [`Packet`] or [`Packets`], whose [`Record`]s
+//!   are read as typed [`Value`]s: texts are `&str` and blobs `&[u8]`, both parts of the input.
+//! - [`Builder`] makes a [`Table`] from values. [`Table::check`] reads a table from anywhere.
+//! - [`encode`], [`encode_tcp`] and [`encode_string`] write.
+//! - `rosc_compat` (feature `std`, which is on by default) has the types and signatures of the crate rosc 0.11.4.
+//!
+//! ```
+//! use sennorbai::{decode_udp, encode, Value, DEEPEST};
+//!
+//! let msg = b"/light/7\0\0\0\0,fT\0\x3F\0\0\0";
+//! let (mut table, mut out) = ([0; 1024], [0; 1024]);
+//! let packet = decode_udp(msg, &mut table, DEEPEST)?;
+//! for record in packet.records() {
+//!     match record.value() {
+//!         Value::Message(address) => assert_eq!(address, "/light/7"),
+//!         Value::Float(level) => assert_eq!(level, 0.5),
+//!         other => assert_eq!(other, Value::Bool(true)),
+//!     }
+//! }
+//! assert_eq!(encode(packet.table(), &mut out)?, msg);
+//! # Ok::<(), sennorbai::Refusal>(())
+//! ```
+//!
+//! Without the feature `std` the crate needs neither the standard library nor an allocator.
+//!
+//! The writers call themselves for an array in an array: 128 bytes of stack for each level. What 65,535 bytes can hold at most,
+//! 32,763 levels, takes some 4.2 MB.
+#![cfg_attr(not(feature = "std"), no_std)]
+#![deny(missing_docs, unsafe_code)]
+
+pub mod boundary;
+mod builder;
+mod decode;
+mod encode;
+mod refusal;
+#[cfg(feature = "std")]
+pub mod rosc_compat;
+mod table;
+mod value;
+
+pub use builder::{BuildError, Builder};
+pub use decode::{decode_tcp, decode_tcp_vec, decode_udp, Decoded};
+pub use encode::{encode, encode_string, encode_tcp, pad};
+pub use refusal::Refusal;
+pub use table::{look, Packet, Packets, Record, Records, Siblings, Table};
+pub use value::{Color, Midi, Time, Value};
+
+/// The bytes of a record.
+pub const RECORD: usize = 16;
+
+/// The most records that a table may have.
+pub const MOST: usize = 65_535;
+
+/// The longest input and the longest result, in bytes.
+pub const LONGEST: usize = 65_535;
+
+/// The deepest nesting of bundles, and the highest depth limit.
+pub const DEEPEST: u64 = 64;

@@ -1,0 +1,37 @@
+//! The types and signatures of the crate rosc 0.11.4 over the proved library, so that a program changes one `use` line:
+//!
+//! ```
+//! use sennorbai::rosc_compat as rosc;
+//!
+//! let packet = rosc::OscPacket::Message(rosc::OscMessage { addr: "/cue".to_string(), args: vec![7.into(), "go".into()] });
+//! let bytes = rosc::encoder::encode(&packet)?;
+//! let (rest, read) = rosc::decoder::decode_udp(&bytes)?;
+//! assert!(rest.is_empty());
+//! assert_eq!(read, packet);
+//! # Ok::<(), rosc::OscError>(())
+//! ```
+//!
+//! Where it differs from rosc:
+//!
+//! - Inputs and results over 65,535 bytes and bundles nested deeper than 64 are refused, by the variant
+//!   [`OscError::Limit`], which rosc does not have. The functions whose signature has no place for a refusal say what they do.
+//! - The library tells a refusal's number and no more. So [`OscError::ReadError`] always holds [`ErrorKind::Eof`], where nom's
+//!   kind is `Eof` or `Tag`; the words of an unknown type tag do not name the tag; and [`OscError::StringError`] holds the error
+//!   of a text that stands for the one in the packet.
+//! - `OscError` does not implement the traits of nom, and the module `address` is not here.
+//! - A time tag before 1970 is printed, where rosc panics.
+//! - [`encoder::encode_into`] writes a packet to its output in one piece.
+
+// Types, signatures and their documentation are from rosc 0.11.4, copyright (c) 2016 Andreas Linz, under MIT or Apache-2.0:
+// see NOTICE.
+
+mod errors;
+mod scratch;
+mod types;
+mod walk;
+
+pub use errors::*;
+pub use types::*;
+
+pub mod decoder;
+pub mod encoder;

@@ -1,0 +1,252 @@
+//! Node tables: the records that a decoder wrote, read as typed values.
+
+use crate::boundary::Nodes;
+use crate::{boundary, Refusal, Value};
+use core::fmt;
+use core::iter::FusedIterator;
+
+/// A node table as an encoder takes it: `count` records, and the source that their ranges lie in.
+///
+/// It may hold any bytes. [`encode`](crate::encode) refuses what is not well formed, and [`check`](Table::check) gives the
+/// records of what is.
+#[derive(Clone, Copy, Debug, PartialEq, Eq)]
+pub struct Table<'a> {
+    /// The records, [`RECORD`](crate::RECORD) bytes each. Bytes after the last one are not looked at.
+    pub bytes: &'a [u8],
+    /// The number of records.
+    pub count: usize,
+    /// The bytes that texts, blobs and addresses are parts of.
+    pub source: &'a [u8],
+}
+
+impl<'a> Table<'a> {
+    /// The records of a table from anywhere, or [`Refusal::BadTable`].
+    ///
+    /// ```
+    /// use sennorbai::{Refusal, Table, Value};
+    ///
+    /// let bytes = *b"/\0\0\0\0\0\0\x01\0\0\0\0\0\0\0\x02";
+    /// let table = Table { bytes: &bytes, count: 1, source: b"/a" };
+    /// assert_eq!(table.check()?.root().value(), Value::Message("/a"));
+    ///
+    /// let outside = Table { source: b"/", ..table };
+    /// assert_eq!(outside.check().unwrap_err(), Refusal::BadTable);
+    /// # Ok::<(), Refusal>(())
+    /// ```
+    pub fn check(self) -> Result<Packet<'a>, Refusal> {
+        Ok(Packet { nodes: Nodes::check(self)?, left: 0 })
+    }
+}
+
+/// The records of one well-formed packet, and what was left of the input.
+///
+/// Only a decoder or [`Table::check`] gives one, so reading it tests nothing again.
+#[derive(Clone, Copy)]
+pub struct Packet<'a> {
+    nodes: Nodes<'a>,
+    left: usize,
+}
+
+/// The records of well-formed packets, one after another, and what was left of the input.
+///
+/// Only a decoder gives one, so reading it tests nothing again.
+#[derive(Clone, Copy)]
+pub struct Packets<'a> {
+    nodes: Nodes<'a>,
+    left: usize,
+}
+
+/// What one packet and a list of them have in common.
+macro_rules! nodes_impl {
+    ($name:ident) => {
+        impl<'a> $name<'a> {
+            #[inline]
+            pub(crate) fn new((nodes, left): (Nodes<'a>, usize)) -> $name<'a> {
+                $name { nodes, left }
+            }
+
+            /// The number of records.
+            #[inline]
+            pub fn count(&self) -> usize {
+                self.nodes.count()
+            }
+
+            /// The number of input bytes left over, which are the last ones.
+            #[inline]
+            pub fn left(&self) -> usize {
+                self.left
+            }
+
+            /// The input bytes left over.
+            pub fn rest(&self) -> &'a [u8] {
+                let source = self.nodes.source();
+                &source[source.len() - self.left..]
+            }
+
+            /// Every record, containers before what they contain.
+            #[inline]
+            pub fn records(&self) -> Records<'a> {
+                Records { nodes: self.nodes, next: 0, end: self.count() }
+            }
+        }
+
+        impl fmt::Debug for $name<'_> {
+            fn fmt(&self, f: &mut fmt::Formatter<'_>) -> fmt::Result {
+                f.debug_struct(stringify!($name)).field("left", &self.left).field("records", &self.records()).finish()
+            }
+        }
+    };
+}
+nodes_impl!(Packet);
+nodes_impl!(Packets);
+
+impl<'a> Packet<'a> {
+    /// The message or bundle that the packet is.
+    #[inline]
+    pub fn root(&self) -> Record<'a> {
+        Record { nodes: self.nodes, index: 0 }
+    }
+
+    /// The table as an encoder takes it.
+    pub fn table(&self) -> Table<'a> {
+        Table { bytes: self.nodes.bytes(), count: self.count(), source: self.nodes.source() }
+    }
+}
+
+impl<'a> Packets<'a> {
+    /// The message or bundle of each packet.
+    #[inline]
+    pub fn roots(&self) -> Siblings<'a> {
+        Siblings { nodes: self.nodes, next: 0, end: self.count() }
+    }
+}
+
+/// One record: a node of a packet.
+#[derive(Clone, Copy)]
+pub struct Record<'a> {
+    nodes: Nodes<'a>,
+    index: usize,
+}
+
+impl<'a> Record<'a> {
+    /// Its place in the table.
+    #[inline]
+    pub fn index(&self) -> usize {
+        self.index
+    }
+
+    /// The place after it and all that it contains.
+    #[inline]
+    pub fn end(&self) -> usize {
+        self.nodes.end(self.index)
+    }
+
+    /// Its kind: the type tag of an argument, `/` for a message, `#` for a bundle, `[` for an array.
+    #[inline]
+    pub fn kind(&self) -> u8 {
+        self.nodes.kind(self.index)
+    }
+
+    /// What it says.
+    #[inline]
+    pub fn value(&self) -> Value<'a> {
+        self.nodes.value(self.index)
+    }
+
+    /// What it contains directly: a message's arguments, a bundle's elements, an array's values.
+    #[inline]
+    pub fn inside(&self) -> Siblings<'a> {
+        Siblings { nodes: self.nodes, next: self.index + 1, end: self.end() }
+    }
+
+    /// All that it contains at any depth, containers before what they contain.
+    #[inline]
+    pub fn below(&self) -> Records<'a> {
+        Records { nodes: self.nodes, next: self.index + 1, end: self.end() }
+    }
+}
+
+impl fmt::Debug for Record<'_> {
+    fn fmt(&self, f: &mut fmt::Formatter<'_>) -> fmt::Result {
+        write!(f, "{}..{} {:?}", self.index, self.end(), self.value())
+    }
+}
+
+/// Records one after another, containers before what they contain.
+#[derive(Clone)]
+pub struct Records<'a> {
+    nodes: Nodes<'a>,
+    next: usize,
+    end: usize,
+}
+
+impl<'a> Iterator for Records<'a> {
+    type Item = Record<'a>;
+
+    #[inline]
+    fn next(&mut self) -> Option<Record<'a>> {
+        if self.next == self.end {
+            return None;
+        }
+        let record = Record { nodes: self.nodes, index: self.next };
+        self.next += 1;
+        Some(record)
+    }
+
+    #[inline]
+    fn size_hint(&self) -> (usize, Option<usize>) {
+        (self.end - self.next, Some(self.end - self.next))
+    }
+}
+
+impl ExactSizeIterator for Records<'_> {}
+impl FusedIterator for Records<'_> {}
+
+impl fmt::Debug for Records<'_> {
+    fn fmt(&self, f: &mut fmt::Formatter<'_>) -> fmt::Result {
+        f.debug_list().entries(self.clone()).finish()
+    }
+}
+
+/// Records that stand side by side: each begins where the one before it, with all that it contains, ends.
+#[derive(Clone)]
+pub struct Siblings<'a> {
+    nodes: Nodes<'a>,
+    next: usize,
+    end: usize,
+}
+
+impl<'a> Iterator for Siblings<'a> {
+    type Item = Record<'a>;
+
+    #[inline]
+    fn next(&mut self) -> Option<Record<'a>> {
+        if self.next == self.end {
+            return None;
+        }
+        let record = Record { nodes: self.nodes, index: self.next };
+        self.next = record.end();
+        Some(record)
+    }
+}
+
+impl FusedIterator for Siblings<'_> {}
+
+impl fmt::Debug for Siblings<'_> {
+    fn fmt(&self, f: &mut fmt::Formatter<'_>) -> fmt::Result {
+        f.debug_list().entries(self.clone()).finish()
+    }
+}
+
+/// The kind of the record at `index` of any table, by that record's own rules: its end and range are not looked at.
+///
+/// ```
+/// use sennorbai::{look, Refusal};
+///
+/// let table = *b"i\0\0\0\0\0\0\x01\0\0\0\x05\0\0\0\0";
+/// assert_eq!(look(&table, 0), Ok(b'i'));
+/// assert_eq!(look(&table, 1), Err(Refusal::BadTable));
+/// ```
+pub fn look(table: &[u8], index: usize) -> Result<u8, Refusal> {
+    Refusal::settle(boundary::look(table, index as u64)).map(|answer| answer as u8)
+}

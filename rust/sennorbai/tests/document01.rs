@@ -1,0 +1,168 @@
+//! Document 01's examples, limits and refusals over lent buffers.
+
+use sennorbai::{
+    decode_tcp, decode_tcp_vec, decode_udp, encode, encode_string, encode_tcp, look, pad, Decoded, Refusal, Table, Time,
+    Value, DEEPEST, LONGEST,
+};
+
+/// Bytes from hex digits with spaces between.
+fn hex(digits: &str) -> Vec<u8> {
+    let digits: String = digits.split_whitespace().collect();
+    (0..digits.len() / 2).map(|i| u8::from_str_radix(&digits[2 * i..2 * i + 2], 16).unwrap()).collect()
+}
+
+/// What `decode_udp` gives: the values with their ends, and the number of bytes left.
+fn udp(digits: &str) -> Result<(String, usize), Refusal> {
+    let mut table = [0xAA; 256];
+    let msg = hex(digits);
+    let packet = decode_udp(&msg, &mut table, DEEPEST)?;
+    Ok((format!("{:?}", packet.records()), packet.left()))
+}
+
+#[test]
+fn examples_that_are_refused() {
+    let cases = [
+        ("", 2),
+        ("2F000000", 3),
+        ("2F610000 2C5D0000", 6),
+        ("2F610000 2C780000", 7),
+        ("2F610000 2C630000 0000D800", 8),
+        ("2FFF0000", 4),
+        ("61000000", 5),
+    ];
+    for (digits, number) in cases {
+        assert_eq!(udp(digits).unwrap_err().number(), number, "{digits}");
+    }
+}
+
+#[test]
+fn examples_that_are_read() {
+    let message = |inside: &str, left| Ok((format!("[{inside}]"), left));
+    let five = message("0..2 Message(\"/a\"), 1..2 Int(5)", 0);
+    assert_eq!(udp("2F610000 2C690000 00000005"), five);
+    assert_eq!(udp("2F610000 58690000 00000005"), five);
+    assert_eq!(udp("2F610000 00000000"), message("0..1 Message(\"/a\")", 0));
+    let two = message("0..2 Message(\"/a\"), 1..2 Int(2)", 0);
+    assert_eq!(udp("2F610000 2C695B69 00000000 00000001 00000002"), two);
+    let bundle = message("0..1 Bundle(Time { seconds: 0, fractional: 1 })", 4);
+    assert_eq!(udp("2362756E 646C6500 00000000 00000001 00000000"), bundle);
+}
+
+#[test]
+fn example_3_byte_for_byte() {
+    let mut table = [0xAA; 48];
+    let msg = hex("2F610000 2C690000 00000005");
+    let packet = decode_udp(&msg, &mut table, DEEPEST).unwrap();
+    assert_eq!((packet.count(), packet.rest()), (2, &b""[..]));
+    let due = hex("2F000000 00000002 00000000 00000002 69000000 00000002 00000005 00000000");
+    assert_eq!(packet.table(), Table { bytes: &due, count: 2, source: &msg });
+    assert_eq!(table[32..], [0xAA; 16]);
+}
+
+#[test]
+fn examples_13_and_14() {
+    let mut table = [0xAA; 64];
+    assert_eq!(decode_tcp(&hex("00000008 2F610000"), &mut table, DEEPEST).unwrap_err(), Refusal::RunsOut);
+    assert!(matches!(decode_tcp(&hex("00000009 2F610000"), &mut table, DEEPEST), Ok(Decoded::Waiting)));
+    let list = decode_tcp_vec(b"\0\0\0\x09/a\0\0", &mut table, DEEPEST).unwrap();
+    assert_eq!((list.count(), list.left(), list.roots().count()), (0, 8, 0));
+    assert_eq!(table, [0xAA; 64]);
+}
+
+/// `levels` bundles, each in the one before.
+fn nested(levels: usize) -> Vec<u8> {
+    let mut bytes = Vec::new();
+    for level in (1..=levels).rev() {
+        bytes.extend(b"#bundle\0\0\0\0\0\0\0\0\x01");
+        if level > 1 {
+            bytes.extend(((20 * (level - 1) - 4) as u32).to_be_bytes());
+        }
+    }
+    bytes
+}
+
+#[test]
+fn limits_of_decoders() {
+    let mut table = vec![0; 16 * 65_535];
+    let mut msg = b"/a\0\0,b\0\0\0\0\xFF\xF0".to_vec();
+    msg.resize(LONGEST, 7);
+    let packet = decode_udp(&msg, &mut table, DEEPEST).unwrap();
+    assert_eq!(packet.root().inside().next().unwrap().value(), Value::Blob(&msg[12..12 + 65_520]));
+    assert_eq!(packet.left(), 3);
+    msg.push(7);
+    assert_eq!(decode_udp(&msg, &mut table, DEEPEST).unwrap_err(), Refusal::TooLong);
+
+    assert_eq!(decode_udp(&nested(64), &mut table, 64).unwrap().count(), 64);
+    assert_eq!(decode_udp(&nested(64), &mut table, 63).unwrap_err(), Refusal::TooDeep);
+    assert_eq!(decode_udp(&nested(65), &mut table, 64).unwrap_err(), Refusal::TooDeep);
+    assert_eq!(decode_udp(&nested(1), &mut table, 65).unwrap_err(), Refusal::DepthLimit);
+
+    let msg = b"/a\0\0,TFN\0\0\0\0";
+    assert_eq!(decode_udp(msg, &mut table[..64], DEEPEST).unwrap().count(), 4);
+    table.fill(0xAA);
+    assert_eq!(decode_udp(msg, &mut table[..63], DEEPEST).unwrap_err(), Refusal::TableFull);
+    assert!(table.iter().all(|&byte| byte == 0xAA));
+}
+
+#[test]
+fn limits_of_encoders() {
+    let mut table = [0; 64];
+    let msg = b"/a\0\0,i\0\0\0\0\0\x05";
+    let packet = decode_udp(msg, &mut table, DEEPEST).unwrap().table();
+    let mut out = [0xAA; 17];
+    assert_eq!(encode(packet, &mut out[..11]), Err(Refusal::OutputShort));
+    assert_eq!(encode_tcp(packet, &mut out[..15]), Err(Refusal::OutputShort));
+    assert_eq!(out, [0xAA; 17]);
+    assert_eq!(encode(packet, &mut out[..12]), Ok(&msg[..]));
+    assert_eq!(encode_tcp(packet, &mut out), Ok(&b"\0\0\0\x0C/a\0\0,i\0\0\0\0\0\x05"[..]));
+    assert_eq!(out[16], 0xAA);
+    assert_eq!(encode(Table { count: 3, ..packet }, &mut out), Err(Refusal::BadTable));
+
+    let mut out = vec![0; LONGEST + 1];
+    assert_eq!(encode_string(&vec![b'a'; 65_531], &mut out).unwrap().len(), 65_532);
+    assert_eq!(encode_string(&vec![b'a'; 65_532], &mut out), Err(Refusal::TooLong));
+    assert_eq!(encode_string(b"\xC3", &mut out), Err(Refusal::NotUtf8));
+    assert_eq!(pad(u64::MAX - 3), Ok(u64::MAX - 3));
+    assert_eq!(pad(u64::MAX - 2), Err(Refusal::PadOverflow));
+    assert_eq!(look(packet.bytes, 1), Ok(b'i'));
+    assert_eq!(look(packet.bytes, 2), Err(Refusal::BadTable));
+}
+
+#[test]
+fn values_of_every_kind() {
+    let msg = hex(
+        "2F610000 2C696673 62746864 63726D54 464E495B 545D0000 FFFFFFFE 7FC00001 C3A90000 00000003 01020300 00000001 00000002 \
+         80000000 00000000 7FF80000 00000001 0001F600 01020304 05060708",
+    );
+    let mut table = [0; 16 * 32];
+    let packet = decode_udp(&msg, &mut table, DEEPEST).unwrap();
+    let values: Vec<Value<'_>> = packet.root().inside().map(|record| record.value()).collect();
+    let bits = |value: &Value<'_>| match *value {
+        Value::Float(x) => x.to_bits() as u64,
+        Value::Double(x) => x.to_bits(),
+        _ => panic!("no float"),
+    };
+    assert_eq!((bits(&values[1]), bits(&values[6])), (0x7FC0_0001, 0x7FF8_0000_0000_0001));
+    assert_eq!((values[0], values[2]), (Value::Int(-2), Value::Text("é")));
+    assert_eq!((values[3], values[7]), (Value::Blob(&[1, 2, 3]), Value::Char('😀')));
+    assert_eq!((values[4], values[5]), (Value::Time(Time { seconds: 1, fractional: 2 }), Value::Long(i64::MIN)));
+    let rest =
+        "[Color(Color { red: 1, green: 2, blue: 3, alpha: 4 }), Midi(Midi { port: 5, status: 6, data1: 7, data2: 8 }), \
+                Bool(true), Bool(false), Nil, Inf, Array]";
+    assert_eq!(format!("{:?}", &values[8..]), rest);
+    let array = packet.root().inside().last().unwrap();
+    assert_eq!((array.kind(), array.index(), array.end(), array.below().len()), (b'[', 15, 17, 1));
+    let mut out = [0; 256];
+    assert_eq!(encode(packet.table(), &mut out), Ok(&msg[..]));
+}
+
+#[test]
+fn refusals_print_number_and_words() {
+    for (index, refusal) in Refusal::ALL.into_iter().enumerate() {
+        assert_eq!(refusal.number() as usize, index + 1);
+        assert_eq!(refusal.to_string(), format!("{}: {}", index + 1, refusal.words()));
+        let error: &dyn std::error::Error = &refusal;
+        assert!(error.source().is_none());
+    }
+    assert_eq!(Refusal::DepthLimit.to_string(), "13: depth limit over 64");
+}

@@ -1,0 +1,171 @@
+//! rosc's types and signatures over the library: packets there and back, errors, limits, conversions and printing.
+#![cfg(feature = "std")]
+
+use sennorbai::rosc_compat::encoder::WriteOutput;
+use sennorbai::rosc_compat::{
+    decoder, encoder, OscArray, OscBundle, OscColor, OscError, OscMessage, OscMidiMessage, OscPacket, OscTime, OscType,
+};
+use sennorbai::Refusal;
+use std::io::Cursor;
+use std::time::{Duration, SystemTime, UNIX_EPOCH};
+
+fn message(addr: &str, args: Vec<OscType>) -> OscPacket {
+    OscPacket::Message(OscMessage { addr: addr.to_string(), args })
+}
+
+fn bundle(content: Vec<OscPacket>) -> OscPacket {
+    OscPacket::Bundle(OscBundle { timetag: (7, 9).into(), content })
+}
+
+fn every_type() -> Vec<OscType> {
+    let array = |content| OscType::Array(OscArray { content });
+    vec![
+        OscType::Int(-1),
+        OscType::Float(0.25),
+        "é".into(),
+        OscType::Blob(vec![1, 2, 3]),
+        (1, 2).into(),
+        array(vec![]),
+        array(vec![array(vec![OscType::Nil]), array(vec![]), 5.into()]),
+        OscType::Long(i64::MAX),
+        OscType::Double(1e300),
+        OscType::Char('x'),
+        OscType::Color(OscColor { red: 1, green: 2, blue: 3, alpha: 4 }),
+        OscType::Midi(OscMidiMessage { port: 1, status: 2, data1: 3, data2: 4 }),
+        true.into(),
+        false.into(),
+        OscType::Inf,
+    ]
+}
+
+#[test]
+fn packets_come_back() {
+    let packet = bundle(vec![message("/a", every_type()), bundle(vec![]), bundle(vec![message("/b", vec![])])]);
+    let bytes = encoder::encode(&packet).unwrap();
+    let (rest, read) = decoder::decode_udp(&bytes).unwrap();
+    assert_eq!((rest, &read), (&b""[..], &packet));
+
+    let frame = encoder::encode_tcp(&message("/a", every_type())).unwrap();
+    let frames = [&frame[..], &frame[..], b"\0\0\0\x09/c"].concat();
+    let (rest, first) = decoder::decode_tcp(&frames).unwrap();
+    assert_eq!((rest, first), (&frames[frame.len()..], Some(message("/a", every_type()))));
+    let (rest, all) = decoder::decode_tcp_vec(&frames).unwrap();
+    assert_eq!((rest, all.len()), (&b"\0\0\0\x09/c"[..], 2));
+    assert_eq!(decoder::decode_tcp(rest).unwrap(), (rest, None));
+}
+
+#[test]
+fn outputs_get_the_same_bytes() {
+    let packet = message("/a", every_type());
+    let mut bytes = vec![7];
+    let length = encoder::encode_into(&packet, &mut bytes).unwrap();
+    assert_eq!(bytes[1..], encoder::encode(&packet).unwrap());
+    assert_eq!(length, bytes.len() - 1);
+    let mut file = WriteOutput(Cursor::new(Vec::new()));
+    assert_eq!(encoder::encode_into_tcp(&packet, &mut file).unwrap(), length + 4);
+    assert_eq!(file.0.into_inner(), encoder::encode_tcp(&packet).unwrap());
+    bytes.clear();
+    assert_eq!(encoder::encode_string_into("abcd", &mut bytes).unwrap(), 8);
+    assert_eq!((bytes, encoder::encode_string("abc")), (b"abcd\0\0\0\0".to_vec(), b"abc\0".to_vec()));
+}
+
+#[test]
+fn errors_are_those_of_rosc() {
+    let cases: [(&[u8], &str); 7] = [
+        (b"", "bad OSC packet: Empty packet."),
+        (b"/\0\0\0", "error reading from buffer: Eof"),
+        (b"/\xFF\0\0", "reading OSC string as utf-8: invalid utf-8 sequence of 1 bytes from index 0"),
+        (b"a\0\0\0", "bad OSC packet: Invalid message address or bundle tag"),
+        (b"/a\0\0,]\0\0", "bad OSC message: Encountered ] outside array"),
+        (b"/a\0\0,x\0\0", "bad OSC argument: Type tag is not implemented!"),
+        (b"/a\0\0,c\0\0\0\0\xD8\0", "bad OSC argument: Argument is not a char!"),
+    ];
+    for (msg, words) in cases {
+        assert_eq!(decoder::decode_udp(msg).unwrap_err().to_string(), words);
+        let frame = [&(msg.len() as u32).to_be_bytes(), msg].concat();
+        assert_eq!(decoder::decode_tcp(&frame).unwrap_err().to_string(), words);
+        assert_eq!(decoder::decode_tcp_vec(&frame).unwrap_err().to_string(), words);
+    }
+    let error = decoder::decode_udp(b"/\xFF\0\0").unwrap_err();
+    assert!(std::error::Error::source(&error).is_some());
+}
+
+/// Bundles in bundles.
+fn deep(levels: usize) -> OscPacket {
+    (1..levels).fold(bundle(vec![]), |inner, _| bundle(vec![inner]))
+}
+
+#[test]
+fn limits_are_an_error_of_their_own() {
+    let error = decoder::decode_udp(&[0; 65_536]).unwrap_err();
+    assert_eq!(error.to_string(), format!("limit: {}", Refusal::TooLong));
+    let too_long = |args| matches!(encoder::encode(&message("/a", args)), Err(OscError::Limit(Refusal::TooLong)));
+    assert!(!too_long(vec!["a".repeat(65_523).into()]));
+    assert!(too_long(vec!["a".repeat(65_524).into()]));
+    assert!(!too_long(vec![OscType::Nil; 65_526]));
+    assert!(too_long(vec![OscType::Nil; 65_527]));
+    // One record more than a table may have.
+    assert!(too_long(vec![OscType::Nil; 65_535]));
+
+    let bytes = encoder::encode(&deep(64)).unwrap();
+    assert_eq!(decoder::decode_udp(&bytes).unwrap().1, deep(64));
+    assert!(matches!(encoder::encode(&deep(65)), Err(OscError::Limit(Refusal::TooDeep))));
+    let deeper = [b"#bundle\0\0\0\0\0\0\0\0\x01", &(bytes.len() as u32).to_be_bytes()[..], &bytes].concat();
+    assert!(matches!(decoder::decode_udp(&deeper), Err(OscError::Limit(Refusal::TooDeep))));
+
+    assert_eq!(encoder::encode_string("a".repeat(70_000)).len(), 70_004);
+}
+
+#[test]
+#[should_panic(expected = "9: bundles nested deeper than the limit")]
+fn an_output_has_no_place_for_a_limit() {
+    let _ = encoder::encode_into(&deep(65), &mut Vec::new());
+}
+
+#[test]
+fn arrays_nest_to_any_depth() {
+    // Encoding and dropping call themselves for each level.
+    let run = || {
+        let mut msg = b"/a\0\0".to_vec();
+        msg.extend(encoder::encode_string(format!(",{}i{}", "[".repeat(20_000), "]".repeat(20_000))));
+        msg.extend([0, 0, 0, 7]);
+        let (_, packet) = decoder::decode_udp(&msg).unwrap();
+        assert_eq!(encoder::encode(&packet).unwrap(), msg);
+    };
+    std::thread::Builder::new().stack_size(64 << 20).spawn(run).unwrap().join().unwrap();
+}
+
+#[test]
+fn values_and_conversions() {
+    assert_eq!((OscType::from(3).int(), OscType::from(3).float()), (Some(3), None));
+    assert_eq!(OscType::from("a").string(), Some("a".to_string()));
+    assert_eq!(OscType::from((1, 2)).time(), Some(OscTime { seconds: 1, fractional: 2 }));
+    let array: OscArray = [1, 2].into_iter().collect();
+    assert_eq!(array.content, [OscType::Int(1), OscType::Int(2)]);
+    assert_eq!(OscMessage::from("/a"), OscMessage::from("/a".to_string()));
+    assert_eq!(<(u32, u32)>::from(OscTime::from((1, 2))), (1, 2));
+
+    let time = UNIX_EPOCH + Duration::new(1_700_000_000, 500_000_000);
+    let tag = OscTime::try_from(time).unwrap();
+    assert_eq!(tag, OscTime { seconds: 3_908_988_800, fractional: 1 << 31 });
+    assert_eq!(OscType::try_from(time).unwrap(), OscType::Time(tag));
+    assert_eq!(SystemTime::from(tag), time);
+    let before = OscTime::try_from(UNIX_EPOCH - Duration::new(1, 0)).unwrap_err();
+    assert_eq!(before.to_string(), "time is before the unix epoch and cannot be stored");
+    let after = OscTime::try_from(UNIX_EPOCH + Duration::new(2_085_978_496, 0)).unwrap_err();
+    assert_eq!(after.to_string(), "time overflows what OSC time can store");
+}
+
+#[test]
+fn printing() {
+    let print = |seconds, fractional| OscTime { seconds, fractional }.to_string();
+    assert_eq!(print(0, 1), "1900-01-01T00:00:00.000000000Z");
+    assert_eq!(print(2_208_988_800, 0), "1970-01-01T00:00:00.000000000Z");
+    assert_eq!(print(3_918_239_999, 1 << 30), "2024-02-29T23:59:59.250000000Z");
+    assert_eq!(print(3_918_240_000, 0), "2024-03-01T00:00:00.000000000Z");
+    assert_eq!(print(u32::MAX, u32::MAX), "2036-02-07T06:28:16.000000000Z");
+    let args = vec![1.into(), "a".into(), OscType::Blob(vec![1, 255]), OscType::Array([true].into_iter().collect())];
+    assert_eq!(message("/a", args).to_string(), "/a, (i) 1, (s) a, (b) 0x01FF, [(T)]");
+    let empty = OscPacket::Bundle(OscBundle { timetag: (2_208_988_800, 0).into(), content: vec![message("/a", vec![])] });
+    assert_eq!(empty.to_string(), "#bundle 1970-01-01T00:00:00.000000000Z { /a,  }");
+}
