@@ -20,7 +20,7 @@ nul-on l i h e = rw (drop-cons l i 0, ne-eqb (getD l i 0) 0 e, add-one)
 pub nul-end : (l : List ℕ) (i : ℕ) → length l ≤ i → untilNul (drop i l) ≡ 0
 nul-end l i h = rw (drop-of-length-le l h)
 
-shorter : (t : Bool) {m n : ℕ} → m ≤ n → cond t 0 (suc m) ≤ suc n
+pub shorter : (t : Bool) {m n : ℕ} → m ≤ n → cond t 0 (suc m) ≤ suc n
 shorter true h = omega arith
 shorter false h = omega arith
 

@@ -1,25 +1,45 @@
 -- The four answers of `textOf`, each by the tests that lead to it; n is where the text ends. Assumes nothing.
-use mathlib.Core.Path.{_≡_, _∙_}
+use mathlib.Core.Path.{_≡_, subst, _∙_}
 use mathlib.Core.Bool.{Bool, true, false}
 use mathlib.Core.List.{List}
 use Prim.Native.Nat.{ℕ, _+_, _-_, _*_, _/_, _<_, _≤_}
+use native.Mathlib.Nat.{add-zero, add-sub-cancel-left}
 use native.Mathlib.Omega.{arith}
 use borrow.Author.Tests.{lt-ltb, le-ltb, le-leb, lt-leb}
-use lib.ListN.{length, take}
+use lib.ListN.{length, take, drop}
+use Rattle.number.proofs.Parts.{tail}
 use Rattle.utf8.specs.Utf8.{Octets, Decides}
 use Rattle.utf8.specs.Derive.{utf8}
 use Rattle.text.specs.Text.{untilNul, reach, textOf}
+use Rattle.text.specs.declared.Text.{Text}
 use Rattle.text.specs.declared.Text.the-variants.{Found, Lacks}
 use Rattle.text.specs.declared.Lack.the-variants.{Nul, Padding, Utf8}
+use Rattle.text.specs.Plain.{plain}
 use Rattle.utf8.proofs.Grammar.{octets, same-answer}
+use Rattle.text.proofs.Passing.{nul-after, utf8-after}
 
 -- the reach of a text, as the code computes it
 reached : (p n : ℕ) → (p + n + 4) / 4 * 4 - p ≡ reach p (n + 1)
 reached p n = omega arith
 
--- what `is_utf8` answers of the text
-judged : (l : List ℕ) {r : Bool} → Decides r (Octets l) → utf8 l ≡ r
-judged l d = same-answer (octets l) d
+-- the first NUL, from the first p bytes and the m after them
+pub nul-at : (l : List ℕ) (p m : ℕ) → p ≡ plain l → m ≡ untilNul (take (length l - p) (drop p l)) → p + m ≡ untilNul l
+nul-at l p m e f =
+    let g : m ≡ untilNul (drop (plain l) l) = rw (tail, e) at f in
+    omega (arith, nul-after l)
+
+-- a text of bytes that are not special needs no test
+pub no-test : (l : List ℕ) (n p : ℕ) → p ≡ plain l → n ≡ p → utf8 (take n l) ≡ true
+no-test l n p e f = rw (f, e, ← add-zero (plain l)) (utf8-after l 0)
+
+pub same-length : {n m used : ℕ} {t : Text} → n ≡ m → Found n used ≡ t → Found m used ≡ t
+same-length {used = used} {t} e f = subst (λ (k : ℕ). Found k used ≡ t) e f
+
+-- what `is_utf8` answers of the rest of a text is true of all of it
+pub judged : (l : List ℕ) (p m : ℕ) {r : Bool} → p ≡ plain l → Decides r (Octets (take (p + m - p) (drop p l))) → utf8 (take (p + m) l) ≡ r
+judged l p m e d =
+    let f : utf8 (take (p + m) l) ≡ utf8 (take m (drop p l)) = rw e (utf8-after l m) in
+    f ∙ same-answer (octets (take m (drop p l))) (rw add-sub-cancel-left at d)
 
 module _ (l : List ℕ) (p n : ℕ) (e : n ≡ untilNul l) where
   pub no-nul : n ≡ length l → Lacks Nul ≡ textOf l p
@@ -30,16 +50,13 @@ module _ (l : List ℕ) (p n : ℕ) (e : n ≡ untilNul l) where
   unfolding textOf
   no-padding h k = rw (← e, lt-ltb n (length l) h, lt-leb (reach p (n + 1)) (length l) (rw reached at k))
 
-  pub found : n < length l → (p + n + 4) / 4 * 4 - p ≤ length l → {r : Bool} → Decides r (Octets (take n l)) → r ≡ true
+  pub found : n < length l → (p + n + 4) / 4 * 4 - p ≤ length l → utf8 (take n l) ≡ true
       → Found n ((p + n + 4) / 4 * 4 - p) ≡ textOf l p
   unfolding textOf
-  found h k d t =
-      let u : utf8 (take n l) ≡ true = judged (take n l) d ∙ t in
+  found h k u =
       rw (reached p n, ← e, lt-ltb n (length l) h, le-leb (reach p (n + 1)) (length l) (rw reached at k), u)
 
-  pub not-utf8 : n < length l → (p + n + 4) / 4 * 4 - p ≤ length l → {r : Bool} → Decides r (Octets (take n l)) → r ≡ false
-      → Lacks Utf8 ≡ textOf l p
+  pub not-utf8 : n < length l → (p + n + 4) / 4 * 4 - p ≤ length l → utf8 (take n l) ≡ false → Lacks Utf8 ≡ textOf l p
   unfolding textOf
-  not-utf8 h k d t =
-      let u : utf8 (take n l) ≡ false = judged (take n l) d ∙ t in
+  not-utf8 h k u =
       rw (← e, lt-ltb n (length l) h, le-leb (reach p (n + 1)) (length l) (rw reached at k), u)

@@ -2,7 +2,9 @@
 use refusal::Fault;
 ghost use mathlib.Core.Path.{_≡_};
 ghost use Prim.Native.Nat.{_+_, _≤_};
+ghost use lib.Dec.{ltb};
 ghost use lib.ListN.{length};
+ghost use Rattle.text.specs.Plain.{special, plain, Passed};
 ghost use Rattle.text.specs.Text.{untilNul, textOf, faultOf};
 
 // What a text lacks. The three are kept apart, though two have one number today.
@@ -33,6 +35,63 @@ pub fn fault_of(lack: Lack) -> Fault
     }
 }
 
+// Whether a byte is special: NUL, or above 0x7F and so part of a longer character.
+fn is_special(byte: u8) -> bool
+    ensures { λ r. ⌜ r ≡ special byte ⌝ }
+{
+    if byte == 0 {
+        return true;
+    }
+    0x7F < byte
+}
+
+// Whether one of the first `n` bytes is special. With no early exit, the compiled test takes all of them at once.
+fn any_special(input: &[u8], n: usize) -> bool
+    requires { ⌜ n ≤ length (now input) ⌝ }
+    ensures { λ r. ⌜ r ≡ ltb (plain (now (input .entry))) n ⌝ }
+{
+    let mut any = false;
+    let mut i = 0;
+    while i < n {
+        if is_special(input[i]) {
+            any = true;
+        }
+        i += 1;
+    }
+    any
+}
+
+// How many bytes may be passed over, `n` at a time: none of them is special.
+fn skip(input: &[u8], n: usize) -> usize
+    requires { ⌜ 1 ≤ n ⌝ }
+    ensures { λ r. ⌜ Passed r (now (input .entry)) ⌝ }
+{
+    let mut at = 0;
+    while n <= input.len() - at {
+        if any_special(&input[at..], n) {
+            return at;
+        }
+        at += n;
+    }
+    at
+}
+
+// How many bytes stand before the first special one; all of them where there is none. They are passed over 16, 4 and 1 at a time.
+fn plain(input: &[u8]) -> usize
+    ensures { λ r. ⌜ (r ≤ length (now (input .entry))) × (r ≡ plain (now (input .entry))) ⌝ }
+{
+    let front = skip(input, 16);
+    let rest = &input[front..];
+    let mut at = skip(rest, 4);
+    while at < rest.len() {
+        if is_special(rest[at]) {
+            return front + at;
+        }
+        at += 1;
+    }
+    front + at
+}
+
 // How many bytes stand before the first NUL; all of them where there is none.
 fn until_nul(input: &[u8]) -> usize
     ensures { λ r. ⌜ (r ≤ length (now (input .entry))) × (r ≡ untilNul (now (input .entry))) ⌝ }
@@ -55,7 +114,8 @@ pub fn read_osc_string(input: &[u8], pos: usize) -> Text
     requires { ⌜ pos + length (now input) ≤ 65535 ⌝ }
     ensures { λ r. ⌜ r ≡ textOf (now (input .entry)) pos ⌝ }
 {
-    let length = until_nul(input);
+    let plain = plain(input);
+    let length = plain + until_nul(&input[plain..]);
     if length == input.len() {
         return Text::Lacks(Lack::Nul);
     }
@@ -63,7 +123,13 @@ pub fn read_osc_string(input: &[u8], pos: usize) -> Text
     if input.len() < used {
         return Text::Lacks(Lack::Padding);
     }
-    if utf8::is_utf8(&input[0..length]) {
+    if length == plain {
+        return Text::Found {
+            length: plain,
+            used,
+        };
+    }
+    if utf8::is_utf8(&input[plain..length]) {
         return Text::Found { length, used };
     }
     Text::Lacks(Lack::Utf8)

@@ -4,5 +4,6 @@ pub mod Same
 pub mod Rules
 pub mod Grammar
 pub mod Steps
+pub mod Plain
 pub mod Chars
 pub mod Only

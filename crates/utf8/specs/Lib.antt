@@ -3,3 +3,4 @@ pub mod Utf8
 pub mod Derive
 pub mod States
 pub mod Lead
+pub mod Highest

@@ -2,6 +2,7 @@
 ghost use mathlib.Core.Path.{_≡_};
 ghost use Rattle.utf8.specs.Utf8.{Octets, Decides};
 ghost use Rattle.utf8.specs.Lead.{lead};
+ghost use Rattle.utf8.specs.Highest.{highest};
 
 // The class of each byte value: how many of the grammar's limits (`limits`, in specs/States.antt) are at or below it.
 const CLASS: [u8; 256] = [
@@ -412,10 +413,24 @@ const NEXT: [u8; 144] = [
     8,
 ];
 
+// The greatest byte, and 0 where there is none. With no early exit, a compiled step takes many bytes.
+fn highest(s: &[u8]) -> u8
+    ensures { λ r. ⌜ r ≡ highest 0 (now (s .entry)) ⌝ }
+{
+    let mut top: u8 = 0;
+    let mut i = 0;
+    while i < s.len() {
+        if top < s[i] {
+            top = s[i];
+        }
+        i += 1;
+    }
+    top
+}
+
 // Whether `s` is UTF-8: each byte is one step of the automaton.
 // The tables are bound before the loop, since each use of a constant builds it anew.
-// Ruled out: true for the overlong C0 80; true for a surrogate ED A0 80; true for a cut E2 82; false for an empty slice.
-pub fn is_utf8(s: &[u8]) -> bool
+fn walk(s: &[u8]) -> bool
     ensures { λ r. ⌜ Decides r (Octets (now (s .entry))) ⌝ }
 {
     let class = CLASS;
@@ -427,6 +442,17 @@ pub fn is_utf8(s: &[u8]) -> bool
         i += 1;
     }
     state == 0
+}
+
+// Whether `s` is UTF-8. Bytes below 0x80 are characters by themselves, and need no tables.
+// Ruled out: true for the overlong C0 80; true for a surrogate ED A0 80; true for a cut E2 82; false for an empty slice.
+pub fn is_utf8(s: &[u8]) -> bool
+    ensures { λ r. ⌜ Decides r (Octets (now (s .entry))) ⌝ }
+{
+    if highest(s) < 0x80 {
+        return true;
+    }
+    walk(s)
 }
 
 // How many bytes the character has that begins with `first`.

@@ -1,63 +1,47 @@
-//! The inputs: short ones over a telling alphabet, structured random ones, damaged copies, frames and deep nesting.
+//! Structured random inputs: trees of every kind, odd messages and bundles, damaged copies, and frames.
 
-use crate::oracle;
-use crate::tree::Node;
-
-/// A small generator of random numbers (xorshift64*), so that a seed repeats a run.
-pub struct Random(u64);
-
-impl Random {
-    pub fn new(seed: u64) -> Random {
-        Random(seed.wrapping_mul(0x9E37_79B9_7F4A_7C15) | 1)
-    }
-    pub fn next(&mut self) -> u64 {
-        self.0 ^= self.0 >> 12;
-        self.0 ^= self.0 << 25;
-        self.0 ^= self.0 >> 27;
-        self.0.wrapping_mul(0x2545_F491_4F6C_DD1D)
-    }
-    /// A number below n.
-    pub fn below(&mut self, n: usize) -> usize {
-        (self.next() >> 16) as usize % n
-    }
-    /// One time in n.
-    pub fn one_in(&mut self, n: usize) -> bool {
-        self.below(n) == 0
-    }
-    pub fn pick<T: Copy>(&mut self, from: &[T]) -> T {
-        from[self.below(from.len())]
-    }
-}
+use crate::random::Random;
+use rosc::{encoder, OscArray, OscBundle, OscColor, OscMessage, OscMidiMessage, OscPacket, OscTime, OscType};
 
 /// Bytes that mean something somewhere: NUL, small sizes, the starts, the tags, UTF-8's borders.
-const TELLING: &[u8] = &[0, 1, 4, 8, b'/', b'#', b',', b'[', b']', b'i', b's', b'b', b'c', b'T', 0x80, 0xBF, 0xC3, 0xD8, 0xE0, 0xED, 0xFF];
+pub const TELLING: &[u8] = &[
+    0, 1, 3, 4, 8, 12, b'/', b'#', b',', b'[', b']', b'i', b's', b'b', b'c', b'h', b'T', b'x', 0x7F, 0x80, 0x9F, 0xA0, 0xBF,
+    0xC0, 0xC3, 0xD8, 0xE0, 0xED, 0xF0, 0xF4, 0xFF,
+];
 
-/// The n-th short input over a part of the telling bytes: every input of 0, 1, 2, .. bytes in turn.
-pub fn short(n: u64) -> Vec<u8> {
-    const ALPHABET: &[u8] = &[0, b'/', b',', b'#', b'[', b']', b'T', b'i', 0xC3, 0xA9, 4];
-    let mut left = n;
-    let mut length = 0;
-    let mut many = 1u64;
-    while left >= many {
-        left -= many;
-        many *= ALPHABET.len() as u64;
-        length += 1;
+const WORDS: &[&str] = &[
+    "",
+    "a",
+    "ab",
+    "abc",
+    "abcd",
+    "abcdefg",
+    "é",
+    "日本",
+    "\u{10FFFF}",
+    "~",
+    "\u{7FF}",
+    "\u{800}x",
+    "\u{D7FF}\u{E000}",
+    "\u{FFFF}",
+    "\u{10000}",
+];
+
+/// Appends a text without NUL: of any length around a multiple of 4, and now and then of any length up to 40.
+fn push_word(r: &mut Random, text: &mut String) {
+    text.push_str(r.pick(WORDS));
+    let letters = if r.one_in(6) { r.below(41) } else { r.below(5) };
+    for _ in 0..letters {
+        text.push((b'a' + r.below(26) as u8) as char);
     }
-    let mut bytes = vec![0; length];
-    for b in bytes.iter_mut() {
-        *b = ALPHABET[(left % ALPHABET.len() as u64) as usize];
-        left /= ALPHABET.len() as u64;
-    }
-    bytes
 }
 
-const WORDS: &[&str] = &["", "a", "ab", "abc", "abcd", "abcdefg", "é", "日本", "\u{10FFFF}", "~", "\u{7FF}", "\u{800}x", "\u{FFFF}", "longer text, with spaces in it"];
-
-/// A text without NUL, of any length around a multiple of 4.
 fn word(r: &mut Random) -> String {
-    let mut text = r.pick(WORDS).to_string();
-    for _ in 0..r.below(5) {
-        text.push((b'a' + r.below(26) as u8) as char);
+    let mut text = String::new();
+    push_word(r, &mut text);
+    if r.one_in(40) {
+        text.push('\0');
+        push_word(r, &mut text);
     }
     text
 }
@@ -69,145 +53,158 @@ fn number(r: &mut Random) -> u32 {
     }
 }
 
-fn argument(r: &mut Random, deep: usize) -> Node {
-    let kind = r.pick(b"ifsbthdcrmTFNI[");
-    match kind {
-        b's' => Node::ranged(kind, word(r).as_bytes()),
-        b'b' => {
-            let n = r.below(9);
-            let bytes: Vec<u8> = (0..n).map(|_| r.next() as u8).collect();
-            Node::ranged(kind, &bytes)
-        }
-        b't' | b'h' | b'd' => Node::leaf(kind, number(r), number(r)),
-        b'c' => Node::leaf(kind, r.pick(&[0, 65, 0xD7FF, 0xE000, 0x10FFFF, 0x1F600]), 0),
-        b'T' | b'F' | b'N' | b'I' => Node::leaf(kind, 0, 0),
-        b'[' => {
-            let mut node = Node::leaf(kind, 0, 0);
-            if deep > 0 {
-                node.inside = (0..r.below(4)).map(|_| argument(r, deep - 1)).collect();
-            }
-            node
-        }
-        _ => Node::leaf(kind, number(r), 0),
+fn long(r: &mut Random) -> u64 {
+    ((number(r) as u64) << 32) | number(r) as u64
+}
+
+fn time(r: &mut Random) -> OscTime {
+    OscTime { seconds: number(r), fractional: number(r) }
+}
+
+fn blob(r: &mut Random) -> Vec<u8> {
+    let length = if r.one_in(6) { r.below(41) } else { r.below(9) };
+    (0..length).map(|_| r.next() as u8).collect()
+}
+
+fn argument(r: &mut Random, deep: usize) -> OscType {
+    let [p, q, x, y] = number(r).to_be_bytes();
+    match r.below(16) {
+        0 => OscType::Int(number(r) as i32),
+        1 => OscType::Float(f32::from_bits(number(r))),
+        2 => OscType::String(word(r)),
+        3 => OscType::Blob(blob(r)),
+        4 => OscType::Time(time(r)),
+        5 => OscType::Long(long(r) as i64),
+        6 => OscType::Double(f64::from_bits(long(r))),
+        7 => OscType::Char(r.pick(&['\0', 'A', '\u{D7FF}', '\u{E000}', '\u{10FFFF}', '\u{1F600}'])),
+        8 => OscType::Color(OscColor { red: p, green: q, blue: x, alpha: y }),
+        9 => OscType::Midi(OscMidiMessage { port: p, status: q, data1: x, data2: y }),
+        10 => OscType::Bool(true),
+        11 => OscType::Bool(false),
+        12 => OscType::Nil,
+        13 => OscType::Inf,
+        _ if deep > 0 => OscType::Array(OscArray { content: (0..r.below(4)).map(|_| argument(r, deep - 1)).collect() }),
+        _ => OscType::Array(OscArray { content: Vec::new() }),
     }
+}
+
+/// A random message.
+pub fn message(r: &mut Random) -> OscPacket {
+    let mut addr = String::from(if r.one_in(30) { "" } else { "/" });
+    addr.push_str(&word(r));
+    OscPacket::Message(OscMessage { addr, args: (0..r.below(6)).map(|_| argument(r, 3)).collect() })
 }
 
 /// A random tree: a message, or a bundle at most `deep` levels deep.
-pub fn tree(r: &mut Random, deep: usize) -> Node {
+pub fn tree(r: &mut Random, deep: usize) -> OscPacket {
     if deep == 0 || r.one_in(2) {
-        let address = if r.one_in(30) { word(r) } else { format!("/{}", word(r)) };
-        let mut node = Node::ranged(b'/', address.as_bytes());
-        node.inside = (0..r.below(6)).map(|_| argument(r, 3)).collect();
-        return node;
+        return message(r);
     }
-    let mut node = Node::leaf(b'#', number(r), number(r));
-    node.inside = (0..r.below(4)).map(|_| tree(r, deep - 1)).collect();
-    node
+    OscPacket::Bundle(OscBundle { timetag: time(r), content: (0..r.below(4)).map(|_| tree(r, deep - 1)).collect() })
 }
 
-/// A message with odd type text and data: no comma, other first characters, brackets that do not match, unknown tags.
-fn odd_message(r: &mut Random) -> Vec<u8> {
-    let mut bytes = oracle::encode_string(&format!("/{}", r.pick(&["", "a", "abc"])));
-    let mut types = String::from(r.pick(&[",", "X", "é", "", "日", "[", "]", "\u{10FFFF}"]));
+/// The bytes that the crate writes for a random tree.
+pub fn good(r: &mut Random) -> Vec<u8> {
+    let deep = r.below(4);
+    encoder::encode(&tree(r, deep)).expect("the crate encodes every packet")
+}
+
+/// Appends a text with its NUL, padded by any bytes to a multiple of 4.
+fn push_text(r: &mut Random, to: &mut Vec<u8>, text: &[u8]) {
+    let set = r.one_in(8);
+    to.extend_from_slice(text);
+    to.push(0);
+    while !to.len().is_multiple_of(4) {
+        to.push(if set { r.pick(TELLING) } else { 0 });
+    }
+}
+
+/// Appends a message with odd type text and data: no comma, other first characters, unmatched brackets, unknown tags.
+fn push_odd_message(r: &mut Random, to: &mut Vec<u8>) {
+    let mut types = String::from(r.pick(&[",", ",", "X", "é", "", "日", "[", "]", "\u{10FFFF}"]));
     for _ in 0..r.below(9) {
-        types.push(r.pick(&['i', 'T', '[', '[', ']', 's', 'b', 'c', 'h', 'N', 'S', 'é', 'm']));
+        types.push(r.pick(&['i', 'i', 'T', '[', '[', ']', ']', 's', 's', 'b', 'c', 'h', 'N', 'f', 'S', 'é', 'm', 't']));
     }
-    bytes.extend(oracle::encode_string(&types));
+    let address = r.pick(&["/", "/", "/a", "/ab", "/abc", "x", "", "#bundl"]);
+    push_text(r, to, address.as_bytes());
+    push_text(r, to, types.as_bytes());
     for _ in 0..r.below(24) {
-        bytes.push(r.pick(TELLING));
+        to.push(if r.one_in(2) { 0 } else { r.pick(TELLING) });
     }
-    bytes
 }
 
-/// A bundle whose elements are cut and sized at will, so that padding is counted from odd places.
-fn odd_bundle(r: &mut Random) -> Vec<u8> {
-    let mut bytes = b"#bundle\0\0\0\0\0\0\0\0\x01".to_vec();
+/// Appends a bundle whose elements are cut and sized at will, so that padding is counted from odd places.
+fn push_odd_bundle(r: &mut Random, to: &mut Vec<u8>, deep: usize) {
+    to.extend_from_slice(b"#bundle\0\0\0\0\0\0\0\0\x01");
     for _ in 0..r.below(4) {
-        let mut element = if r.one_in(3) { odd_bundle(r) } else { odd_message(r) };
-        element.truncate(element.len() - r.below(3).min(element.len()));
-        for _ in 0..r.below(4) {
-            element.push(r.pick(TELLING));
+        let size_at = to.len();
+        to.extend_from_slice(&[0; 4]);
+        let from = to.len();
+        match r.below(4) {
+            0 if deep > 0 => push_odd_bundle(r, to, deep - 1),
+            1 => to.extend(good(r)),
+            2 if r.one_in(6) => {}
+            _ => push_odd_message(r, to),
         }
-        let size = if r.one_in(6) { r.below(40) } else { element.len() };
-        bytes.extend_from_slice(&(size as u32).to_be_bytes());
-        bytes.extend(element);
+        let cut = if r.one_in(4) { r.below(4) } else { 0 };
+        to.truncate((to.len() - cut).max(from));
+        for _ in 0..r.below(4) {
+            to.push(r.pick(TELLING));
+        }
+        let size = if r.one_in(8) { r.below(40) } else { to.len() - from };
+        to[size_at..from].copy_from_slice(&(size as u32).to_be_bytes());
+    }
+}
+
+/// A packet of any sort: good, odd or of no bytes.
+pub fn packet(r: &mut Random) -> Vec<u8> {
+    let mut bytes = Vec::new();
+    match r.below(100) {
+        0..=24 => push_odd_message(r, &mut bytes),
+        25..=49 => push_odd_bundle(r, &mut bytes, 3),
+        50..=97 => return good(r),
+        _ => {}
     }
     bytes
 }
 
-/// A packet of any sort, good or odd.
-fn packet(r: &mut Random) -> Vec<u8> {
-    match r.below(4) {
-        0 => odd_message(r),
-        1 => odd_bundle(r),
-        _ => {
-            let deep = r.below(4);
-            let root = tree(r, deep);
-            oracle::encode(&root, false)
-        }
-    }
-}
-
-/// A copy with a byte changed, cut off, put in or appended.
-fn damaged(r: &mut Random, mut bytes: Vec<u8>) -> Vec<u8> {
+/// Changes a byte, cuts off, puts in or appends, one to three times.
+pub fn damage(r: &mut Random, bytes: &mut Vec<u8>) {
     for _ in 0..1 + r.below(3) {
         let at = r.below(bytes.len() + 1);
-        match r.below(5) {
+        match r.below(6) {
             0 => bytes.truncate(at),
             1 => bytes.insert(at, r.pick(TELLING)),
-            2 if at < bytes.len() => bytes[at] = r.pick(TELLING),
-            3 if at < bytes.len() => bytes[at] = r.next() as u8,
+            2 | 3 if at < bytes.len() => bytes[at] = r.pick(TELLING),
+            4 if at < bytes.len() => bytes[at] = r.next() as u8,
             _ => bytes.push(r.pick(TELLING)),
         }
     }
-    bytes
 }
 
-/// A structured random input for one of the three decoders (0 udp, 1 tcp, 2 list).
-pub fn structured(r: &mut Random, call: u8) -> Vec<u8> {
-    let frames = match call {
-        0 => 0,
-        1 => 1 + r.below(2),
-        _ => 1 + r.below(4),
+/// Appends a packet with a prefix before it: its length, or one beside it, or one beside all that will be there.
+pub fn push_frame(r: &mut Random, to: &mut Vec<u8>, packet: &[u8]) {
+    let length = packet.len() as i64;
+    let prefix = match r.below(12) {
+        0 | 1 => (length + r.below(9) as i64 - 4).max(0) as u32,
+        2 | 3 => (length + 4 + r.below(4) as i64 - 1) as u32,
+        4 => r.pick(&[0, 1, 65_535, 65_536, 1 << 31, u32::MAX]),
+        _ => length as u32,
     };
-    let mut bytes = Vec::new();
+    to.extend_from_slice(&prefix.to_be_bytes());
+    to.extend_from_slice(packet);
+}
+
+/// A structured random input: one packet, or with `frames` that many packets with their prefixes.
+pub fn structured(r: &mut Random, frames: usize, to: &mut Vec<u8>) {
     if frames == 0 {
-        bytes = packet(r);
+        to.extend(packet(r));
     }
     for _ in 0..frames {
         let one = packet(r);
-        let length = if r.one_in(8) { r.below(one.len() + 12) } else { one.len() };
-        bytes.extend_from_slice(&(length as u32).to_be_bytes());
-        bytes.extend(one);
+        push_frame(r, to, &one);
     }
     if r.one_in(3) {
-        bytes = damaged(r, bytes);
+        damage(r, to);
     }
-    bytes
-}
-
-/// Deep nesting up to the limits: bundles, arrays closed and not, with a damaged tail now and then.
-pub fn deep(r: &mut Random) -> Vec<u8> {
-    let mut bytes = Vec::new();
-    if r.one_in(2) {
-        let levels = r.pick(&[1, 2, 63, 64, 65, 66, 200, 3276]);
-        for i in 0..levels {
-            bytes.extend_from_slice(b"#bundle\0\0\0\0\0\0\0\0\x01");
-            if i + 1 < levels {
-                bytes.extend_from_slice(&((20 * (levels - 1 - i) - 4) as u32).to_be_bytes());
-            }
-        }
-    } else {
-        let levels = r.pick(&[1, 10, 1000, 32000]);
-        let closed = if r.one_in(2) { levels } else { r.below(levels) };
-        let types = format!(",{}i{}", "[".repeat(levels), "]".repeat(closed));
-        bytes.extend(oracle::encode_string("/a"));
-        bytes.extend(oracle::encode_string(&types));
-        bytes.extend_from_slice(&[0, 0, 0, 7]);
-    }
-    if r.one_in(3) {
-        let at = r.below(bytes.len());
-        bytes[at] = r.pick(TELLING);
-    }
-    bytes
 }

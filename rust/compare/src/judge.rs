@@ -1,148 +1,149 @@
-//! What the port must answer, from what the crate gives and document 01's limits; and whether it did.
+//! What the port must answer, from what the crate gives and document 01's limits.
 
-use crate::oracle::{self, Answer};
-use crate::port::{Asked, Call, Told};
-use crate::tree::{table_of, trees_of, Node};
-use std::collections::BTreeMap;
+use crate::ask::{Asked, Call, Due};
+use crate::met::{Rule, Seen};
+use crate::oracle::{self, Told};
+use crate::rules;
+use crate::table::{Reader, RECORD};
+use crate::walk;
+use rosc::encoder;
 
-/// How often each refusal, tag and rule was met.
-#[derive(Default)]
-pub struct Met(pub BTreeMap<String, u64>);
+/// The longest input and result.
+pub const LONGEST: usize = 65_535;
+/// The deepest nesting of bundles.
+pub const DEEPEST: u64 = 64;
 
-impl Met {
-    pub fn note(&mut self, what: impl Into<String>) {
-        *self.0.entry(what.into()).or_insert(0) += 1;
-    }
+/// What the crate makes of an input: the number of its refusal or 0, how deep its bundles are, the bytes left over, and the
+/// rules that were at work.
+pub struct Found {
+    pub refusal: u8,
+    pub depth: u64,
+    pub left: usize,
+    seen: Seen,
 }
 
-/// What a call must answer and write.
-#[derive(Debug, PartialEq)]
-pub enum Due {
-    /// Trees and the bytes left over.
-    Trees(Vec<Node>, usize),
-    /// Exactly these bytes.
-    Bytes(Vec<u8>),
-    /// Count 0 and the whole input left.
-    Waiting,
-    Refused(u8),
-}
-
-fn names(nodes: &[Node], met: &mut Met) {
-    let mut open: Vec<&Node> = nodes.iter().collect();
-    while let Some(node) = open.pop() {
-        met.note(format!("kind {}", node.kind as char));
-        open.extend(node.inside.iter());
-    }
-}
-
-/// What a decoder must answer: 13, 1, the crate's refusal or Waiting, 9, 10, the trees.
-pub fn decode_due(asked: &Asked, met: &mut Met) -> Due {
-    let depth = asked.number;
-    if depth > 64 {
-        return Due::Refused(13);
-    }
-    if asked.first.len() > 65535 {
-        return Due::Refused(1);
-    }
-    match oracle::decode(asked.call as u8, &asked.first) {
-        Answer::Refused(number) => Due::Refused(number),
-        Answer::Waiting => Due::Waiting,
-        Answer::Trees(nodes, left) => {
-            if nodes.iter().map(Node::depth).max().unwrap_or(0) > depth as usize {
-                return Due::Refused(9);
-            }
-            if nodes.iter().map(Node::size).sum::<usize>() > asked.room / 16 {
-                return Due::Refused(10);
-            }
-            names(&nodes, met);
-            Due::Trees(nodes, left)
+/// Asks the crate to decode; the table of its packets goes to `table`.
+pub fn find(call: Call, input: &[u8], table: &mut Vec<u8>) -> Found {
+    table.clear();
+    let mut seen = Seen::default();
+    match oracle::decode(call, input, &mut seen) {
+        Told::Refused(refusal) => Found { refusal, depth: 0, left: 0, seen },
+        Told::Waiting => {
+            seen.note(Rule::WaitingFirst);
+            Found { refusal: 0, depth: 0, left: input.len(), seen }
+        }
+        Told::Packets(packets, left) => {
+            let prefix = if call == Call::Udp { 0 } else { 4 };
+            walk::table(input, prefix, &packets, left, table, &mut seen);
+            seen.note_if(Rule::WaitingFirst, packets.is_empty());
+            seen.note_if(Rule::WaitingLater, call == Call::TcpVec && left > 0 && !packets.is_empty());
+            let depth = packets.iter().map(oracle::depth).max().unwrap_or(0) as u64;
+            Found { refusal: 0, depth, left, seen }
         }
     }
 }
 
-/// What an encoder must answer for a tree: 9, 1, 12, the crate's bytes.
-pub fn encode_due(asked: &Asked, root: &Node) -> Due {
-    if root.depth() > 64 {
-        return Due::Refused(9);
+/// What a decoder must answer, in order: 13, 1, the crate's refusal, 9, 10, the crate's table, which is in `due` already.
+pub fn decode(asked: &Asked, found: &Found, due: &mut Due, seen: &mut Seen) {
+    let (limit, count) = (asked.number, due.wrote.len() / RECORD);
+    seen.note_if(Rule::Input65535, asked.first.len() == LONGEST);
+    seen.note_if(Rule::Input65536, asked.first.len() == LONGEST + 1);
+    if limit > DEEPEST {
+        due.refuse(13);
+    } else if asked.first.len() > LONGEST {
+        due.refuse(1);
+    } else if found.refusal > 0 {
+        seen.add(found.seen);
+        due.refuse(found.refusal);
+    } else if found.depth > limit {
+        seen.note_if(Rule::DepthOver, found.depth == limit + 1);
+        seen.note_if(Rule::Depth65, found.depth == 65 && limit == DEEPEST);
+        due.refuse(9);
+    } else if count > asked.room / RECORD {
+        seen.note_if(Rule::CapacityLess, count == asked.room / RECORD + 1);
+        due.refuse(10);
+    } else {
+        seen.add(found.seen);
+        seen.note_if(Rule::DepthAt, found.depth == limit && limit > 0);
+        seen.note_if(Rule::Depth64, found.depth == DEEPEST);
+        seen.note_if(Rule::CapacityExact, count == asked.room / RECORD && count > 0);
+        due.answer = ((count as u64) << 32) | found.left as u64;
     }
-    fits(oracle::encode(root, asked.call == Call::EncodeTcp), asked.room)
 }
 
-/// What `encode_string` must answer: 4, 1, 12, the crate's bytes.
-pub fn string_due(asked: &Asked) -> Due {
+/// What an encoder must write where the room is ample: the crate's bytes in `due`, or a refusal, in order 11, 9, 1.
+pub fn encode(asked: &Asked, due: &mut Due, seen: &mut Seen) {
+    due.answer = 0;
+    due.wrote.clear();
+    if let Err(rule) = rules::well_formed(&asked.first, asked.number, &asked.second) {
+        seen.note(rule);
+        return due.refuse(11);
+    }
+    let packet = Reader { table: &asked.first, source: &asked.second }.packet(0);
+    let depth = oracle::depth(&packet) as u64;
+    seen.note_if(Rule::EncodeDepth64, depth == DEEPEST);
+    if depth > DEEPEST {
+        seen.note_if(Rule::EncodeDepth65, depth == DEEPEST + 1);
+        return due.refuse(9);
+    }
+    let bytes = if asked.call == Call::EncodeTcp { encoder::encode_tcp(&packet) } else { encoder::encode(&packet) };
+    due.wrote = bytes.expect("the crate encodes every packet");
+    not_too_long(due, seen);
+}
+
+/// What `encode_string` must write where the room is ample: 4, 1, the crate's bytes.
+pub fn encode_string(asked: &Asked, due: &mut Due, seen: &mut Seen) {
+    due.answer = 0;
+    due.wrote.clear();
     match std::str::from_utf8(&asked.first) {
-        Ok(text) => fits(oracle::encode_string(text), asked.room),
-        Err(_) => Due::Refused(4),
-    }
-}
-
-fn fits(bytes: Vec<u8>, room: usize) -> Due {
-    if bytes.len() > 65535 {
-        return Due::Refused(1);
-    }
-    if bytes.len() > room {
-        return Due::Refused(12);
-    }
-    Due::Bytes(bytes)
-}
-
-/// The difference between what was due and what was told, if there is one.
-pub fn differs(asked: &Asked, due: &Due, told: &Told) -> Option<String> {
-    if !told.kept {
-        return Some("a later byte was changed".to_string());
-    }
-    let got = match (told.refusal(), asked.call) {
-        (0, Call::Udp | Call::Tcp | Call::TcpVec) => match due {
-            Due::Waiting if told.count() == 0 && told.low() == asked.first.len() => Due::Waiting,
-            _ => match trees_of(&told.wrote, &asked.first) {
-                Ok(nodes) => Due::Trees(nodes, told.low()),
-                Err(words) => return Some(words),
-            },
-        },
-        (0, _) => Due::Bytes(told.wrote.clone()),
-        (number, _) => Due::Refused(number),
-    };
-    (got != *due).then(|| format!("due {due:?}, told {got:?}"))
-}
-
-/// Document 01's rules of a well-formed table, written a second time and not from the port.
-pub fn well_formed(table: &[u8], count: usize, source: &[u8]) -> bool {
-    if count == 0 || count > 65535 || table.len() < 16 * count {
-        return false;
-    }
-    match trees_of(&table[..16 * count], source) {
-        Ok(roots) => roots.len() == 1 && matches!(roots[0].kind, b'/' | b'#') && obeys(&roots[0]),
-        Err(_) => false,
-    }
-}
-
-fn obeys(root: &Node) -> bool {
-    let mut open = vec![root];
-    while let Some(node) = open.pop() {
-        let packet = |kind: u8| matches!(kind, b'/' | b'#');
-        let fields = match node.kind {
-            b'/' | b's' => std::str::from_utf8(&node.bytes).is_ok(),
-            b'#' | b'b' | b'h' | b'd' | b't' => true,
-            b'i' | b'f' | b'r' | b'm' => node.b == 0,
-            b'c' => node.b == 0 && char::from_u32(node.a).is_some(),
-            b'T' | b'F' | b'N' | b'I' | b'[' => node.a == 0 && node.b == 0,
-            _ => false,
-        };
-        let contained = match node.kind {
-            b'#' => node.inside.iter().all(|inner| packet(inner.kind)),
-            b'/' | b'[' => node.inside.iter().all(|inner| !packet(inner.kind)),
-            _ => node.inside.is_empty(),
-        };
-        if !fields || !contained {
-            return false;
+        Ok(text) => due.wrote = encoder::encode_string(text),
+        Err(error) => {
+            seen.note(oracle::utf8_rule(&asked.first, error.valid_up_to()));
+            return due.refuse(4);
         }
-        open.extend(node.inside.iter());
     }
-    true
+    not_too_long(due, seen);
 }
 
-/// The call that encodes a tree.
-pub fn encode_call(call: Call, root: &Node, room: usize) -> Asked {
-    let (table, source) = table_of(root);
-    Asked { call, number: (table.len() / 16) as u64, room, first: table, second: source }
+fn not_too_long(due: &mut Due, seen: &mut Seen) {
+    seen.note_if(Rule::Result65532, due.wrote.len() == LONGEST - 3);
+    seen.note_if(Rule::Result65536, due.wrote.len() == LONGEST + 1);
+    if due.wrote.len() > LONGEST {
+        due.refuse(1);
+    }
+}
+
+/// The last test of the encoders: 12 where the room is short.
+pub fn fit(asked: &Asked, due: &mut Due, seen: &mut Seen) {
+    if due.answer != 0 {
+        return;
+    }
+    let length = due.wrote.len();
+    seen.note_if(Rule::OutputExact, length == asked.room);
+    seen.note_if(Rule::OutputLess, length == asked.room + 1);
+    if length > asked.room {
+        due.refuse(12);
+    } else {
+        due.answer = length as u64;
+    }
+}
+
+/// What `pad` must answer: the crate's, and 14 where the crate overflows.
+pub fn pad(asked: &Asked, due: &mut Due, seen: &mut Seen) {
+    due.wrote.clear();
+    let last = u64::MAX - 3;
+    seen.note_if(Rule::PadTop, asked.number <= last && asked.number > last - 16);
+    due.answer = if asked.number > last { 14 } else { encoder::pad(asked.number) };
+}
+
+/// What `look` must answer.
+pub fn look(asked: &Asked, due: &mut Due, seen: &mut Seen) {
+    due.wrote.clear();
+    match rules::look(&asked.first, asked.number) {
+        Ok(kind) => due.answer = kind as u64,
+        Err(rule) => {
+            seen.note(rule);
+            due.refuse(11);
+        }
+    }
 }

@@ -1,136 +1,102 @@
-//! The port, behind a small C program (c/driver.c) that is linked with the static library and answers over pipes. The library
-//! is for x86-64; on another machine the program runs under qemu-x86_64.
+//! The port, called in this process. What it may write lies between bytes of a known pattern, and so does what it reads.
 
-use std::io::{BufReader, Read, Write};
-use std::path::{Path, PathBuf};
-use std::process::{Child, ChildStdin, ChildStdout, Command, Stdio};
+use crate::ask::{Asked, Call, Due};
+use sennorbai::boundary;
 
-/// The operations of the driver.
-#[derive(Clone, Copy, Debug, PartialEq, Eq)]
-pub enum Call {
-    Udp = 0,
-    Tcp = 1,
-    TcpVec = 2,
-    Encode = 3,
-    EncodeTcp = 4,
-    EncodeString = 5,
+/// The bytes of the pattern before and after each lent slice.
+const GUARD: usize = 64;
+
+/// The memory that is lent: between two calls every byte of `room` is the pattern's.
+pub struct Bench {
+    pattern: Vec<u8>,
+    room: Vec<u8>,
+    first: Vec<u8>,
+    second: Vec<u8>,
 }
 
-/// A call with all that it is given.
-#[derive(Clone, Debug)]
-pub struct Asked {
-    pub call: Call,
-    pub number: u64,
-    pub room: usize,
-    pub first: Vec<u8>,
-    pub second: Vec<u8>,
+/// The pattern's byte at a place.
+fn pattern(at: usize) -> u8 {
+    ((at as u64).wrapping_mul(0x9E37_79B9_7F4A_7C15) >> 53) as u8 | 1
 }
 
-/// What came back.
-#[derive(Clone, Debug)]
-pub struct Told {
-    pub answer: u64,
-    pub wrote: Vec<u8>,
-    pub kept: bool,
+/// Copies a slice between two guards.
+fn lend(memory: &mut Vec<u8>, guard: &[u8], bytes: &[u8]) {
+    memory.clear();
+    memory.extend_from_slice(guard);
+    memory.extend_from_slice(bytes);
+    memory.extend_from_slice(guard);
 }
 
-impl Told {
-    pub fn refusal(&self) -> u8 {
-        (self.answer >> 56) as u8
-    }
-    pub fn count(&self) -> usize {
-        (self.answer >> 32) as usize & 0xFF_FFFF
-    }
-    pub fn low(&self) -> usize {
-        self.answer as u32 as usize
-    }
+/// Whether a lent slice and its guards are as they were.
+fn kept(memory: &[u8], guard: &[u8], bytes: &[u8]) -> bool {
+    let end = GUARD + bytes.len();
+    memory[..GUARD] == *guard && memory[GUARD..end] == *bytes && memory[end..] == *guard
 }
 
-/// A running driver.
-pub struct Port {
-    child: Child,
-    input: Option<ChildStdin>,
-    output: BufReader<ChildStdout>,
-}
-
-/// The project's root, two folders above this crate.
-fn root() -> PathBuf {
-    Path::new(env!("CARGO_MANIFEST_DIR")).join("../..")
-}
-
-fn run(command: &mut Command) -> Result<(), String> {
-    let status = command.status().map_err(|e| format!("{command:?}: {e}"))?;
-    status.success().then_some(()).ok_or(format!("{command:?} failed"))
-}
-
-/// Builds the driver over target/staticlib/libosc.a, which `rt staticlib osc` writes.
-pub fn build() -> Result<PathBuf, String> {
-    let root = root();
-    let library = root.join("target/staticlib/libosc.a");
-    if !library.exists() {
-        return Err("target/staticlib/libosc.a is missing: run `rt staticlib osc` in the project's root".to_string());
-    }
-    let driver = root.join("rust/target/driver");
-    let compiler = if cfg!(target_arch = "x86_64") { "cc" } else { "x86_64-linux-gnu-gcc" };
-    run(Command::new(compiler).args(["-O2", "-static", "-o"]).arg(&driver).arg(root.join("c/driver.c")).arg(&library))?;
-    Ok(driver)
-}
-
-impl Port {
-    pub fn start(driver: &Path) -> Result<Port, String> {
-        let mut command = if cfg!(target_arch = "x86_64") {
-            Command::new(driver)
-        } else {
-            let mut emulated = Command::new("qemu-x86_64");
-            emulated.arg(driver);
-            emulated
-        };
-        let mut child = command.stdin(Stdio::piped()).stdout(Stdio::piped()).spawn().map_err(|e| format!("the driver: {e}"))?;
-        let input = child.stdin.take();
-        let output = BufReader::with_capacity(1 << 20, child.stdout.take().ok_or("no output")?);
-        Ok(Port { child, input, output })
+impl Bench {
+    pub fn new() -> Bench {
+        Bench { pattern: Vec::new(), room: Vec::new(), first: Vec::new(), second: Vec::new() }
     }
 
-    /// Asks all, and gives the answers in order. A thread writes while this one reads, so that neither pipe fills up.
-    pub fn ask(&mut self, asked: &[Asked]) -> Result<Vec<Told>, String> {
-        let mut bytes = Vec::new();
-        for a in asked {
-            bytes.push(a.call as u8);
-            bytes.extend_from_slice(&a.number.to_le_bytes());
-            bytes.extend_from_slice(&(a.room as u32).to_le_bytes());
-            for slice in [&a.first, &a.second] {
-                bytes.extend_from_slice(&(slice.len() as u32).to_le_bytes());
-                bytes.extend_from_slice(slice);
-            }
+    fn grow(&mut self, room: usize) {
+        let there = self.pattern.len();
+        self.pattern.extend((there..room + 2 * GUARD).map(pattern));
+        self.room.extend_from_slice(&self.pattern[there..]);
+    }
+
+    fn call(&mut self, asked: &Asked) -> u64 {
+        let first = &self.first[GUARD..GUARD + asked.first.len()];
+        let second = &self.second[GUARD..GUARD + asked.second.len()];
+        let room = &mut self.room[GUARD..GUARD + asked.room];
+        match asked.call {
+            Call::Udp => boundary::decode_udp(first, room, asked.number),
+            Call::Tcp => boundary::decode_tcp(first, room, asked.number),
+            Call::TcpVec => boundary::decode_tcp_vec(first, room, asked.number),
+            Call::Encode => boundary::encode(first, asked.number, second, room),
+            Call::EncodeTcp => boundary::encode_tcp(first, asked.number, second, room),
+            Call::EncodeString => boundary::encode_string(first, room),
+            Call::Pad => boundary::pad(asked.number),
+            Call::Look => boundary::look(first, asked.number),
         }
-        bytes.push(8);
-        let mut input = self.input.take().ok_or("the driver has ended")?;
-        let writer = std::thread::spawn(move || input.write_all(&bytes).and_then(|()| input.flush()).map(|()| input));
-        let told = asked.iter().map(|_| self.read()).collect::<Result<Vec<_>, _>>();
-        let input = writer.join().map_err(|_| "the writer panicked")?.map_err(|e| format!("the driver: {e}"))?;
-        self.input = Some(input);
-        told
     }
 
-    fn read(&mut self) -> Result<Told, String> {
-        let mut head = [0u8; 12];
-        self.fill(&mut head)?;
-        let answer = u64::from_le_bytes(head[..8].try_into().unwrap());
-        let mut wrote = vec![0u8; u32::from_le_bytes(head[8..].try_into().unwrap()) as usize];
-        self.fill(&mut wrote)?;
-        let mut kept = [0u8];
-        self.fill(&mut kept)?;
-        Ok(Told { answer, wrote, kept: kept[0] == 1 })
+    /// Asks the port; the words say how the answer, a byte written or a byte not to be written differ from what is due.
+    pub fn differs(&mut self, asked: &Asked, due: &Due) -> Option<String> {
+        self.grow(asked.room);
+        lend(&mut self.first, &self.pattern[..GUARD], &asked.first);
+        lend(&mut self.second, &self.pattern[..GUARD], &asked.second);
+        let answer = self.call(asked);
+        let (wrote, whole) = (GUARD + due.wrote.len(), asked.room + 2 * GUARD);
+        let guard = &self.pattern[..GUARD];
+        let same = answer == due.answer
+            && self.room[..GUARD] == *guard
+            && self.room[GUARD..wrote] == *due.wrote
+            && self.room[wrote..whole] == self.pattern[wrote..whole]
+            && kept(&self.first, guard, &asked.first)
+            && kept(&self.second, guard, &asked.second);
+        let words = if same { None } else { Some(self.words(asked, due, answer)) };
+        let dirty = if same { wrote } else { whole };
+        self.room[..dirty].copy_from_slice(&self.pattern[..dirty]);
+        words
     }
 
-    fn fill(&mut self, to: &mut [u8]) -> Result<(), String> {
-        self.output.read_exact(to).map_err(|e| format!("the driver ended: {e}"))
-    }
-}
-
-impl Drop for Port {
-    fn drop(&mut self) {
-        self.input = None;
-        let _ = self.child.wait();
+    fn words(&self, asked: &Asked, due: &Due, answer: u64) -> String {
+        let due_at = |at: usize| *due.wrote.get(at.wrapping_sub(GUARD)).unwrap_or(&self.pattern[at]);
+        let other = (0..asked.room + 2 * GUARD).find(|at| self.room[*at] != due_at(*at));
+        let read = !kept(&self.first, &self.pattern[..GUARD], &asked.first)
+            || !kept(&self.second, &self.pattern[..GUARD], &asked.second);
+        let mut words = format!("due {:#x}, told {answer:#x}", due.answer);
+        if let Some(at) = other {
+            words += &format!(
+                ", byte {} of the room is {:#x} and not {:#x}",
+                at as i64 - GUARD as i64,
+                self.room[at],
+                due_at(at)
+            );
+        }
+        if read {
+            words += ", a byte that is only read was changed";
+        }
+        words
     }
 }

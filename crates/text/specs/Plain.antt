@@ -1,0 +1,20 @@
+-- The bytes of a text that need no UTF-8 test: each is a character by itself. Assumes nothing.
+use mathlib.Core.Path.{_≡_}
+use mathlib.Core.Bool.{Bool, true, cond}
+use mathlib.Core.List.{List, [], _∷_}
+use Prim.Native.Nat.{ℕ, suc, _+_, _≤_}
+use lib.Dec.{eqb, ltb}
+use lib.ListN.{length, drop}
+
+-- a byte that is NUL, or above 0x7F and so part of a longer character
+abbrev pub special : ℕ → Bool
+special b = cond (eqb b 0) true (ltb 0x7F b)
+
+-- how many bytes stand before the first special one; all of them where there is none
+abbrev pub plain : List ℕ → ℕ
+plain [] = 0
+plain (b ∷ l) = cond (special b) 0 (suc (plain l))
+
+-- none of the first n bytes is special
+abbrev pub Passed : ℕ → List ℕ → Type 0
+Passed n l = (n ≤ length l) × (plain l ≡ n + plain (drop n l))

@@ -1,0 +1,97 @@
+//! A call with all that it is given, and what it must answer and write.
+
+/// The calls of the boundary, by the numbers that the recorded answers use.
+#[derive(Clone, Copy, Debug, PartialEq, Eq)]
+pub enum Call {
+    Udp = 0,
+    Tcp = 1,
+    TcpVec = 2,
+    Encode = 3,
+    EncodeTcp = 4,
+    EncodeString = 5,
+    Pad = 6,
+    Look = 7,
+}
+
+/// How many calls there are.
+pub const CALLS: usize = 8;
+
+pub const DECODERS: [Call; 3] = [Call::Udp, Call::Tcp, Call::TcpVec];
+
+impl Call {
+    pub fn decodes(self) -> bool {
+        DECODERS.contains(&self)
+    }
+    pub fn encodes(self) -> bool {
+        matches!(self, Call::Encode | Call::EncodeTcp)
+    }
+}
+
+/// A call: depth, count, position or index as its number; the bytes that it may write; the slices that it reads.
+#[derive(Clone, Debug)]
+pub struct Asked {
+    pub call: Call,
+    pub number: u64,
+    pub room: usize,
+    pub first: Vec<u8>,
+    pub second: Vec<u8>,
+}
+
+impl Asked {
+    pub fn new() -> Asked {
+        Asked { call: Call::Udp, number: 0, room: 0, first: Vec::new(), second: Vec::new() }
+    }
+
+    /// Begins a new call in the same memory.
+    pub fn begin(&mut self, call: Call) {
+        self.call = call;
+        self.number = 0;
+        self.room = 0;
+        self.first.clear();
+        self.second.clear();
+    }
+
+    /// The call in words and hex, cut off where it is long.
+    pub fn shown(&self) -> String {
+        let (first, second) = (hex(&self.first), hex(&self.second));
+        format!(
+            "{:?} number {} room {} first[{}] {first} second[{}] {second}",
+            self.call,
+            self.number,
+            self.room,
+            self.first.len(),
+            self.second.len()
+        )
+    }
+}
+
+fn hex(bytes: &[u8]) -> String {
+    bytes.iter().take(400).map(|b| format!("{b:02X}")).collect()
+}
+
+/// What the boundary must answer, and the bytes that must stand at the front of the room; all others stay as they were.
+#[derive(Clone, Debug)]
+pub struct Due {
+    pub answer: u64,
+    pub wrote: Vec<u8>,
+}
+
+impl Due {
+    pub fn new() -> Due {
+        Due { answer: 0, wrote: Vec::new() }
+    }
+
+    pub fn refuse(&mut self, number: u8) {
+        self.answer = (number as u64) << 56;
+        self.wrote.clear();
+    }
+
+    /// The refusal's number, 0 where there is an answer. A padded position is none, save 14, which is no multiple of 4.
+    pub fn refusal(&self, call: Call) -> u8 {
+        match call {
+            Call::Pad if self.answer == 14 => 14,
+            Call::Pad => 0,
+            _ => (self.answer >> 56) as u8,
+        }
+    }
+}

@@ -1,0 +1,224 @@
+//! Cases: a call, what is due, and what it shows.
+
+use crate::ask::{Asked, Call, Due, DECODERS};
+use crate::judge::{self, Found};
+use crate::met::{Rule, Seen};
+use crate::peers::Peers;
+use crate::random::Random;
+use crate::table::RECORD;
+use crate::{edges, inputs, short, spoil};
+use rosc::{OscBundle, OscMessage, OscPacket, OscTime, OscType};
+
+/// One case, in memory that the next one uses again.
+pub struct Case {
+    pub asked: Asked,
+    pub due: Due,
+    pub seen: Seen,
+}
+
+impl Case {
+    pub fn new() -> Case {
+        Case { asked: Asked::new(), due: Due::new(), seen: Seen::default() }
+    }
+
+    /// The n-th short case, with ample limits; false where all are done.
+    pub fn short(&mut self, n: u64) -> bool {
+        self.seen = Seen::default();
+        let Some(call) = short::make(n, &mut self.asked) else { return false };
+        let (asked, due, seen) = (&self.asked, &mut self.due, &mut self.seen);
+        match call {
+            Call::Udp | Call::Tcp | Call::TcpVec => self.ample_due(),
+            Call::Encode | Call::EncodeTcp => judge::encode(asked, due, seen),
+            Call::EncodeString => judge::encode_string(asked, due, seen),
+            Call::Pad => judge::pad(asked, due, seen),
+            Call::Look => judge::look(asked, due, seen),
+        }
+        if call.encodes() || call == Call::EncodeString {
+            self.asked.room = self.due.wrote.len() + 8;
+            judge::fit(&self.asked, &mut self.due, &mut self.seen);
+        }
+        true
+    }
+
+    /// An input for a decoder, with ample limits.
+    pub fn ample(&mut self, call: Call, input: &[u8]) {
+        self.seen = Seen::default();
+        self.asked.begin(call);
+        self.asked.first.extend_from_slice(input);
+        self.ample_due();
+    }
+
+    fn ample_due(&mut self) {
+        let found = self.find();
+        self.asked.number = judge::DEEPEST;
+        self.asked.room = self.needed() + RECORD;
+        judge::decode(&self.asked, &found, &mut self.due, &mut self.seen);
+    }
+
+    /// A random case.
+    pub fn random(&mut self, r: &mut Random, peers: &Peers) {
+        self.seen = Seen::default();
+        match r.below(64) {
+            0..=40 => self.decode(r, peers),
+            41..=54 => self.encode(r),
+            55..=58 => self.string(r),
+            59..=60 => self.pad(r),
+            _ => self.look(r),
+        }
+    }
+
+    fn find(&mut self) -> Found {
+        judge::find(self.asked.call, &self.asked.first, &mut self.due.wrote)
+    }
+
+    /// The bytes of the table that the crate's packets need; where there are none, what a decoder might have begun to write.
+    fn needed(&self) -> usize {
+        match self.due.wrote.len() {
+            0 => RECORD * self.asked.first.len().min(30),
+            needed => needed,
+        }
+    }
+
+    fn decode(&mut self, r: &mut Random, peers: &Peers) {
+        self.asked.begin(r.pick(&DECODERS));
+        let frames = match self.asked.call {
+            Call::Udp => 0,
+            Call::Tcp => 1 + r.below(2),
+            _ => 1 + r.below(4),
+        };
+        let packet = match r.below(41) {
+            0 if r.one_in(20) => edges::deepest(r),
+            1 if r.one_in(8) => {
+                self.asked.first = edges::longest(r, frames > 0);
+                return self.decode_due(r);
+            }
+            2..=5 => edges::lengths(r),
+            6..=9 => edges::utf8(r),
+            10..=11 => edges::character(r, &mut self.seen),
+            12 => edges::nested(r),
+            13..=16 if peers.any() => peers.one(r, &mut self.seen),
+            _ => {
+                inputs::structured(r, frames, &mut self.asked.first);
+                return self.decode_due(r);
+            }
+        };
+        if frames == 0 {
+            self.asked.first = packet;
+        } else {
+            inputs::push_frame(r, &mut self.asked.first, &packet);
+        }
+        self.decode_due(r);
+    }
+
+    /// What is due for the input, under limits on either side of what it needs.
+    fn decode_due(&mut self, r: &mut Random) {
+        let found = self.find();
+        let needed = self.needed();
+        self.asked.number = match r.below(16) {
+            0 | 1 => found.depth,
+            2 => found.depth.saturating_sub(1),
+            3 => r.below(67) as u64,
+            4 if r.one_in(3) => r.pick(&[65, 66, 1 << 32, 1 << 63, u64::MAX]),
+            _ => judge::DEEPEST,
+        };
+        self.asked.room = match r.below(12) {
+            0 => (needed + r.below(RECORD)).saturating_sub(RECORD),
+            1 => r.below(needed + 1),
+            2..=5 => needed,
+            6..=8 => needed + r.below(RECORD),
+            _ => needed + r.below(200),
+        };
+        judge::decode(&self.asked, &found, &mut self.due, &mut self.seen);
+        let read = found.left == 0 && self.due.refusal(self.asked.call) == 0;
+        self.seen.note_if(Rule::LibloRead, read && self.seen.has(Rule::LibloWhole));
+        self.seen.note_if(Rule::OscpackRead, read && self.seen.has(Rule::OscpackWhole));
+    }
+
+    fn encode(&mut self, r: &mut Random) {
+        self.asked.begin(r.pick(&[Call::Encode, Call::EncodeTcp]));
+        let mut packet = if r.one_in(700) { long_message(r) } else { inputs::tree(r, 3) };
+        if r.one_in(40) {
+            for _ in 0..60 + r.below(6) {
+                packet =
+                    OscPacket::Bundle(OscBundle { timetag: OscTime { seconds: 0, fractional: 1 }, content: vec![packet] });
+            }
+        }
+        self.encode_tree(&packet);
+        let spoiled = r.one_in(2);
+        if spoiled {
+            spoil::table(r, &mut self.asked);
+        }
+        judge::encode(&self.asked, &mut self.due, &mut self.seen);
+        self.seen.note_if(Rule::SpoiledStill, spoiled && self.due.refusal(Call::Encode) == 0);
+        self.fit(r);
+    }
+
+    /// Asks for the table of a packet; what is odd in its texts is noted.
+    fn encode_tree(&mut self, packet: &OscPacket) {
+        crate::table::put_with_source(&mut self.asked.first, &mut self.asked.second, packet);
+        self.asked.number = (self.asked.first.len() / RECORD) as u64;
+        if let OscPacket::Message(OscMessage { addr, args }) = packet {
+            self.seen.note_if(Rule::NoSlash, !addr.starts_with('/'));
+            let nul = args.iter().any(|value| matches!(value, OscType::String(text) if text.contains('\0')));
+            self.seen.note_if(Rule::NulInText, nul || addr.contains('\0'));
+        }
+    }
+
+    fn string(&mut self, r: &mut Random) {
+        self.asked.begin(Call::EncodeString);
+        self.asked.first = match r.below(8) {
+            0 if r.one_in(10) => vec![b'x'; 65_524 + r.below(16)],
+            0..=4 => edges::text(r),
+            _ => vec![b'x'; r.below(41)],
+        };
+        judge::encode_string(&self.asked, &mut self.due, &mut self.seen);
+        self.fit(r);
+    }
+
+    /// An output on either side of what is needed; where it is refused, of what might have been written.
+    fn fit(&mut self, r: &mut Random) {
+        let needed = match self.due.refusal(self.asked.call) {
+            0 => self.due.wrote.len(),
+            1 => judge::LONGEST,
+            _ => self.asked.first.len().min(400),
+        };
+        self.asked.room = match r.below(8) {
+            0 | 1 => needed.saturating_sub(1),
+            2 => r.below(needed + 1),
+            3 | 4 => needed,
+            _ => needed + r.below(70),
+        };
+        judge::fit(&self.asked, &mut self.due, &mut self.seen);
+    }
+
+    fn pad(&mut self, r: &mut Random) {
+        self.asked.begin(Call::Pad);
+        let around = r.pick(&[1 << 16, 1 << 32, 1 << 48, 1 << 63, u64::MAX - 20]);
+        self.asked.number = match r.below(4) {
+            0 => r.below(70_000) as u64,
+            1 => around - 8 + r.below(16) as u64,
+            2 => u64::MAX - r.below(12) as u64,
+            _ => r.next(),
+        };
+        judge::pad(&self.asked, &mut self.due, &mut self.seen);
+    }
+
+    fn look(&mut self, r: &mut Random) {
+        self.asked.begin(Call::Look);
+        spoil::records(r, &mut self.asked);
+        judge::look(&self.asked, &mut self.due, &mut self.seen);
+    }
+}
+
+/// A message whose encoding is around 65,535 bytes, or whose records are around 65,535.
+fn long_message(r: &mut Random) -> OscPacket {
+    let text = |length: usize| "x".repeat(length);
+    let (addr, args) = match r.below(5) {
+        0 => (text(65_512 + r.below(24)), Vec::new()),
+        1 => ("/a".to_string(), vec![OscType::String(text(65_508 + r.below(24)))]),
+        2 => ("/a".to_string(), vec![OscType::Blob(vec![1; 65_504 + r.below(24)])]),
+        3 => ("/a".to_string(), vec![OscType::Nil; 65_516 + r.below(24)]),
+        _ => ("/a".to_string(), vec![OscType::Int(7); 13_100 + r.below(12)]),
+    };
+    OscPacket::Message(OscMessage { addr, args })
+}

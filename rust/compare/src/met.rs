@@ -1,0 +1,233 @@
+//! How often each refusal, kind and rule was met.
+
+use crate::ask::{Asked, Call, Due, CALLS};
+use crate::compat::Outcome;
+use crate::table::RECORD;
+
+macro_rules! rules {
+    ($($name:ident $seldom:literal $words:literal,)*) => {
+        /// What a case may show beside its answer.
+        #[derive(Clone, Copy, Debug, PartialEq, Eq)]
+        pub enum Rule { $($name,)* }
+
+        /// The rules in words, each with how many times more seldom than usual it may be met.
+        pub const RULES: &[(Rule, u64, &str)] = &[$((Rule::$name, $seldom, $words),)*];
+    };
+}
+
+rules! {
+    TypesEmpty 1 "type text of no bytes",
+    TypesOne 1 "type text of one byte",
+    TypesNoComma 1 "type text without a comma",
+    TypesWide 1 "type text with a first character of several bytes",
+    ArrayUnclosed 1 "unclosed array",
+    ArrayNested 1 "array in an array",
+    PaddingSet 1 "padding that is not zero",
+    ElementDropped 1 "bytes dropped in an element",
+    ElementOdd 1 "element at a place that is no multiple of 4",
+    ElementEnds 1 "element ends its bundle",
+    EndsShort 1 "element ends its bundle: 1 to 3 bytes",
+    EndsPast 1 "element ends its bundle: its size runs past",
+    Ends2 1 "element ends its bundle: 2",
+    Ends3 1 "element ends its bundle: 3",
+    Ends4 1 "element ends its bundle: 4",
+    Ends5 1 "element ends its bundle: 5",
+    Ends6 1 "element ends its bundle: 6",
+    Ends7 1 "element ends its bundle: 7",
+    Ends8 1 "element ends its bundle: 8",
+    LeftOver 1 "bytes left over",
+    Several 1 "several packets",
+    WaitingFirst 1 "Waiting",
+    WaitingLater 1 "Waiting after packets",
+    PrefixZero 1 "prefix 0",
+    PrefixShorter 1 "prefix shorter than its packet",
+    PrefixExact 1 "prefix as long as its packet",
+    PrefixLonger 1 "prefix longer than its packet",
+    PrefixWhole 1 "prefix equal to all there is, itself included",
+    FrameTaken 1 "bundle takes the next frame as an element",
+    DepthAt 1 "depth at the limit",
+    DepthOver 1 "depth one over the limit",
+    Depth64 1 "decoded at depth 64",
+    Depth65 1 "refused at depth 65, limit 64",
+    CapacityExact 1 "capacity exact",
+    CapacityLess 1 "capacity one less",
+    Input65535 10 "input of 65,535 bytes",
+    Input65536 10 "input of 65,536 bytes",
+    Utf8Surrogate 1 "UTF-8: a surrogate",
+    Utf8Overlong 1 "UTF-8: longer than needed",
+    Utf8Over 1 "UTF-8: over 10FFFF",
+    Utf8Lone 1 "UTF-8: a continuation alone",
+    Utf8Cut 1 "UTF-8: a continuation missing",
+    CharSurrogate 1 "character: a surrogate",
+    CharOver 1 "character: over 10FFFF",
+    CharBorder 1 "character: the last before a border, or the first after",
+    OutputExact 1 "output exact",
+    OutputLess 1 "output one less",
+    Result65532 10 "result of 65,532 bytes",
+    Result65536 10 "result of 65,536 bytes",
+    EncodeDepth64 1 "encode: depth 64",
+    EncodeDepth65 1 "encode: depth 65",
+    NoSlash 1 "encode: address without a slash",
+    NulInText 1 "encode: NUL in a text or address",
+    SpoiledStill 1 "table spoiled and still well formed",
+    BrokenCount 1 "table: count is none or does not fit",
+    BrokenKind 1 "table: unknown kind",
+    BrokenZeros 1 "table: zero bytes",
+    BrokenField 1 "table: zero fields",
+    BrokenScalar 1 "table: no scalar number",
+    BrokenRoot 1 "table: first record",
+    BrokenInside 1 "table: a kind in a wrong container",
+    BrokenEnd 1 "table: an end",
+    BrokenRange 1 "table: a range",
+    BrokenText 1 "table: text that is not UTF-8",
+    LookIndex 1 "look: index at or over the capacity",
+    LookKind 1 "look: unknown kind",
+    LookZeros 1 "look: zero bytes",
+    LookField 1 "look: zero fields",
+    LookScalar 1 "look: no scalar number",
+    PadTop 1 "pad: up to 2^64 - 4",
+    LibloWhole 1 "liblo: as written",
+    LibloRead 1 "liblo: as written, all of it read",
+    LibloDamaged 1 "liblo: damaged",
+    OscpackWhole 1 "oscpack: as written",
+    OscpackRead 1 "oscpack: as written, all of it read",
+    OscpackDamaged 1 "oscpack: damaged",
+}
+
+/// What one case has shown.
+#[derive(Clone, Copy, Debug, Default, PartialEq, Eq)]
+pub struct Seen(u128);
+
+impl Seen {
+    pub fn note(&mut self, rule: Rule) {
+        self.0 |= 1 << rule as u32;
+    }
+    pub fn note_if(&mut self, rule: Rule, so: bool) {
+        self.0 |= (so as u128) << rule as u32;
+    }
+    pub fn add(&mut self, other: Seen) {
+        self.0 |= other.0;
+    }
+    pub fn has(self, rule: Rule) -> bool {
+        self.0 >> rule as u32 & 1 == 1
+    }
+    /// The rules, each by its number.
+    pub fn rules(self) -> impl Iterator<Item = usize> {
+        let mut left = self.0;
+        std::iter::from_fn(move || {
+            let rule = left.trailing_zeros() as usize;
+            left &= left.wrapping_sub(1);
+            (rule < 128).then_some(rule)
+        })
+    }
+}
+
+/// The kinds of document 01.
+pub const KINDS: &[u8] = b"/#sbifhdtcrmTFNI[";
+
+/// Numbers of refusals, 0 for an answer.
+const REFUSALS: usize = 15;
+
+/// The counts of all cases.
+pub struct Met {
+    answers: [[u64; REFUSALS]; CALLS],
+    decoded: [u64; 256],
+    encoded: [u64; 256],
+    rules: [u64; RULES.len()],
+    compat: [[u64; REFUSALS]; CALLS],
+}
+
+/// The calls by name.
+const NAMES: [&str; CALLS] = ["udp", "tcp", "tcp_vec", "encode", "encode_tcp", "encode_string", "pad", "look"];
+
+impl Met {
+    pub fn new() -> Met {
+        let answers = [[0; REFUSALS]; CALLS];
+        Met { answers, decoded: [0; 256], encoded: [0; 256], rules: [0; RULES.len()], compat: answers }
+    }
+
+    /// Counts a case that was for `rosc_compat`.
+    pub fn count_compat(&mut self, call: Call, outcome: Outcome) {
+        let number = match outcome {
+            Outcome::Same => 0,
+            Outcome::Refused(number) | Outcome::Limit(number) => number,
+        };
+        self.compat[call as usize][number as usize] += 1;
+    }
+
+    pub fn count(&mut self, asked: &Asked, due: &Due, seen: Seen) {
+        let refusal = due.refusal(asked.call);
+        self.answers[asked.call as usize][refusal as usize] += 1;
+        seen.rules().for_each(|rule| self.rules[rule] += 1);
+        if refusal == 0 && asked.call.decodes() {
+            due.wrote.chunks_exact(RECORD).for_each(|record| self.decoded[record[0] as usize] += 1);
+        }
+        if refusal == 0 && asked.call.encodes() {
+            let records = asked.first.chunks_exact(RECORD).take(asked.number as usize);
+            records.for_each(|record| self.encoded[record[0] as usize] += 1);
+        }
+    }
+
+    pub fn add(&mut self, other: &Met) {
+        let both = |mine: &mut [u64], its: &[u64]| mine.iter_mut().zip(its).for_each(|(m, i)| *m += i);
+        self.answers.iter_mut().zip(&other.answers).for_each(|(m, i)| both(m, i));
+        both(&mut self.decoded, &other.decoded);
+        both(&mut self.encoded, &other.encoded);
+        both(&mut self.rules, &other.rules);
+        self.compat.iter_mut().zip(&other.compat).for_each(|(m, i)| both(m, i));
+    }
+
+    /// Every count with its name and how many times more seldom than usual it may be met.
+    fn lines(&self) -> Vec<(String, u64, u64)> {
+        let mut lines = Vec::new();
+        for refusal in 1..REFUSALS {
+            let times = self.answers.iter().map(|call| call[refusal]).sum();
+            lines.push((format!("refusal {refusal}"), 1, times));
+        }
+        for (call, answers) in self.answers.iter().enumerate() {
+            lines.push((format!("{}: answered", NAMES[call]), 1, answers[0]));
+            lines.push((format!("{}: refused", NAMES[call]), 1, answers[1..].iter().sum()));
+        }
+        for kind in KINDS {
+            lines.push((format!("kind {} decoded", *kind as char), 1, self.decoded[*kind as usize]));
+            lines.push((format!("kind {} encoded", *kind as char), 1, self.encoded[*kind as usize]));
+        }
+        lines.extend(RULES.iter().map(|(rule, seldom, words)| (words.to_string(), *seldom, self.rules[*rule as usize])));
+        lines.extend(self.compat_lines());
+        lines
+    }
+
+    /// The counts of `rosc_compat`: the same by call, and its errors by number; 1 and 9 are its limits.
+    fn compat_lines(&self) -> Vec<(String, u64, u64)> {
+        let calls =
+            (0..Call::Look as usize).map(|call| (format!("compat, {}: the same", NAMES[call]), 1, self.compat[call][0]));
+        let errors = (1..=9).map(|number| {
+            let times = self.compat.iter().map(|call| call[number]).sum();
+            (format!("compat, error of {number}"), if number == 1 { 10 } else { 1 }, times)
+        });
+        calls.chain(errors).collect()
+    }
+
+    /// What was met, with how often.
+    pub fn counts(&self) -> Vec<(String, u64)> {
+        self.lines().into_iter().filter(|(_, _, times)| *times > 0).map(|(name, _, times)| (name, times)).collect()
+    }
+
+    /// Prints the counts, and says whether each was met often enough. What begins with the name of a library that is not
+    /// installed is let off.
+    pub fn report(&self, cases: u64, not_installed: &[&str]) -> bool {
+        let mut enough = true;
+        for (name, seldom, times) in self.lines() {
+            let least = 1 + cases / 20_000 / seldom;
+            if not_installed.iter().any(|library| name.starts_with(library)) {
+                println!("{times:>10} {name}: not installed");
+            } else if times < least {
+                enough = false;
+                println!("{times:>10} {name}: NOT OFTEN ENOUGH, at least {least}");
+            } else {
+                println!("{times:>10} {name}");
+            }
+        }
+        enough
+    }
+}

@@ -1,0 +1,164 @@
+//! Where the texts of the crate's packets stand in the input, which the crate does not tell: a walk over the input's bytes
+//! that is led by the crate's packets. It decides nothing; it only finds offsets, and notes which rules were at work.
+
+use crate::met::{Rule, Seen};
+use crate::oracle;
+use crate::table::{put_packet, word};
+use rosc::{decoder, OscBundle, OscMessage, OscPacket};
+
+pub struct Walk<'a> {
+    input: &'a [u8],
+    /// Where the position is counted from: the start of the input or of the frame.
+    base: usize,
+    at: usize,
+    offsets: Vec<u32>,
+    seen: Seen,
+}
+
+/// The table of the crate's packets over an input, with the offsets that the walk finds. The bytes left over must agree.
+pub fn table(input: &[u8], prefix: usize, packets: &[OscPacket], left: usize, to: &mut Vec<u8>, seen: &mut Seen) {
+    let mut walk = Walk { input, base: 0, at: 0, offsets: Vec::new(), seen: *seen };
+    for packet in packets {
+        walk.frame(prefix, packet);
+    }
+    assert_eq!(input.len() - walk.at, left, "the walk and the crate disagree on the bytes left over: {input:02X?}");
+    walk.seen.note_if(Rule::LeftOver, left > 0);
+    walk.seen.note_if(Rule::Several, packets.len() > 1);
+    *seen = walk.seen;
+    let mut next = walk.offsets.iter();
+    for packet in packets {
+        put_packet(to, packet, &mut |bytes| {
+            let at = *next.next().expect("an offset for each range");
+            assert_eq!(input[at as usize..][..bytes.len()], *bytes, "the walk found other bytes than the crate");
+            at
+        });
+    }
+    assert!(next.next().is_none(), "a range for each offset");
+}
+
+impl Walk<'_> {
+    fn frame(&mut self, prefix: usize, packet: &OscPacket) {
+        self.base = self.at;
+        self.at += prefix;
+        self.packet(packet, self.input.len());
+        if prefix == 0 {
+            return;
+        }
+        let (length, took) = (word(self.input, self.base) as usize, self.at - self.base - prefix);
+        self.seen.note_if(Rule::PrefixZero, length == 0);
+        self.seen.note_if(Rule::PrefixShorter, length < took);
+        self.seen.note_if(Rule::PrefixExact, length == took);
+        self.seen.note_if(Rule::PrefixLonger, length > took);
+        self.seen.note_if(Rule::PrefixWhole, length == self.input.len() - self.base);
+        let more = matches!(packet, OscPacket::Bundle(bundle) if !bundle.content.is_empty());
+        self.seen.note_if(Rule::FrameTaken, more && length >= 16 && length + 8 <= took);
+    }
+
+    /// Walks over a packet whose bytes end at `end` at the latest.
+    fn packet(&mut self, packet: &OscPacket, end: usize) {
+        match packet {
+            OscPacket::Message(message) => self.message(message),
+            OscPacket::Bundle(bundle) => self.bundle(bundle, end),
+        }
+    }
+
+    /// Skips to the next multiple of 4.
+    fn pad(&mut self) {
+        let end = self.base + (self.at - self.base).div_ceil(4) * 4;
+        self.seen.note_if(Rule::PaddingSet, self.input[self.at..end].iter().any(|b| *b != 0));
+        self.at = end;
+    }
+
+    /// Skips a text with its NUL and padding, and answers it.
+    fn text(&mut self) -> std::ops::Range<usize> {
+        let from = self.at;
+        let length = self.input[from..].iter().position(|b| *b == 0).expect("a NUL after a text");
+        self.at = from + length + 1;
+        self.pad();
+        from..from + length
+    }
+
+    fn message(&mut self, message: &OscMessage) {
+        self.offsets.push(self.at as u32);
+        let address = self.text();
+        assert_eq!(address.len(), message.addr.len());
+        let range = self.text();
+        let types = std::str::from_utf8(&self.input[range]).expect("type text is UTF-8");
+        self.seen.note_if(Rule::TypesEmpty, types.is_empty());
+        self.seen.note_if(Rule::TypesOne, types.len() == 1);
+        if types.len() < 2 {
+            return;
+        }
+        let first = types.chars().next().unwrap_or(',');
+        self.seen.note_if(Rule::TypesNoComma, first != ',');
+        self.seen.note_if(Rule::TypesWide, first.len_utf8() > 1);
+        let outside = self.offsets.len();
+        let mut open = Vec::new();
+        for tag in types.chars().skip(1) {
+            self.seen.note_if(Rule::ArrayNested, tag == '[' && !open.is_empty());
+            match tag {
+                '[' => open.push(self.offsets.len()),
+                ']' => drop(open.pop()),
+                _ => self.data(tag),
+            }
+        }
+        if let Some(kept) = open.pop() {
+            self.seen.note(Rule::ArrayUnclosed);
+            self.offsets.drain(outside..kept);
+        }
+    }
+
+    fn data(&mut self, tag: char) {
+        match tag {
+            'i' | 'f' | 'c' | 'r' | 'm' => self.at += 4,
+            'h' | 'd' | 't' => self.at += 8,
+            's' => {
+                self.offsets.push(self.at as u32);
+                self.text();
+            }
+            'b' => {
+                self.offsets.push(self.at as u32 + 4);
+                self.at += 4 + word(self.input, self.at) as usize;
+                self.pad();
+            }
+            _ => {}
+        }
+    }
+
+    fn bundle(&mut self, bundle: &OscBundle, end: usize) {
+        self.at += 8;
+        self.pad();
+        self.at += 8;
+        for packet in &bundle.content {
+            let element = self.at + 4;
+            let after = element + word(self.input, self.at) as usize;
+            self.at = element;
+            self.packet(packet, after);
+            self.seen.note_if(Rule::ElementOdd, !(element - self.base).is_multiple_of(4));
+            self.seen.note_if(Rule::ElementDropped, self.at < after);
+            self.at = after;
+        }
+        if self.at < end {
+            self.ended(&self.input[self.at..end]);
+        }
+    }
+
+    /// Notes why the element at the front of these bytes ended its bundle.
+    fn ended(&mut self, rest: &[u8]) {
+        self.seen.note(Rule::ElementEnds);
+        if rest.len() < 4 {
+            return self.seen.note(Rule::EndsShort);
+        }
+        let size = word(rest, 0) as usize;
+        if size > rest.len() - 4 {
+            return self.seen.note(Rule::EndsPast);
+        }
+        // Padding is counted as for the whole input only where the element stands at a multiple of 4.
+        if (self.at + 4 - self.base).is_multiple_of(4) {
+            let error = decoder::decode_udp(&rest[4..4 + size]).expect_err("an element that ends its bundle");
+            let number = oracle::number_of(&error) as usize;
+            let rules = [Rule::Ends2, Rule::Ends3, Rule::Ends4, Rule::Ends5, Rule::Ends6, Rule::Ends7, Rule::Ends8];
+            self.seen.note(rules[number - 2]);
+        }
+    }
+}
