@@ -1,5 +1,8 @@
 // One call of a decoder over a table of its own, and whether it ends as it should.
 use decoder::Decoded;
+use runs::FILL;
+use runs::holds;
+use runs::is_kept;
 
 // The three decoders.
 pub enum Call {
@@ -8,9 +11,6 @@ pub enum Call {
     TcpVec,
 }
 
-// What every byte of a table is before a call.
-const FILL: u8 = 0x5A;
-
 // Calls a decoder.
 pub fn decode(call: Call, msg: &[u8], table: &mut [u8], depth: usize) -> Decoded {
     match call {
@@ -18,30 +18,6 @@ pub fn decode(call: Call, msg: &[u8], table: &mut [u8], depth: usize) -> Decoded
         Call::Tcp => decoder::decode_tcp(msg, table, depth),
         Call::TcpVec => decoder::decode_tcp_vec(msg, table, depth),
     }
-}
-
-// Whether each byte from `from` on is as it was.
-fn is_kept(table: &[u8], from: usize) -> bool {
-    let mut i = from;
-    while i < table.len() {
-        if table[i] != FILL {
-            return false;
-        }
-        i += 1;
-    }
-    true
-}
-
-// Whether the table begins with the records, and the rest of it is as it was.
-fn holds(table: &[u8], records: &[u8]) -> bool {
-    let n = records.len();
-    if table.len() < n {
-        return false;
-    }
-    if !check::same(&table[0..n], records) {
-        return false;
-    }
-    is_kept(table, n)
 }
 
 // Whether a call gives just these records, with so many bytes left.
@@ -63,7 +39,7 @@ fn records_given(call: Call, msg: &[u8], table: &mut [u8], records: &[u8], left:
 
 // The same, with room for the records and 3 bytes.
 pub fn gives(call: Call, msg: &[u8], records: &[u8], left: usize) -> bool {
-    let mut space = [0x5Au8; 512];
+    let mut space = [FILL; 512];
     if 509 < records.len() {
         return false;
     }
@@ -87,7 +63,7 @@ fn refused_with(call: Call, msg: &[u8], table: &mut [u8], depth: usize, number: 
 
 // The same, with a table of `room` bytes.
 pub fn refuses(call: Call, msg: &[u8], depth: usize, room: usize, number: u8) -> bool {
-    let mut space = [0x5Au8; 512];
+    let mut space = [FILL; 512];
     if 512 < room {
         return false;
     }
@@ -96,7 +72,7 @@ pub fn refuses(call: Call, msg: &[u8], depth: usize, room: usize, number: u8) ->
 
 // Whether a call answers Waiting, and changes nothing.
 pub fn waits(call: Call, msg: &[u8]) -> bool {
-    let mut space = [0x5Au8; 512];
+    let mut space = [FILL; 512];
     match decode(call, msg, &mut space, 64) {
         Decoded::Packets { count: _, left: _ } => false,
         Decoded::Waiting => is_kept(&space, 0),

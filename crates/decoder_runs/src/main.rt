@@ -5,17 +5,7 @@ mod examples; // examples.rt: document 01's P1 to P14
 mod traps; // traps.rt: readings that look right and are wrong
 mod limits; // limits.rt: length, depth and capacity at their limits
 
-// Says how a group of cases went: 0, or the number of the first case that differs.
-fn say(name: &[u8], first: u64) {
-    io::write_all(1, name);
-    if first == 0 {
-        io::write_all(1, b": all as they should be\n");
-    } else {
-        io::write_all(1, b": the first that differs is case ");
-        io::print_decimal(1, first);
-        io::write_all(1, b"\n");
-    }
-}
+use runs::say;
 
 fn main() {
     say(b"examples", examples::packets());

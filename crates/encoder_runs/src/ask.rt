@@ -1,5 +1,8 @@
 // One call of an encoder over an output of its own, and whether it ends as it should.
 use encoder::Encoded;
+use runs::FILL;
+use runs::holds;
+use runs::is_kept;
 
 // The three encoders; a string's text is the source.
 pub enum Call {
@@ -7,9 +10,6 @@ pub enum Call {
     Tcp,
     Text,
 }
-
-// What every byte of an output is before a call.
-const FILL: u8 = 0x5A;
 
 // Calls an encoder on all the records of a table.
 pub fn encode(call: Call, table: &[u8], source: &[u8], out: &mut [u8]) -> Encoded {
@@ -19,30 +19,6 @@ pub fn encode(call: Call, table: &[u8], source: &[u8], out: &mut [u8]) -> Encode
         Call::Tcp => encoder::encode_tcp(table, count, source, out),
         Call::Text => encoder::encode_string(source, out),
     }
-}
-
-// Whether each byte from `from` on is as it was.
-pub fn is_kept(out: &[u8], from: usize) -> bool {
-    let mut i = from;
-    while i < out.len() {
-        if out[i] != FILL {
-            return false;
-        }
-        i += 1;
-    }
-    true
-}
-
-// Whether the output begins with the bytes, and the rest of it is as it was.
-fn holds(out: &[u8], bytes: &[u8]) -> bool {
-    let n = bytes.len();
-    if out.len() < n {
-        return false;
-    }
-    if !check::same(&out[0..n], bytes) {
-        return false;
-    }
-    is_kept(out, n)
 }
 
 // Whether a call writes just these bytes.
@@ -60,7 +36,7 @@ fn bytes_written(call: Call, table: &[u8], source: &[u8], out: &mut [u8], bytes:
 
 // The same, with room for `more` bytes than these.
 pub fn writes(call: Call, table: &[u8], source: &[u8], bytes: &[u8], more: usize) -> bool {
-    let mut space = [0x5Au8; 512];
+    let mut space = [FILL; 512];
     if 400 < bytes.len() {
         return false;
     }
@@ -86,7 +62,7 @@ pub fn refused_with(call: Call, table: &[u8], source: &[u8], out: &mut [u8], num
 
 // The same, with an output of `room` bytes.
 pub fn refuses(call: Call, table: &[u8], source: &[u8], room: usize, number: u8) -> bool {
-    let mut space = [0x5Au8; 512];
+    let mut space = [FILL; 512];
     if 512 < room {
         return false;
     }

@@ -68,7 +68,7 @@ pub fn length() -> u64 {
     let long = b"/\0\0\0\0\0\0\x02\0\0\0\0\0\0\0\x01b\0\0\0\0\0\0\x02\0\0\0\0\0\0\xFF\xF4";
     let mut source = io::large_buffer();
     source[0] = b'/';
-    let mut out = [0x5Au8; 8];
+    let mut out = [runs::FILL; 8];
     if !refused_with(Call::Plain, long, &source, &mut out, 1) {
         return 3;
     }

@@ -5,17 +5,7 @@ mod kinds; // kinds.rt: every kind of record, arrays and bundles
 mod spoiled; // spoiled.rt: tables that are not well formed
 mod limits; // limits.rt: depth, length and room at their limits
 
-// Says how a group of cases went: 0, or the number of the first case that differs.
-fn say(name: &[u8], first: u64) {
-    io::write_all(1, name);
-    if first == 0 {
-        io::write_all(1, b": all as they should be\n");
-    } else {
-        io::write_all(1, b": the first that differs is case ");
-        io::print_decimal(1, first);
-        io::write_all(1, b"\n");
-    }
-}
+use runs::say;
 
 fn main() {
     say(b"messages", kinds::messages());

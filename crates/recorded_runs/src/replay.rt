@@ -1,0 +1,69 @@
+// One case replayed: the call, and whether it leaves what is due.
+use crate::case::Case;
+ghost use Rattle.recorded_runs.specs.Layout.{Laid};
+ghost use Rattle.recorded_runs.specs.Compared.{Compared};
+
+// How a case went: as it should, or what is the first that differs.
+pub enum Outcome {
+    Right,
+    OtherAnswer,
+    OtherBytes,
+    LaterByte,
+}
+
+// Makes the call of an operation.
+fn answer(operation: u8, number: u64, first: &[u8], second: &[u8], out: &mut [u8]) -> u64 {
+    match operation {
+        0 => osc::osc_decode_udp(first, out, number),
+        1 => osc::osc_decode_tcp(first, out, number),
+        2 => osc::osc_decode_tcp_vec(first, out, number),
+        3 => osc::osc_encode(first, number, second, out),
+        4 => osc::osc_encode_tcp(first, number, second, out),
+        5 => osc::osc_encode_string(first, out),
+        6 => osc::osc_pad(number),
+        _ => osc::osc_look(first, number),
+    }
+}
+
+// Compares an answer and what the call left in the buffer with what is due.
+fn compare(answer: u64, due: u64, out: &[u8], written: &[u8]) -> Outcome
+    ensures { λ r. ⌜ Compared answer due (now (out .entry)) (now (written .entry)) r ⌝ }
+{
+    if answer != due {
+        return Outcome::OtherAnswer;
+    }
+    if !runs::begins(out, written) {
+        return Outcome::OtherBytes;
+    }
+    if !runs::is_kept(out, written.len()) {
+        return Outcome::LaterByte;
+    }
+    Outcome::Right
+}
+
+// Replays a case in a buffer of just the room that it has.
+fn replay_in(s: &[u8], case: Case, out: &mut [u8]) -> Outcome
+    requires { ⌜ Laid (now s) case ⌝ }
+{
+    let first = case.first;
+    let second = case.second;
+    let end = case.end;
+    runs::fill(out);
+    let answered = answer(
+        case.operation,
+        case.number,
+        &s[17..first],
+        &s[first + 4..second],
+        out,
+    );
+    compare(answered, case.due, out, &s[second + 12..end])
+}
+
+// Replays a case.
+pub fn replay(s: &[u8], case: Case) -> Outcome
+    requires { ⌜ Laid (now s) case ⌝ }
+{
+    let mut space = io::large_buffer();
+    let room = case.room;
+    replay_in(s, case, &mut space[0..room])
+}

@@ -1,0 +1,56 @@
+// What is said of the cases, on standard output.
+use crate::replay::Outcome;
+
+// The name of an operation.
+fn name(operation: u8) {
+    match operation {
+        0 => io::write_all(1, b"decode_udp"),
+        1 => io::write_all(1, b"decode_tcp"),
+        2 => io::write_all(1, b"decode_tcp_vec"),
+        3 => io::write_all(1, b"encode"),
+        4 => io::write_all(1, b"encode_tcp"),
+        5 => io::write_all(1, b"encode_string"),
+        6 => io::write_all(1, b"pad"),
+        _ => io::write_all(1, b"look"),
+    }
+    ;
+}
+
+// Says how many answers an operation has.
+fn count(operation: u8, answers: u64) {
+    name(operation);
+    io::write_all(1, b": ");
+    io::print_decimal(1, answers);
+    io::write_all(1, b" answers\n");
+}
+
+// Says which case differs, and in what.
+pub fn difference(number: u64, operation: u8, what: &[u8]) {
+    io::write_all(1, b"case ");
+    io::print_decimal(1, number);
+    io::write_all(1, b", ");
+    name(operation);
+    io::write_all(1, b": ");
+    io::write_all(1, what);
+    io::write_all(1, b"\n");
+}
+
+// Says how many answers each operation has.
+pub fn counts(tally: &[u64; 10]) {
+    count(0, tally[0]);
+    count(1, tally[1]);
+    count(2, tally[2]);
+    count(3, tally[3]);
+    count(4, tally[4]);
+    count(5, tally[5]);
+    count(6, tally[6]);
+    count(7, tally[7]);
+}
+
+// Says how many answers there are, and how many of them differ.
+pub fn total(answers: u64, differences: u64) {
+    io::print_decimal(1, answers);
+    io::write_all(1, b" answers, ");
+    io::print_decimal(1, differences);
+    io::write_all(1, b" differences\n");
+}

@@ -1,0 +1,67 @@
+// What the programs that run calls and compare share: a slice filled before a call, what stands in it after, and what is said.
+ghost use Prim.Native.Nat.{_≤_};
+ghost use mathlib.Core.Bool.{true};
+ghost use mathlib.Core.Path.{_≡_};
+ghost use lib.ListN.{length};
+ghost use Rattle.runs.specs.Kept.{Begins, Kept};
+
+// What every byte of a lent slice is before a call.
+pub const FILL: u8 = 0x5A;
+
+// Fills a slice.
+pub fn fill(out: &mut [u8])
+    ensures { λ _. ⌜ (length (now (out .exit)) ≡ length (now (out .entry))) × Kept (now (out .exit)) 0 ⌝ }
+{
+    let mut i = 0;
+    while i < out.len() {
+        out[i] = FILL;
+        i += 1;
+    }
+}
+
+// Whether each byte from `from` on is as `fill` left it.
+pub fn is_kept(out: &[u8], from: usize) -> bool
+    ensures { λ r. ⌜ (r ≡ true → Kept (now (out .entry)) from) × (Kept (now (out .entry)) from → r ≡ true) ⌝ }
+{
+    let mut i = from;
+    while i < out.len() {
+        if out[i] != FILL {
+            return false;
+        }
+        i += 1;
+    }
+    true
+}
+
+// Whether a slice begins with the bytes.
+pub fn begins(out: &[u8], bytes: &[u8]) -> bool
+    ensures { λ r. ⌜ (r ≡ true → Begins (now (bytes .entry)) (now (out .entry))) × (Begins (now (bytes .entry)) (now (out .entry)) → r ≡ true) ⌝ }
+{
+    let n = bytes.len();
+    if out.len() < n {
+        return false;
+    }
+    check::same(&out[..n], bytes)
+}
+
+// Whether a slice begins with the bytes, and the rest of it is as `fill` left it.
+pub fn holds(out: &[u8], bytes: &[u8]) -> bool
+    ensures { λ r. ⌜ (r ≡ true → Begins (now (bytes .entry)) (now (out .entry)) × Kept (now (out .entry)) (length (now (bytes .entry)))) ⌝ }
+{
+    if !begins(out, bytes) {
+        return false;
+    }
+    is_kept(out, bytes.len())
+}
+
+// Says how a group of cases went: 0, or the number of the first case that differs.
+pub fn say(name: &[u8], first: u64) {
+    io::write_all(1, name);
+    if first == 0 {
+        io::write_all(1, b": all as they should be\n");
+    } else {
+        io::write_all(1, b": the first that differs is case ");
+        io::print_decimal(1, first);
+        io::write_all(1, b"\n");
+    }
+}
