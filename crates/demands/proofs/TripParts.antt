@@ -9,6 +9,8 @@ use lib.ListN.{length, take, drop, replicate, length-append, length-replicate}
 use lib.Seq.{take-at, drop-at}
 use Rattle.number.specs.Number.{number}
 use Rattle.utf8.specs.Utf8.{Octets, Decides}
+use Rattle.utf8.specs.Derive.{utf8}
+use Rattle.utf8.proofs.Grammar.{octets, same-answer}
 use Rattle.text.specs.Text.{untilNul, textOf}
 use Rattle.text.specs.declared.Text.the-variants.{Found}
 use Rattle.arguments.specs.Argument.{argOf}
@@ -48,7 +50,8 @@ module _ {text bs : List ℕ} (w : OscString text bs) where
       let k = length-append bs more in
       let e : n ≡ untilNul (bs ++ more) = rw string-before (sym (nul-after text _ (t .non-null))) in
       let d : Decides true (Octets (take n (bs ++ more))) = rw (string-take more) (record { sound = λ _. t .valid; complete = λ _. refl }) in
-      rw r at (found (bs ++ more) p n e (omega arith) (omega arith) d refl)
+      let u : utf8 (take n (bs ++ more)) ≡ true = same-answer (octets (take n (bs ++ more))) d in
+      rw r at (found (bs ++ more) p n e (omega arith) (omega arith) u)
 
 -- ---- one argument
 
