@@ -16,6 +16,8 @@ use Rattle.text.specs.Text.{reach, textOf, faultOf}
 use Rattle.text.specs.declared.Lack.{Lack}
 use Rattle.text.specs.declared.Text.the-variants.{Found, Lacks}
 use Rattle.arguments.specs.Argument.{argOf, having}
+use Rattle.arguments.specs.Scans.{usedOf}
+use Rattle.arguments.specs.declared.scan.Scanned.{Scanned}
 use Rattle.arguments.specs.declared.Arg.{Arg}
 use Rattle.arguments.specs.declared.Arg.the-variants.{Given, Refused}
 
@@ -34,6 +36,9 @@ module _ (l : List ℕ) where
     -- an answer for the class that a match found
     pub of-class : {k class : Class} {r : Arg} → class ≡ k → r ≡ argOf k base l p → r ≡ argOf class base l p
     of-class e f = f ∙ ap (λ (c : Class). argOf c base l p) (sym e)
+
+    pub used-of-class : {k class : Class} {r : Scanned} → class ≡ k → r ≡ usedOf (argOf k base l p) → r ≡ usedOf (argOf class base l p)
+    used-of-class e f = f ∙ ap (λ (c : Class). usedOf (argOf c base l p)) (sym e)
 
     pub four-short : length l < 4 → Refused RunsOut ≡ argOf Four base l p
     unfolding argOf

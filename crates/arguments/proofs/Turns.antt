@@ -15,12 +15,11 @@ use Rattle.types.specs.declared.tags.Class.{Class}
 use Rattle.types.specs.declared.tags.Sort.{Sort}
 use Rattle.types.specs.declared.tags.Sort.the-variants.{Opens, Closes, Leaf}
 use Rattle.arguments.specs.Argument.{argOf}
-use Rattle.arguments.specs.Scans.{more, turn, scan, before, back}
-use Rattle.arguments.specs.declared.Arg.the-variants as arg
+use Rattle.arguments.specs.Scans.{usedOf, more, turn, scan, before, back}
 use Rattle.arguments.specs.declared.scan.Scanned.{Scanned}
 use Rattle.arguments.specs.declared.scan.Scanned.the-variants.{Used, Refused}
 use Rattle.arguments.specs.declared.scan.Back.the-variants.{Whole, Cut}
-use Rattle.arguments.proofs.Within.{given-within}
+use Rattle.arguments.proofs.Within.{used-within}
 
 more-more : (m n : ℕ) (s : Scanned) → more m (more n s) ≡ more (m + n) s
 more-more m n (Used used) = ap Used (omega arith)
@@ -52,11 +51,11 @@ module _ (ts m : List ℕ) (q n : ℕ) (h : 0 < length ts) where
       let some : n ≡ suc (n - 1) = omega arith in
       scan-turn e ∙ ap (turn Closes (λ m q k. scan (drop 1 ts) m q k) m q) some
 
-  scan-given : {class : Class} {a b used : ℕ} → Leaf class ≡ sortOf (getD ts 0 0) → arg.Given a b used ≡ argOf class 0 m q
+  scan-given : {class : Class} {used : ℕ} → Leaf class ≡ sortOf (getD ts 0 0) → Used used ≡ usedOf (argOf class 0 m q)
       → scan ts m q n ≡ more used (scan (drop 1 ts) (drop used m) (q + used) n)
   scan-given e g = scan-turn e ∙ rw (← g)
 
-  scan-refused : {class : Class} {fault : Fault} → Leaf class ≡ sortOf (getD ts 0 0) → arg.Refused fault ≡ argOf class 0 m q
+  scan-refused : {class : Class} {fault : Fault} → Leaf class ≡ sortOf (getD ts 0 0) → Refused fault ≡ usedOf (argOf class 0 m q)
       → scan ts m q n ≡ Refused fault
   scan-refused e g = scan-turn e ∙ rw (← g)
 
@@ -90,11 +89,11 @@ module _ {tags l : List ℕ} {pos : ℕ} {ts m : List ℕ} {at n : ℕ} (w : Sca
   pub scanning-closes : 0 < length ts → Closes ≡ sortOf (getD ts 0 0) → (n ≡ 0 → ⊥) → Scanning tags l pos (take (length ts - 1) (drop 1 ts)) m at (n - 1)
   scanning-closes h e z = next (n - 1) h (omega arith) (scan-closes ts m at n h e z)
 
-  pub scanning-given : {class : Class} {a b used : ℕ} → 0 < length ts → Leaf class ≡ sortOf (getD ts 0 0) → arg.Given a b used ≡ argOf class 0 m at
+  pub scanning-given : {class : Class} {used : ℕ} → 0 < length ts → Leaf class ≡ sortOf (getD ts 0 0) → Used used ≡ usedOf (argOf class 0 m at)
       → Scanning tags l pos (take (length ts - 1) (drop 1 ts)) (take (length m - used) (drop used m)) (at + used) n
-  scanning-given {class} {a} {b} {used} h e g =
+  scanning-given {class} {used} h e g =
       let sum : at - pos + used ≡ at + used - pos = omega (arith, w .past) in
-      let within : used ≤ length m = given-within class 0 m at g in
+      let within : used ≤ length m = used-within class 0 m at g in
       rw (tail ts 1, tail m used)
       (record {
         whole =
@@ -107,7 +106,7 @@ module _ {tags l : List ℕ} {pos : ℕ} {ts m : List ℕ} {at n : ℕ} (w : Sca
   pub scanning-none : 0 < length ts → Closes ≡ sortOf (getD ts 0 0) → n ≡ 0 → Refused NotOpen ≡ scan tags l pos 0
   scanning-none h e z = sym (w .whole ∙ ap (more (at - pos)) (scan-none ts m at n h e z))
 
-  pub scanning-refused : {class : Class} {fault : Fault} → 0 < length ts → Leaf class ≡ sortOf (getD ts 0 0) → arg.Refused fault ≡ argOf class 0 m at
+  pub scanning-refused : {class : Class} {fault : Fault} → 0 < length ts → Leaf class ≡ sortOf (getD ts 0 0) → Refused fault ≡ usedOf (argOf class 0 m at)
       → Refused fault ≡ scan tags l pos 0
   scanning-refused h e g = sym (w .whole ∙ ap (more (at - pos)) (scan-refused ts m at n h e g))
 

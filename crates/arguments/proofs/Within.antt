@@ -25,6 +25,7 @@ use Rattle.arguments.specs.Argument.{argOf, having, textArg}
 use Rattle.arguments.specs.Scans.{usedOf}
 use Rattle.arguments.specs.declared.Arg.{Arg}
 use Rattle.arguments.specs.declared.Arg.the-variants.{Given, Refused}
+use Rattle.arguments.specs.declared.scan.Scanned.the-variants.{Used}
 
 -- ---- what holds of the fields and of the bytes used
 
@@ -63,6 +64,15 @@ pub given-within : {a b used : ℕ} (class : Class) (base : ℕ) (l : List ℕ) 
 given-within class base l p e =
     subst (Holds (λ a b used. used ≤ length l)) (sym e)
     (arg-holds (λ a b used. used ≤ length l) base l p (λ h. h) (λ h. h) (omega arith) (λ n used f. found-in l p f .1) (λ h k. k) class)
+
+used-from : {used : ℕ} (l : List ℕ) (x : Arg) → Holds (λ a b u. u ≤ length l) x → Used used ≡ usedOf x → used ≤ length l
+used-from {used} l (Given a b u) h e = let f : used ≡ u = cc in omega arith
+used-from l (Refused k) h e = let z : _≡_ {A = ℕ} 0 1 = cc in absurd (omega arith)
+
+pub used-within : {used : ℕ} (class : Class) (base : ℕ) (l : List ℕ) (p : ℕ) → Used used ≡ usedOf (argOf class base l p) → used ≤ length l
+used-within class base l p e =
+    used-from l (argOf class base l p)
+    (arg-holds (λ a b used. used ≤ length l) base l p (λ h. h) (λ h. h) (omega arith) (λ n used f. found-in l p f .1) (λ h k. k) class) e
 
 -- its fields fit in 4 bytes
 pub given-fits : {a b used : ℕ} (class : Class) (base : ℕ) (l : List ℕ) (p : ℕ) → ((j : ℕ) → getD l j 0 < 256) → base + p + length l < 256 ^ 4

@@ -3,6 +3,7 @@ use crate::Arg;
 use number::be_u32;
 use refusal::Fault;
 use text::Text;
+use types::tags::Class;
 ghost use mathlib.Core.Path.{_≡_};
 ghost use Prim.Native.Nat.{ℕ, _+_, _≤_};
 ghost use lib.ListN.{length};
@@ -87,5 +88,25 @@ pub fn read_blob(input: &[u8], base: usize, pos: usize) -> Arg
         a: (base + pos + 4) as u32,
         b: size,
         used,
+    }
+}
+
+// The data of one argument, of whatever class: the readers call it for the classes that they do not read themselves.
+pub fn read_rare(class: Class, input: &[u8], base: usize, pos: usize) -> Arg
+    requires { ⌜ base + pos + length (now input) ≤ 65535 ⌝ }
+    ensures { λ r. ⌜ r ≡ argOf class base (now (input .entry)) pos ⌝ }
+{
+    match class {
+        Class::Four => read_four(input),
+        Class::Eight => read_eight(input),
+        Class::Bare => Arg::Given {
+            a: 0,
+            b: 0,
+            used: 0,
+        },
+        Class::Text => read_text(input, base, pos),
+        Class::Blob => read_blob(input, base, pos),
+        Class::Scalar => read_char(input),
+        Class::Unknown => Arg::Refused(Fault::UnknownTag),
     }
 }

@@ -46,10 +46,7 @@ pub fn read_osc_arg(class: Class, input: &[u8], base: usize, pos: usize) -> Arg
             b: 0,
             used: 0,
         },
-        Class::Text => argument::read_text(input, base, pos),
-        Class::Blob => argument::read_blob(input, base, pos),
-        Class::Scalar => argument::read_char(input),
-        Class::Unknown => Arg::Refused(Fault::UnknownTag),
+        _ => argument::read_rare(class, input, base, pos),
     }
 }
 

@@ -1,13 +1,15 @@
 // The tags and their data without records: what the first reading finds out. Linear, with no stack for arrays.
 use crate::Arg;
-use crate::read_osc_arg;
+use crate::argument::read_rare;
 use refusal::Fault;
+use types::tags::Class;
 use types::tags::Sort;
 use types::tags::sort_of;
 ghost use mathlib.Core.Path.{_≡_};
-ghost use Prim.Native.Nat.{_+_, _≤_};
+ghost use Prim.Native.Nat.{ℕ, _+_, _≤_};
 ghost use lib.ListN.{length};
-ghost use Rattle.arguments.specs.Scans.{scan, back};
+ghost use Rattle.arguments.specs.Argument.{having, argOf};
+ghost use Rattle.arguments.specs.Scans.{usedOf, scan, back};
 
 // How many bytes of data tags take, or the fault.
 pub enum Scanned {
@@ -21,6 +23,32 @@ pub enum Back {
     Whole { closed: usize, count: usize },
     // An array that they open stays open. The last such '[' ends the first `first` of them; those after it give `count` records.
     Cut { first: usize, count: usize },
+}
+
+// `n` bytes, where the data has them.
+fn pass_bytes(input: &[u8], n: usize) -> Scanned
+    ensures { λ r. ⌜ ((a b : ℕ) → r ≡ usedOf (having n (now (input .entry)) (Arg.Given a b n))) ⌝ }
+{
+    if input.len() < n {
+        return Scanned::Refused(Fault::RunsOut);
+    }
+    Scanned::Used(n)
+}
+
+// How many bytes of data one argument takes.
+fn pass_arg(class: Class, input: &[u8], pos: usize) -> Scanned
+    requires { ⌜ pos + length (now input) ≤ 65535 ⌝ }
+    ensures { λ r. ⌜ r ≡ usedOf (argOf class 0 (now (input .entry)) pos) ⌝ }
+{
+    match class {
+        Class::Four => pass_bytes(input, 4),
+        Class::Eight => pass_bytes(input, 8),
+        Class::Bare => Scanned::Used(0),
+        _ => match read_rare(class, input, 0, pos) {
+            Arg::Given { a: _, b: _, used } => Scanned::Used(used),
+            Arg::Refused(fault) => Scanned::Refused(fault),
+        },
+    }
 }
 
 // Forward: whether the tags and their data are accepted, and how many bytes they take. Only the number of open arrays is kept.
@@ -43,12 +71,12 @@ pub fn scan_args(tags: &[u8], input: &[u8], pos: usize) -> Scanned
                 }
                 waiting -= 1;
             }
-            Sort::Leaf(class) => match read_osc_arg(class, rest, 0, at) {
-                Arg::Given { a: _, b: _, used } => {
+            Sort::Leaf(class) => match pass_arg(class, rest, at) {
+                Scanned::Used(used) => {
                     rest = &rest[used..];
                     at += used;
                 }
-                Arg::Refused(fault) => return Scanned::Refused(fault),
+                Scanned::Refused(fault) => return Scanned::Refused(fault),
             },
         }
     }

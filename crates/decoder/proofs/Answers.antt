@@ -7,12 +7,14 @@ use native.Mathlib.Omega.{arith}
 use borrow.Author.Tests.{le-leb, lt-leb}
 use lib.Dec.{leb}
 use lib.ListN.{length}
+use Rattle.refusal.specs.declared.Refusal.{Refusal}
 use Rattle.refusal.specs.declared.Refusal.the-variants.{TooLong, DepthLimit}
 use Rattle.types.specs.Forest.{Forest, nil, node, size, depth, level}
 use Rattle.types.specs.Records.{recordSize}
 use Rattle.decoder.specs.Packet.{Out, fault, one, packet}
 use Rattle.decoder.specs.Framing.{Whole, trees, waiting, refusal, single, udp, Frame, tree, wait, stop, frameOf, first, tcp, tcpVec}
 use Rattle.decoder.specs.Limits.{limited, decoded, forestOf}
+use Rattle.decoder.specs.Known.{Known}
 use Rattle.decoder.specs.Readings.{extent, treeOf, Room, frameExtent, framePacket, Accepted, totalOf, answered}
 use Rattle.decoder.specs.declared.Decoded.{Decoded}
 use Rattle.decoder.specs.declared.Decoded.the-variants.{Packets, Refused}
@@ -22,7 +24,8 @@ use Rattle.decoder.specs.declared.frames.FrameExtent.{FrameExtent}
 use Rattle.decoder.specs.declared.frames.FrameExtent.the-variants as frame
 use Rattle.decoder.specs.declared.frames.Total.{Total}
 use Rattle.decoder.specs.declared.frames.Total.the-variants as total
-use Rattle.number.proofs.Choices.{by-test, by-le, by-both}
+use Rattle.number.proofs.Choices.{by-both}
+use Rattle.decoder.proofs.Chosen.{by-decoded, by-trees}
 use Rattle.decoder.proofs.Sizes.{WholeIn, nodes-in, udp-in, tcp-in, vec-in}
 
 -- ---- the answer by the first reading
@@ -95,26 +98,33 @@ pub record Fitting (w : Whole) (capacity n : ℕ) : Type 0 where
   pub accepted : Accepted w
   pub fits : size (forestOf w) ≤ capacity
 
+no-packets : {A : Type 0} {count left : ℕ} {r : Refusal} → Packets count left ≡ Refused r → A
+no-packets e = let z : _≡_ {A = ℕ} 0 1 = cc in absurd (omega arith)
+
 pub packets-fit : {count left : ℕ} (rule : List ℕ → Whole) (capacity limit : ℕ) (msg : List ℕ) → Packets count left ≡ decoded rule capacity limit msg → Fitting (rule msg) capacity (length msg)
-unfolding decoded
 packets-fit {count} {left} rule capacity limit msg e =
-    by-test (λ (x : Decoded). Packets count left ≡ x → Fitting (rule msg) capacity (length msg)) (leb limit 64)
-    (λ _. by-le (λ (x : Decoded). Packets count left ≡ x → Fitting (rule msg) capacity (length msg)) (length msg) 65535
-    (λ h. by-whole h (rule msg))
-    (λ _ i. let z : _≡_ {A = ℕ} 0 1 = cc in absurd (omega arith)))
-    (λ _ i. let z : _≡_ {A = ℕ} 0 1 = cc in absurd (omega arith))
-    e
+    by-decoded (λ (x : Decoded). Packets count left ≡ x → Fitting (rule msg) capacity (length msg)) rule capacity limit msg
+    (λ _. no-packets) (λ _. no-packets) (λ _ h. by-whole h (rule msg)) e
   where
     by-whole : length msg ≤ 65535 → (w : Whole) → Packets count left ≡ limited capacity limit w → Fitting w capacity (length msg)
     by-whole h waiting i = let z : _≡_ {A = ℕ} 0 1 = cc in absurd (omega arith)
-    by-whole h (refusal k) i = let z : _≡_ {A = ℕ} 0 1 = cc in absurd (omega arith)
+    by-whole h (refusal k) i = no-packets i
     by-whole h (trees f n) i =
-        by-test (λ (x : Decoded). Packets count left ≡ x → Fitting (trees f n) capacity (length msg)) (leb (depth f) limit)
-        (λ _. by-le (λ (x : Decoded). Packets count left ≡ x → Fitting (trees f n) capacity (length msg)) (size f) capacity
-        (λ s _. record { short = h; accepted = tt; fits = s })
-        (λ _ j. let z : _≡_ {A = ℕ} 0 1 = cc in absurd (omega arith)))
-        (λ _ j. let z : _≡_ {A = ℕ} 0 1 = cc in absurd (omega arith))
-        i
+        by-trees (λ (x : Decoded). Packets count left ≡ x → Fitting (trees f n) capacity (length msg)) capacity limit f n
+        (λ _. no-packets) (λ _. no-packets) (λ _ s _. record { short = h; accepted = tt; fits = s }) i
+
+-- and the count is that of its records
+pub packets-count : {count left : ℕ} (rule : List ℕ → Whole) (capacity limit : ℕ) (msg : List ℕ) → Packets count left ≡ decoded rule capacity limit msg → size (forestOf (rule msg)) ≡ count
+packets-count {count} {left} rule capacity limit msg e =
+    by-decoded (λ (x : Decoded). Packets count left ≡ x → size (forestOf (rule msg)) ≡ count) rule capacity limit msg
+    (λ _. no-packets) (λ _. no-packets) (λ _ _. by-whole (rule msg)) e
+  where
+    by-whole : (w : Whole) → Packets count left ≡ limited capacity limit w → size (forestOf w) ≡ count
+    by-whole waiting i = let z : _≡_ {A = ℕ} 0 1 = cc in absurd (omega arith)
+    by-whole (refusal k) i = no-packets i
+    by-whole (trees f n) i =
+        by-trees (λ (x : Decoded). Packets count left ≡ x → size f ≡ count) capacity limit f n
+        (λ _. no-packets) (λ _. no-packets) (λ _ _ j. let z : count ≡ size f = cc in sym z) i
 
 room-for : (w : Whole) (n : ℕ) (T : List ℕ) → Fitting w (length T / recordSize) n → WholeIn n w → Room (forestOf w) 0 T
 room-for w n T f v = record { fits = omega (arith, f .fits); low = omega (arith, f .short, nodes-in n w v) }
@@ -136,6 +146,16 @@ udp-tree msg = single-tree (length msg) (packet 0 msg 0)
 pub tcp-tree : (msg : List ℕ) → forestOf (tcp msg) ≡ treeOf (framePacket (frameOf 0 msg))
 unfolding tcp
 tcp-tree msg = first-tree (length msg) (frameOf 0 msg)
+
+-- a packet that was accepted is known
+single-known : {count : ℕ} (n : ℕ) (o : Out) → Accepted (single n o) → size (forestOf (single n o)) ≡ count → Known o count
+unfolding size
+single-known n (fault k) h e = absurd h
+single-known n (one k a b f u) h e = record { some = omega (arith, e); records = e }
+
+pub udp-known : {count : ℕ} (msg : List ℕ) → Accepted (udp msg) → size (forestOf (udp msg)) ≡ count → Known (packet 0 msg 0) count
+unfolding udp
+udp-known msg h e = single-known (length msg) (packet 0 msg 0) h e
 
 module _ (msg T : List ℕ) where
   pub udp-room : Fitting (udp msg) (length T / recordSize) (length msg) → Room (treeOf (packet 0 msg 0)) 0 T

@@ -25,6 +25,7 @@ use Rattle.decoder.specs.Heads.{startOf, sizeOf}
 use Rattle.decoder.specs.Readings.{bundle, element, usedBy, treesIn, treeOf, filled, Room, Fills}
 use Rattle.decoder.specs.declared.heads.Start.the-variants as start
 use Rattle.decoder.specs.declared.heads.Sized.the-variants as sized
+use Rattle.decoder.specs.Known.{Known}
 use Rattle.decoder.specs.declared.fill.Filled.{Filled}
 use Rattle.decoder.specs.declared.fill.Filled.the-variants.{Wrote, Nothing}
 use Rattle.decoder.proofs.Fronts.{started, packet-start, held, element-size}
@@ -35,6 +36,13 @@ use Rattle.decoder.proofs.Stored.{wrote-stored, stored-nil, node-record
 -- nothing is written of what is refused
 pub fills-none : {k : Fault} {o : Out} {p i : ℕ} {T : List ℕ} → o ≡ fault k → Fills o p i T Nothing T
 fills-none {k} {o} {p} {i} {T} e = record { answered = sym (ap (filled p) e); table = sym (ap (λ (x : Out). stored i (treeOf x) T) e ∙ stored-nil i T) }
+
+-- what is known to be accepted is not refused
+pub known-refused : {k : Fault} {o : Out} {count : ℕ} → Known o count → o ≡ fault k → ⊥
+unfolding size
+known-refused {k} {o} {count} w e =
+    let z : 0 ≡ count = ap (λ (x : Out). size (treeOf x)) (sym e) ∙ w .records in
+    omega (arith, w .some)
 
 -- ---- packets
 
@@ -59,6 +67,15 @@ module _ (base : ℕ) (l rest : List ℕ) (p : ℕ) where
 
     pub packet-fills-message : {i : ℕ} {r : Filled} {T T' : List ℕ} → Fills (messageOf base (base + p) n rest (p + used)) (p + used) i T r T' → Fills (packet base l p) p i T r T'
     packet-fills-message w = rw message-packet (fills-after used (messageOf base (base + p) n rest (p + used)) w)
+
+    message-tree : treeOf (packet base l p) ≡ treeOf (messageOf base (base + p) n rest (p + used))
+    message-tree = ap treeOf message-packet ∙ tree-after used (messageOf base (base + p) n rest (p + used))
+
+    pub message-known : {count : ℕ} → Known (packet base l p) count → Known (messageOf base (base + p) n rest (p + used)) count
+    message-known k = record { some = k .some; records = ap size (sym message-tree) ∙ k .records }
+
+    pub packet-stored : {T' : List ℕ} (i : ℕ) (T : List ℕ) → T' ≡ stored i (treeOf (messageOf base (base + p) n rest (p + used))) T → T' ≡ stored i (treeOf (packet base l p)) T
+    packet-stored i T w = w ∙ ap (λ (f : Forest). stored i f T) (sym message-tree)
 
   module _ {used : ℕ} (e : start.Bundle used ≡ startOf l p) (s : rest ≡ drop used l) where
     bundle-packet : packet base l p ≡ after used (bundle base rest (p + used))
@@ -103,6 +120,11 @@ module _ {n : ℕ} (base : ℕ) (l part : List ℕ) (p : ℕ) (e : sized.Holds n
 
 -- ---- messages
 
+-- how many bytes of data were read
+abbrev pub dataOf : Args → ℕ
+dataOf (refused k) = 0
+dataOf (args kept used) = used
+
 module _ {m used : ℕ} {tags rest : List ℕ} (base offset n : ℕ) (l : List ℕ) (p : ℕ) (e : Found m used ≡ textOf l p) (t : tags ≡ tagsIn (take m l)) (s : rest ≡ drop used l) where
   with-args : messageOf base offset n l p ≡ after used (messageWith offset n (argsOf base tags rest (p + used)))
   with-args = types-found base offset n l p e ∙ rw (t, s)
@@ -142,6 +164,29 @@ module _ {m used : ℕ} {tags rest : List ℕ} (base offset n : ℕ) (l : List �
             let y : taken ≡ u = cc in
             let a : p + used + u ≡ p + (used + u) = omega arith in
             record { answered = rw (z, y, a); table = wrote-stored i (node 47 offset n f nil) (rw (z, node-records i 47 offset n f) at w) }
+
+  -- what is known of the message, in the words of its arguments
+  pub known-args : {count : ℕ} → Known (messageOf base offset n l p) count
+      → measure.Kept (count - 1) (dataOf (argsOf base tags rest (p + used))) ≡ measured (argsOf base tags rest (p + used))
+  unfolding measured size
+  known-args {count} k = by-args (argsOf base tags rest (p + used)) (ap (λ (o : Out). size (treeOf o)) (sym with-args) ∙ k .records)
+    where
+      by-args : (o : Args) → size (treeOf (after used (messageWith offset n o))) ≡ count → measure.Kept (count - 1) (dataOf o) ≡ measured o
+      by-args (refused j) z = absurd (omega (arith, k .some))
+      by-args (args f u) z = let y : count - 1 ≡ size f = omega arith in rw y
+
+  module _ {count : ℕ} (k : Known (messageOf base offset n l p) count) where
+    pub known-room : {i : ℕ} {T : List ℕ} → Room (treeOf (messageOf base offset n l p)) i T → (recordSize * count ≤ length T) × (i + count ≤ 65535)
+    known-room {i} {T} w =
+        let z : (recordSize * (1 + (count - 1)) ≤ length T) × (i + (1 + (count - 1)) ≤ 65535) = args-room (known-args k) w in
+        (omega (arith, k .some), omega (arith, k .some))
+
+    pub known-fills : {T T₁ P : List ℕ} (i : ℕ) → number.Wrote (recordOf 47 (i + count) offset n) T T₁
+        → number.Wrote (recordsOf (i + 1) (keptOf (argsOf base tags rest (p + used)))) (midOf recordSize (length T₁ - recordSize) T₁) P
+        → putMid recordSize (length T₁ - recordSize) T₁ P ≡ stored i (treeOf (messageOf base offset n l p)) T
+    known-fills {T} {T₁} i w v =
+        let end : i + count ≡ i + 1 + (count - 1) = omega (arith, k .some) in
+        message-fills (known-args k) (subst (λ (x : ℕ). number.Wrote (recordOf 47 x offset n) T T₁) end w) v .table
 
 -- ---- bundles
 

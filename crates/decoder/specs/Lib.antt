@@ -3,3 +3,4 @@ pub mod Framing
 pub mod Limits
 pub mod Heads
 pub mod Readings
+pub mod Known

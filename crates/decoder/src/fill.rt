@@ -10,7 +10,9 @@ ghost use mathlib.Core.Path.{_≡_};
 ghost use Prim.Native.Nat.{ℕ, _+_, _≤_};
 ghost use lib.ListN.{length};
 ghost use Rattle.decoder.specs.Packet.{messageOf, packet};
+ghost use Rattle.decoder.specs.Limits.{stored};
 ghost use Rattle.decoder.specs.Readings.{bundle, element, treeOf, Room, Fills};
+ghost use Rattle.decoder.specs.Known.{Known};
 
 // What the second reading of a packet answers.
 pub enum Filled {
@@ -155,5 +157,74 @@ fn read_bundle_element(
             }
         }
         Sized::RunsOut => Filled::Nothing,
+    }
+}
+
+// A packet that was accepted, of `count` records: a message's arguments need not be measured again.
+pub fn write_packet(
+    input: &[u8],
+    base: usize,
+    pos: usize,
+    table: &mut [u8],
+    index: usize,
+    count: usize,
+)
+    requires { ⌜ base + pos + length (now input) ≤ 65535 ⌝ }
+    requires { ⌜ Room (treeOf (packet base (now input) pos)) index (now table) ⌝ }
+    requires { ⌜ Known (packet base (now input) pos) count ⌝ }
+    ensures { λ _. ⌜ now (table .exit) ≡ stored index (treeOf (packet base (now (input .entry)) pos)) (now (table .entry)) ⌝ }
+{
+    match heads::read_start(input, pos) {
+        Start::Message { length, used } => {
+            let offset = base + pos;
+            write_message(
+                &input[used..],
+                base,
+                pos + used,
+                offset,
+                length,
+                table,
+                index,
+                count,
+            );
+        }
+        Start::Bundle { used } => {
+            decode_bundle(&input[used..], base, pos + used, table, index);
+        }
+        Start::Refused(_) => {}
+    }
+}
+
+// What follows the address of a message that was accepted.
+fn write_message(
+    input: &[u8],
+    base: usize,
+    pos: usize,
+    offset: usize,
+    n: usize,
+    table: &mut [u8],
+    index: usize,
+    count: usize,
+)
+    requires { ⌜ (base + pos + length (now input) ≤ 65535) × (offset ≤ 65535) × (n ≤ 65535) ⌝ }
+    requires { ⌜ Room (treeOf (messageOf base offset n (now input) pos)) index (now table) ⌝ }
+    requires { ⌜ Known (messageOf base offset n (now input) pos) count ⌝ }
+    ensures { λ _. ⌜ now (table .exit) ≡ stored index (treeOf (messageOf base offset n (now (input .entry)) pos)) (now (table .entry)) ⌝ }
+{
+    match text::read_osc_string(input, pos) {
+        Text::Found { length, used } => {
+            let tags = heads::tags_in(&input[0..length]);
+            let end = index + count;
+            record::put_record(table, b'/', end as u32, offset as u32, n as u32);
+            arguments::read_osc_args(
+                tags,
+                &input[used..],
+                base,
+                pos + used,
+                &mut table[record::RECORD_SIZE..],
+                index + 1,
+            );
+        }
+        Text::Lacks(_) => {}
     }
 }

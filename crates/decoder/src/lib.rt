@@ -34,7 +34,7 @@ pub fn decode_udp(msg: &[u8], table: &mut [u8], depth: usize) -> Decoded
 {
     match frames::answer_udp(msg, types::record::capacity(table), depth) {
         Decoded::Packets { count, left } => {
-            fill::decode_packet(msg, 0, 0, table, 0);
+            fill::write_packet(msg, 0, 0, table, 0, count);
             Decoded::Packets { count, left }
         }
         Decoded::Waiting => Decoded::Waiting,

@@ -1,7 +1,7 @@
 -- `decoder::decode_udp` meets its contract. An answer of packets leaves room for their records, and only then the second reading writes.
 -- Assumes nothing.
 use Rattle.types.specs.Forest.{Forest}
-use Rattle.decoder.proofs.Answers.{packets-fit, udp-room, udp-tree}
+use Rattle.decoder.proofs.Answers.{packets-fit, packets-count, udp-room, udp-tree, udp-known}
 use Rattle.decoder.specs.Limits.{decoded, stored}
 use Rattle.decoder.specs.Framing.{udp}
 use native.Mathlib.Omega.{arith}
@@ -20,8 +20,12 @@ answer-udp-requires c κs = search needs
 enum-known-count : tie.Need-enum-known-count
 enum-known-count c = search needs
 
-decode-packet-requires : tie.Need-decode-packet-requires
-decode-packet-requires c κs = let w = packets-fit udp _ _ (c .before .before .before .before .before .before .before .before .before .args .msg .now) (sym (c .before .before .count .given .1) ∙ (c .before .before .before .before .answer-udp .ensures) ∙ ap (λ (k : ℕ). decoded udp k (c .before .before .before .before .before .before .before .before .before .args .depth) (c .before .before .before .before .before .before .before .before .before .args .msg .now)) (c .before .before .before .before .before .capacity .ensures)) in (omega (arith, w .short), udp-room (c .before .before .before .before .before .before .before .before .before .args .msg .now) (c .before .before .before .before .before .before .before .before .before .args .table .now) w)
+write-packet-requires : tie.Need-write-packet-requires
+write-packet-requires c κs =
+    let a = c .before .before .before .before .before .before .before .before .before .args in
+    let e = sym (c .before .before .count .given .1) ∙ c .before .before .before .before .answer-udp .ensures ∙ ap (λ (k : ℕ). decoded udp k (a .depth) (a .msg .now)) (c .before .before .before .before .before .capacity .ensures) in
+    let w = packets-fit udp _ _ (a .msg .now) e in
+    (omega (arith, w .short), (udp-room (a .msg .now) (a .table .now) w, udp-known (a .msg .now) (w .accepted) (packets-count udp _ _ (a .msg .now) e)))
 
 enum-told : tie.Need-enum-told
 enum-told c = search needs
@@ -33,7 +37,7 @@ same-length : tie.Need-same-length
 same-length c = search needs
 
 returns : tie.Need-returns
-returns c = ((sym (c .before .before .before .before .before .count .given .1) ∙ (c .before .before .before .before .before .before .before .answer-udp .ensures) ∙ ap (λ (k : ℕ). decoded udp k (c .before .before .before .before .before .before .before .before .before .before .before .before .args .depth) (c .before .before .before .before .before .before .before .before .before .before .before .before .args .msg .now)) (c .before .before .before .before .before .before .before .before .capacity .ensures)), (c .before .before .decode-packet .ensures) .table ∙ ap (λ (f : Forest). stored 0 f (c .before .before .before .before .before .before .before .before .before .before .before .before .args .table .now)) (sym (udp-tree (c .before .before .before .before .before .before .before .before .before .before .before .before .args .msg .now))))
+returns c = ((sym (c .before .before .before .before .before .count .given .1) ∙ (c .before .before .before .before .before .before .before .answer-udp .ensures) ∙ ap (λ (k : ℕ). decoded udp k (c .before .before .before .before .before .before .before .before .before .before .before .before .args .depth) (c .before .before .before .before .before .before .before .before .before .before .before .before .args .msg .now)) (c .before .before .before .before .before .before .before .before .capacity .ensures)), c .before .before .write-packet .ensures ∙ ap (λ (f : Forest). stored 0 f (c .before .before .before .before .before .before .before .before .before .before .before .before .args .table .now)) (sym (udp-tree (c .before .before .before .before .before .before .before .before .before .before .before .before .args .msg .now))))
 
 same-length-2 : tie.Need-same-length-2
 same-length-2 c = search needs
@@ -54,7 +58,7 @@ decode-udp-spec =
     capacity-requires
     answer-udp-requires
     enum-known-count
-    decode-packet-requires
+    write-packet-requires
     enum-told
     enum-known-refusal
     same-length

@@ -3,7 +3,7 @@
 use mathlib.Core.Path.{sym, _∙_}
 use native.Mathlib.Omega.{arith}
 use lib.ListN.{length}
-use Rattle.arguments.proofs.Within.{given-within}
+use Rattle.arguments.proofs.Within.{used-within}
 use Rattle.arguments.proofs.Turns.{Scanning, scanning-start, scanning-opens, scanning-closes, scanning-given, scanning-none, scanning-refused, scanning-end}
 use borrow.Author.Needs.{needs}
 use Rattle.arguments.proofs.scan.scan_args.Statement.{statement}
@@ -69,8 +69,8 @@ loop-again-2 c =
 enum-known-class : tie.Need-enum-known-class Inv-loop μ-loop
 enum-known-class c = search needs
 
-read-osc-arg-requires : tie.Need-read-osc-arg-requires Inv-loop μ-loop
-read-osc-arg-requires c κs =
+pass-arg-requires : tie.Need-pass-arg-requires Inv-loop μ-loop
+pass-arg-requires c κs =
     omega (arith, c .before .before .before .before .before .before .before .loop .inv .ends, c .before .before .before .before .before .before .before .before .before .before .pre)
 
 enum-known-used : tie.Need-enum-known-used Inv-loop μ-loop
@@ -78,21 +78,21 @@ enum-known-used c = search needs
 
 sub-rest : tie.Need-sub-rest Inv-loop μ-loop
 sub-rest c =
-    let g = sym (c .before .used .given .1) ∙ c .before .before .before .read-osc-arg .ensures in
-    given-within _ _ _ _ g
+    let g = sym (c .before .used .given .1) ∙ c .before .before .before .pass-arg .ensures in
+    used-within _ _ _ _ g
 
 part-rest-start : tie.Need-part-rest-start Inv-loop μ-loop
 part-rest-start c =
-    let g = sym (c .before .used .given .1) ∙ c .before .before .before .read-osc-arg .ensures in
-    given-within _ _ _ _ g
+    let g = sym (c .before .used .given .1) ∙ c .before .before .before .pass-arg .ensures in
+    used-within _ _ _ _ g
 
 part-rest-end : tie.Need-part-rest-end Inv-loop μ-loop
 part-rest-end c = search needs
 
 add-at : tie.Need-add-at Inv-loop μ-loop
 add-at c =
-    let g = sym (c .before .before .used .given .1) ∙ c .before .before .before .before .read-osc-arg .ensures in
-    omega (arith, given-within _ _ _ _ g, c .before .before .before .before .before .before .before .before .before .before .before .before .loop .inv .ends, c .before .before .before .before .before .before .before .before .before .before .before .before .before .before .before .pre)
+    let g = sym (c .before .before .used .given .1) ∙ c .before .before .before .before .pass-arg .ensures in
+    omega (arith, used-within _ _ _ _ g, c .before .before .before .before .before .before .before .before .before .before .before .before .loop .inv .ends, c .before .before .before .before .before .before .before .before .before .before .before .before .before .before .before .pre)
 
 loop-less-3 : tie.Need-loop-less-3 Inv-loop μ-loop
 loop-less-3 c = search needs
@@ -100,7 +100,7 @@ loop-less-3 c = search needs
 loop-again-3 : tie.Need-loop-again-3 Inv-loop μ-loop
 loop-again-3 c =
     let e = sym (c .before .before .before .before .before .before .class .given .1) ∙ c .before .before .before .before .before .before .before .before .sort-of .ensures in
-    let g = sym (c .before .before .used .given .1) ∙ c .before .before .before .before .read-osc-arg .ensures in
+    let g = sym (c .before .before .used .given .1) ∙ c .before .before .before .before .pass-arg .ensures in
     scanning-given (c .before .before .before .before .before .before .before .before .before .before .before .before .loop .inv) (c .before .before .before .before .before .before .before .before .before .before .before .loop-test .taken) e g
 
 enum-known-fault : tie.Need-enum-known-fault Inv-loop μ-loop
@@ -109,7 +109,7 @@ enum-known-fault c = search needs
 returns-2 : tie.Need-returns-2 Inv-loop μ-loop
 returns-2 c =
     let e = sym (c .before .before .before .before .before .class .given .1) ∙ c .before .before .before .before .before .before .before .sort-of .ensures in
-    scanning-refused (c .before .before .before .before .before .before .before .before .before .before .before .loop .inv) (c .before .before .before .before .before .before .before .before .before .before .loop-test .taken) e (sym (c .before .fault .given .1) ∙ c .before .before .before .read-osc-arg .ensures)
+    scanning-refused (c .before .before .before .before .before .before .before .before .before .before .before .loop .inv) (c .before .before .before .before .before .before .before .before .before .before .loop-test .taken) e (sym (c .before .fault .given .1) ∙ c .before .before .before .pass-arg .ensures)
 
 sub-t25 : tie.Need-sub-t25 Inv-loop μ-loop
 sub-t25 c = search needs
@@ -139,7 +139,7 @@ scan-args-spec =
     loop-less-2
     loop-again-2
     enum-known-class
-    read-osc-arg-requires
+    pass-arg-requires
     enum-known-used
     sub-rest
     part-rest-start

@@ -1,0 +1,75 @@
+-- `arguments::scan::pass_arg` meets its contract.
+-- Assumes nothing.
+use mathlib.Core.Path.{refl, sym, ap, _∙_}
+use lib.ListN.{drop}
+use Rattle.number.specs.Number.{number}
+use Rattle.arguments.specs.Argument.{argOf}
+use Rattle.arguments.specs.Scans.{usedOf}
+use Rattle.arguments.proofs.Argued.{used-of-class}
+use borrow.Author.Needs.{needs}
+use Rattle.arguments.proofs.scan.pass_arg.Statement.{statement}
+use Rattle.arguments.proofs.scan.pass_arg.Tie as tie
+
+enum-told : tie.Need-enum-told
+enum-told c = search needs
+
+pass-bytes-requires : tie.Need-pass-bytes-requires
+pass-bytes-requires c κs = search needs
+
+enum-told-2 : tie.Need-enum-told-2
+enum-told-2 c = search needs
+
+pass-bytes-requires-2 : tie.Need-pass-bytes-requires-2
+pass-bytes-requires-2 c κs = search needs
+
+enum-told-3 : tie.Need-enum-told-3
+enum-told-3 c = search needs
+
+read-rare-requires : tie.Need-read-rare-requires
+read-rare-requires c κs = search needs
+
+enum-known-used : tie.Need-enum-known-used
+enum-known-used c = search needs
+
+enum-known-fault : tie.Need-enum-known-fault
+enum-known-fault c = search needs
+
+returns : tie.Need-returns
+unfolding argOf
+returns c =
+    let l = c .before .before .before .before .args .input .now in
+    used-of-class l 0 _ (c .before .enum-told .given .1) (c .pass-bytes .ensures (number 4 l) 0)
+
+returns-2 : tie.Need-returns-2
+unfolding argOf
+returns-2 c =
+    let l = c .before .before .before .before .args .input .now in
+    used-of-class l 0 _ (c .before .enum-told2 .given .1) (c .pass-bytes2 .ensures (number 4 l) (number 4 (drop 4 l)))
+
+returns-3 : tie.Need-returns-3
+unfolding argOf
+returns-3 c = used-of-class _ 0 _ (c .enum-told3 .given .1) refl
+
+returns-4 : tie.Need-returns-4
+returns-4 c = ap usedOf (sym (c .before .used .given .1) ∙ c .before .before .before .read-rare .ensures)
+
+returns-5 : tie.Need-returns-5
+returns-5 c = ap usedOf (sym (c .before .fault .given .1) ∙ c .before .before .before .read-rare .ensures)
+
+pub pass-arg-spec : {M : Type 1} → statement M
+pass-arg-spec =
+    tie.close
+    (tie.spec
+    enum-told
+    pass-bytes-requires
+    enum-told-2
+    pass-bytes-requires-2
+    enum-told-3
+    read-rare-requires
+    enum-known-used
+    enum-known-fault
+    returns
+    returns-2
+    returns-3
+    returns-4
+    returns-5)
