@@ -1,0 +1,16 @@
+-- `osc_tool::space::table` meets its contract. A repeat of any length is as long as it says, so nothing counts to a million.
+-- Assumes nothing.
+use mathlib.Core.Path.{_≡_, sym}
+use Prim.Native.Nat.{ℕ}
+use lib.ListN.{length, replicate, length-replicate}
+use Rattle.osc_tool.proofs.space.table.Statement.{statement}
+use Rattle.osc_tool.proofs.space.table.Tie as tie
+
+zeros : (n : ℕ) → n ≡ length {A = ℕ} (replicate n 0)
+zeros n = sym (length-replicate n 0)
+
+returns : tie.Need-returns
+returns c = zeros 1048561
+
+pub table-spec : {M : Type 1} → statement M
+table-spec = tie.close (tie.spec returns)

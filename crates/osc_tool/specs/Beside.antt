@@ -1,0 +1,11 @@
+-- The name of the file that is written first. Assumes nothing.
+use mathlib.Core.List.{List, [], _∷_, _++_}
+use Prim.Native.Nat.{ℕ}
+
+-- ".part"
+abbrev pub dotPart : List ℕ
+dotPart = 46 ∷ 112 ∷ 97 ∷ 114 ∷ 116 ∷ []
+
+-- a name, ".part" and digits
+abbrev pub besideName : List ℕ → List ℕ → List ℕ
+besideName path digits = (path ++ dotPart) ++ digits

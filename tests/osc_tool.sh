@@ -1,0 +1,209 @@
+#!/bin/sh
+# Runs every command of `osc`, and compares the line that it says, what it says of trouble, its exit status and the files that
+# it leaves with what they should be. The last line is 'N passed, M failed'; the exit status is 0 where none failed.
+set -u
+export LC_ALL=C
+
+root=$(cd "$(dirname "$0")/.." && pwd -P) || exit 2
+examples=$root/examples
+room=$(mktemp -d) || exit 2
+trap 'rm -rf "$room"' EXIT
+cd "$room" || exit 2
+passed=0 failed=0
+
+# Counts a case; $1 is 0 where it is as it should be.
+count() {
+    if [ "$1" -eq 0 ]; then
+        passed=$((passed + 1))
+    else
+        failed=$((failed + 1))
+        printf 'differs: %s\n' "$2"
+    fi
+}
+
+# expect STATUS LINE TROUBLE WORDS..: what `osc WORDS..` should end with, say and complain of.
+expect() {
+    status=$1 line=$2 trouble=$3
+    shift 3
+    said=$("$root/osc" "$@" 2>trouble)
+    ended=$?
+    [ "$ended" -eq "$status" ] && [ "$said" = "$line" ] && [ "$(cat trouble)" = "$trouble" ]
+    count $? "osc $*: status $ended, said '$said', trouble '$(cat trouble)'"
+    rm -f trouble
+}
+
+# same FILE FILE: two files that should be equal.
+same() {
+    cmp -s "$1" "$2"
+    count $? "$1 and $2 are not the same"
+}
+
+# gone FILE: no file of that name, or beside it, is left.
+gone() {
+    [ -z "$(find . -path "./$1*")" ]
+    count $? "left behind: $(find . -path "./$1*")"
+}
+
+# refuses NUMBER WORDS BYTES: what decoding the bytes, as printf writes them, should say; and no table is left.
+refuses() {
+    printf "$3" >input
+    expect 1 "refused $1: $2" '' decode udp input refused.bin
+    gone refused.bin
+}
+
+# The examples, there and back.
+for name in message bundle; do
+    "$root/osc" decode udp "$examples/$name.osc" $name.bin >/dev/null
+    count $? "decode of $name"
+    "$root/osc" encode udp $name.bin "$examples/$name.osc" $name.out >/dev/null
+    count $? "encode of $name"
+    same "$examples/$name.osc" $name.out
+done
+same "$examples/message.osc" "$root/crates/osc_tool/data/message.osc"
+expect 0 'packets: 5 records, 0 bytes left' '' decode udp "$examples/message.osc" message.bin
+expect 0 'written: 44 bytes' '' encode udp message.bin "$examples/message.osc" message.out
+expect 0 'packets: 7 records, 0 bytes left' '' decode udp "$examples/bundle.osc" bundle.bin
+expect 0 'packets: 6 records, 0 bytes left' '' decode tcp-vec "$examples/stream.osc" stream.bin
+expect 0 'packets: 2 records, 44 bytes left' '' decode tcp "$examples/stream.osc" first.bin
+expect 0 'written: 48 bytes' '' encode tcp message.bin "$examples/message.osc" framed.out
+expect 0 'packets: 5 records, 0 bytes left' '' decode tcp framed.out framed.bin
+expect 0 'written: 108 bytes' '' encode tcp bundle.bin "$examples/bundle.osc" bundle.out
+head -c 20 framed.out >part
+expect 0 'waiting: 20 bytes, nothing read' '' decode tcp part waiting.bin
+gone waiting.bin
+expect 0 'packets: 0 records, 20 bytes left' '' decode tcp-vec part none.bin
+
+# The records of the examples.
+expect 0 'record 0: / offset 0 length 22, end 5' '' look message.bin 0
+expect 0 'record 1: f bits 0x3f400000, end 2' '' look message.bin 1
+expect 0 'record 2: i 3, end 3' '' look message.bin 2
+expect 0 'record 3: s offset 40 length 3, end 4' '' look message.bin 3
+expect 0 'record 4: T, end 5' '' look message.bin 4
+expect 0 'record 0: # seconds 3932381312 fraction 2147483648, end 7' '' look bundle.bin 0
+expect 0 'record 5: r 255 128 0 255, end 6' '' look stream.bin 5
+
+# Every other kind, and the ends of the signed numbers.
+{
+    printf 'i\0\0\0\0\0\0\001\377\377\377\377\0\0\0\0i\0\0\0\0\0\0\002\200\0\0\0\0\0\0\0'
+    printf 'h\0\0\0\0\0\0\003\377\377\377\377\377\377\377\377h\0\0\0\0\0\0\004\200\0\0\0\0\0\0\0'
+    printf 'h\0\0\0\0\0\0\005\0\0\0\001\0\0\0\0d\0\0\0\0\0\0\006\100\011\041\373\124\104\055\030'
+    printf 'c\0\0\0\0\0\0\007\0\001\366\000\0\0\0\0m\0\0\0\0\0\0\010\001\220\074\177\0\0\0\0'
+    printf 't\0\0\0\0\0\0\011\0\0\0\0\0\0\0\001b\0\0\0\0\0\0\012\0\0\0\010\0\0\0\003'
+    printf 'F\0\0\0\0\0\0\013\0\0\0\0\0\0\0\0N\0\0\0\0\0\0\014\0\0\0\0\0\0\0\0'
+    printf 'I\0\0\0\0\0\0\015\0\0\0\0\0\0\0\0[\0\0\0\0\0\0\016\0\0\0\0\0\0\0\0'
+    printf 'i\0\0\001\0\0\0\017\0\0\0\0\0\0\0\0'
+} >kinds.bin
+expect 0 'record 0: i -1, end 1' '' look kinds.bin 0
+expect 0 'record 1: i -2147483648, end 2' '' look kinds.bin 1
+expect 0 'record 2: h -1, end 3' '' look kinds.bin 2
+expect 0 'record 3: h -9223372036854775808, end 4' '' look kinds.bin 3
+expect 0 'record 4: h 4294967296, end 5' '' look kinds.bin 4
+expect 0 'record 5: d bits 0x400921fb54442d18, end 6' '' look kinds.bin 5
+expect 0 'record 6: c 128512, end 7' '' look kinds.bin 6
+expect 0 'record 7: m 1 144 60 127, end 8' '' look kinds.bin 7
+expect 0 'record 8: t seconds 0 fraction 1, end 9' '' look kinds.bin 8
+expect 0 'record 9: b offset 8 length 3, end 10' '' look kinds.bin 9
+expect 0 'record 10: F, end 11' '' look kinds.bin 10
+expect 0 'record 11: N, end 12' '' look kinds.bin 11
+expect 0 'record 12: I, end 13' '' look kinds.bin 12
+expect 0 'record 13: [, end 14' '' look kinds.bin 13
+bad_table='refused 11: table not well formed, or a record asked for does not exist'
+expect 1 "$bad_table" '' look kinds.bin 14
+expect 1 "$bad_table" '' look kinds.bin 15
+
+# The refusals. 12 and 14 cannot be met: the output has room for every result, and no command calls `pad`.
+too_long='refused 1: decode input over 65,535 bytes, or encoded result (prefix included) over it'
+head -c 65535 /dev/zero | tr '\0' a >at_most
+head -c 65536 /dev/zero | tr '\0' a >one_more
+expect 1 'refused 3: a field, NUL, padding or TCP prefix runs past the bytes there' '' decode udp at_most refused.bin
+expect 1 "$too_long" '' decode udp one_more refused.bin
+refuses 2 'a packet of no bytes' ''
+refuses 3 'a field, NUL, padding or TCP prefix runs past the bytes there' '/\0\0\0'
+refuses 4 'text is not UTF-8' '/\377\0\0'
+refuses 5 'first string is neither /-led nor exactly #bundle' 'a\0\0\0'
+refuses 6 '] with no array open' '/a\0\0,]\0\0'
+refuses 7 'unknown type tag' '/a\0\0,x\0\0'
+refuses 8 'c is not a scalar number' '/a\0\0,c\0\0\0\0\330\0'
+expect 1 'refused 9: bundles nested deeper than the limit' '' decode udp "$examples/bundle.osc" refused.bin --depth 0
+expect 1 'refused 10: the result has more records than the capacity' '' \
+    decode udp "$examples/bundle.osc" refused.bin --depth 1 --records 6
+expect 0 'packets: 7 records, 0 bytes left' '' decode udp "$examples/bundle.osc" kept.bin --records 7 --depth 1
+expect 1 "$bad_table" '' encode udp stream.bin "$examples/stream.osc" refused.bin
+expect 1 'refused 13: depth limit over 64' '' decode udp "$examples/message.osc" refused.bin --depth 65
+printf '/\0\0\0\0\0\0\003\0\0\0\0\0\0\0\001s\0\0\0\0\0\0\002\0\0\0\0\0\0\234\100' >long.bin
+printf 's\0\0\0\0\0\0\003\0\0\0\0\0\0\234\100' >>long.bin
+expect 1 "$too_long" '' encode udp long.bin at_most refused.bin
+gone refused.bin
+
+# Help, by a link in another folder.
+ln -s "$root/osc" link
+[ "$(./link help | head -n 1)" = 'osc decode udp|tcp|tcp-vec INPUT TABLE [--depth N] [--records N]' ]
+count $? 'help by a link'
+
+# Wrong words.
+decode_takes='osc: decode takes udp|tcp|tcp-vec INPUT TABLE [--depth N] [--records N]'
+not_number='osc: not a number of at most nine digits: '
+expect 2 '' 'osc: the first word is not decode, encode, look or help: '
+expect 2 '' 'osc: the first word is not decode, encode, look or help: decoded' decoded
+expect 2 '' "$decode_takes" decode udp input
+expect 2 '' "$decode_takes" decode udp input table.bin --depth
+expect 2 '' 'osc: not udp, tcp or tcp-vec: tc' decode tc input table.bin
+expect 2 '' 'osc: not --depth or --records: --deep' decode udp input table.bin --deep 1
+expect 2 '' "${not_number}1x" decode udp input table.bin --depth 1x
+expect 2 '' "$not_number" decode udp input table.bin --depth ''
+expect 2 '' "${not_number}1000000000" decode udp input table.bin --depth 1000000000
+expect 2 '' 'osc: more than 65535 for --records' decode udp input table.bin --records 65536
+expect 2 '' 'osc: encode takes udp|tcp TABLE SOURCE OUTPUT' encode udp message.bin
+expect 2 '' 'osc: encode writes one packet: udp or tcp, not tcp-vec' encode tcp-vec message.bin input table.bin
+expect 2 '' 'osc: look takes TABLE INDEX' look message.bin
+expect 2 '' "$not_number-1" look message.bin -1
+gone table.bin
+
+# Files that cannot be read.
+head -c 1048561 /dev/zero >large.bin
+head -c 17 /dev/zero >odd.bin
+expect 2 '' 'missing: No such file or directory' decode udp missing table.bin
+expect 2 '' '.: Is a directory' decode udp . table.bin
+expect 2 '' 'osc: the name of a file is empty' decode udp '' table.bin
+expect 2 '' 'missing: No such file or directory' encode udp missing input table.bin
+expect 2 '' 'missing: No such file or directory' encode udp message.bin missing table.bin
+expect 2 '' 'large.bin: the file is too large: it has at least 1048561 bytes' look large.bin 0
+expect 2 '' 'large.bin: the file is too large: it has at least 1048561 bytes' encode udp large.bin input table.bin
+expect 2 '' 'one_more: the file is too large: it has at least 65536 bytes' encode udp message.bin one_more table.bin
+expect 2 '' 'odd.bin: a table has a multiple of 16 bytes, and this has 17 bytes' look odd.bin 0
+gone table.bin
+
+# Files that cannot be written: the old one is kept, and nothing is left beside it.
+expect 2 '' 'nowhere/table.bin: No such file or directory' decode udp "$examples/message.osc" nowhere/table.bin
+expect 2 '' 'osc: the name of a file is empty' decode udp "$examples/message.osc" ''
+mkdir folder
+expect 2 '' 'folder: Is a directory' decode udp "$examples/message.osc" folder
+expect 2 '' 'osc: not a file that can be replaced: /dev/null' decode udp "$examples/message.osc" /dev/null
+printf 'kept' >old.bin
+# A limit on the size of files stands in for a full disk: the write of the first byte fails.
+said=$(
+    trap '' XFSZ
+    ulimit -f 0
+    "$root/target/bin/osc_tool" decode udp "$examples/message.osc" old.bin 2>&1
+    "$root/target/bin/osc_tool" decode udp "$examples/message.osc" new.bin 2>&1
+)
+[ "$said" = "$(printf 'old.bin: File too large\nnew.bin: File too large')" ] && [ "$(cat old.bin)" = kept ]
+count $? "with no room: said '$said', and old.bin holds '$(cat old.bin)'"
+gone old.bin.part
+gone new.bin
+# A folder that may not be written. Root may write every folder, so there the program is nobody.
+mkdir locked
+chmod 755 .
+chmod 555 locked
+cp "$root/target/bin/osc_tool" "$examples/message.osc" .
+drop=
+[ "$(id -u)" -ne 0 ] || drop='setpriv --reuid=65534 --regid=65534 --clear-groups'
+said=$($drop ./osc_tool decode udp message.osc locked/table.bin 2>&1)
+[ "$said" = 'locked/table.bin: Permission denied' ]
+count $? "in a locked folder: said '$said'"
+gone locked/table.bin
+expect 0 'packets: 5 records, 0 bytes left' '' decode udp "$examples/message.osc" old.bin
+same old.bin message.bin
+
+printf '%s passed, %s failed\n' "$passed" "$failed"
+[ "$failed" -eq 0 ]
