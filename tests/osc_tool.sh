@@ -182,10 +182,9 @@ expect 2 '' 'osc: not a file that can be replaced: /dev/null' decode udp "$examp
 printf 'kept' >old.bin
 # A limit on the size of files stands in for a full disk: the write of the first byte fails.
 said=$(
-    trap '' XFSZ
     ulimit -f 0
-    "$root/target/bin/osc_tool" decode udp "$examples/message.osc" old.bin 2>&1
-    "$root/target/bin/osc_tool" decode udp "$examples/message.osc" new.bin 2>&1
+    "$root/osc" decode udp "$examples/message.osc" old.bin 2>&1
+    "$root/osc" decode udp "$examples/message.osc" new.bin 2>&1
 )
 [ "$said" = "$(printf 'old.bin: File too large\nnew.bin: File too large')" ] && [ "$(cat old.bin)" = kept ]
 count $? "with no room: said '$said', and old.bin holds '$(cat old.bin)'"

@@ -12,9 +12,9 @@ use Rattle.osc_tool.specs.Signed.{Spells}
 pub spells-plain : (w : Width) (n : ℕ) → n < 2 ^ hbits w → Spells false n (toZ w n)
 spells-plain w n h = rw (lt-ltb n (2 ^ hbits w) h) (refl, refl)
 
-complement : (n top : ℕ) → n < top → top - n ≡ (top - suc n) + 1
-complement n top h = omega arith
+complement : (m n top : ℕ) → n < top → m + n ≡ top → m ≡ (top - suc n) + 1
+complement m n top h e = omega arith
 
--- other bits are what is missing to the whole, with a minus
-pub spells-minus : (w : Width) (n : ℕ) → 2 ^ hbits w ≤ n → n < 2 ^ bits w → Spells true (2 ^ bits w - n) (toZ w n)
-spells-minus w n h l = rw (le-ltb n (2 ^ hbits w) h) (refl, complement n (2 ^ bits w) l)
+-- other bits are the number that is missing to the whole, with a minus
+pub spells-minus : (w : Width) (m n : ℕ) → 2 ^ hbits w ≤ n → n < 2 ^ bits w → m + n ≡ 2 ^ bits w → Spells true m (toZ w n)
+spells-minus w m n h l e = rw (le-ltb n (2 ^ hbits w) h) (refl, complement m n (2 ^ bits w) l e)

@@ -6,7 +6,6 @@ use crate::words;
 use crate::words::Framed;
 use crate::words::Framing;
 use encoder::Encoded;
-ghost use mathlib.Core.Path.{_≡_};
 ghost use Rattle.encoder.specs.Outcome.{Encodes};
 ghost use Rattle.osc_tool.specs.Framings.{writingOf};
 

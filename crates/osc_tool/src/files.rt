@@ -1,7 +1,6 @@
 // Whole files, read into a lent buffer, and written beside and then renamed, so that no half-written file is left.
 use crate::say;
 ghost use mathlib.Core.Path.{_≡_};
-ghost use mathlib.Core.List.{_++_};
 ghost use Prim.Native.Nat.{_+_, _≤_};
 ghost use lib.ListN.{length, take};
 ghost use Rattle.io.specs.Counts.{Counts};

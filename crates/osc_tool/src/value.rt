@@ -4,7 +4,6 @@ use crate::say::text;
 use libc::STDOUT_FILENO;
 use types::record::Record;
 use types::value::OscType;
-ghost use mathlib.Core.Path.{_≡_};
 ghost use mir.Syntax.{w32, w64};
 ghost use mir.Val.{toZ};
 ghost use Rattle.osc_tool.specs.Signed.{Spells};

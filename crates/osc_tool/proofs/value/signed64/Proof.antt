@@ -1,7 +1,5 @@
 -- `osc_tool::value::signed64` meets its contract.
 -- Assumes nothing.
-use mathlib.Core.Path.{_≡_}
-use Prim.Native.Nat.{_+_, _-_}
 use native.Mathlib.Omega.{arith}
 use mir.Syntax.{w64}
 use Rattle.osc_tool.proofs.Signs.{spells-plain, spells-minus}
@@ -19,10 +17,7 @@ add-t4 : tie.Need-add-t4
 add-t4 c = search needs
 
 returns-2 : tie.Need-returns-2
-returns-2 c =
-    let n = c .before .args .bits in
-    let e : 0xffff_ffff_ffff_ffff - n + 1 ≡ 0x1_0000_0000_0000_0000 - n = omega arith in
-    rw e (spells-minus w64 n (c .if1 .left) (search needs))
+returns-2 c = spells-minus w64 _ (c .before .args .bits) (c .if1 .left) (search needs) (omega arith)
 
 pub signed64-spec : {M : Type 1} → statement M
 signed64-spec = tie.close (tie.spec returns sub-t3 add-t4 returns-2)
