@@ -5,9 +5,9 @@ use mathlib.Core.Bool.{Bool, true, false, cond}
 use mathlib.Core.List.{List}
 use Prim.Native.Nat.{ℕ, _+_, _^_, _<_, _≤_}
 use native.Mathlib.Omega.{arith}
-use borrow.Author.Tests.{leb-true, ltb-true}
-use lib.Dec.{leb, ltb}
-use lib.ListN.{length, getD, take, drop}
+use borrow.Author.Tests.{leb-true}
+use lib.Dec.{leb}
+use lib.ListN.{length, getD, drop}
 use lib.Seq.{getD-drop}
 use Rattle.refusal.specs.declared.Fault.the-variants.{RunsOut}
 use Rattle.number.specs.Number.{number}
@@ -17,8 +17,7 @@ use Rattle.number.proofs.Numbers.{number-small}
 use Rattle.types.specs.Tags.{isScalar}
 use Rattle.types.specs.declared.tags.Class.{Class}
 use Rattle.types.specs.declared.tags.Class.the-variants.{Four, Eight, Bare, Text as String, Blob, Scalar, Unknown}
-use Rattle.utf8.specs.Derive.{utf8}
-use Rattle.text.specs.Text.{reach, untilNul, textOf}
+use Rattle.text.specs.Text.{reach, textOf}
 use Rattle.text.specs.declared.Text.{Text}
 use Rattle.text.specs.declared.Text.the-variants.{Found, Lacks}
 use Rattle.arguments.specs.Argument.{argOf, having, textArg}

@@ -1,5 +1,4 @@
 -- What holds of every answer of a decoder, each where it is chosen. Assumes nothing.
-use mathlib.Core.Path.{_≡_}
 use mathlib.Core.List.{List}
 use Prim.Native.Nat.{ℕ, _<_, _≤_}
 use lib.ListN.{length}

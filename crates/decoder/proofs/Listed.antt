@@ -20,7 +20,7 @@ use Rattle.decoder.specs.declared.heads.Prefix.the-variants as prefix
 use Rattle.decoder.specs.declared.fill.Filled.{Filled}
 use Rattle.decoder.specs.declared.fill.Filled.the-variants.{Wrote, Nothing}
 use Rattle.decoder.proofs.Prefixes.{prefixed, frame-prefix, FrameIn, frame-in}
-use Rattle.decoder.proofs.Lists.{remaining, remaining-list, remaining-none, frames-by, after, frames-tree}
+use Rattle.decoder.proofs.Lists.{remaining, remaining-list, remaining-none, frames-by, frames-tree}
 use Rattle.decoder.proofs.Stored.{stored-nil, completed, length-completed, lent-stored, completed-turn}
 
 -- the second reading of a frame: its packet stands at 4

@@ -1,16 +1,14 @@
 -- A tree has at most a node for each byte that was used, and no more is used than there is. Assumes nothing.
-use mathlib.Core.Path.{_≡_, refl, ap, sym, subst}
-use mathlib.Core.Bool.{true}
+use mathlib.Core.Path.{_≡_, refl, ap, sym}
 use mathlib.Core.List.{List}
 use Prim.Native.Nat.{ℕ, zero, suc, _+_, _-_, _<_, _≤_}
 use native.Mathlib.Omega.{arith}
-use lib.Dec.{eqb, ltb}
+use lib.Dec.{eqb}
 use lib.ListN.{length, getD, take, drop, length-drop, length-take}
 use Rattle.number.specs.Number.{number}
-use Rattle.utf8.specs.Derive.{utf8}
 use Rattle.utf8.specs.Lead.{lead}
-use Rattle.types.specs.Forest.{Forest, node, size}
-use Rattle.text.specs.Text.{textOf, faultOf, untilNul, reach}
+use Rattle.types.specs.Forest.{Forest, size}
+use Rattle.text.specs.Text.{textOf, faultOf}
 use Rattle.text.specs.declared.Text.{Text}
 use Rattle.text.specs.declared.Text.the-variants.{Found, Lacks}
 use Rattle.text.specs.declared.Lack.{Lack}

@@ -1,5 +1,5 @@
 -- The round trip as a fact about calls: `encode`, then `decode_udp` of what was written. Assumes nothing.
-use mathlib.Core.Path.{_≡_, sym, ap, subst, _∙_}
+use mathlib.Core.Path.{_≡_, ap, _∙_}
 use mathlib.Core.List.{List}
 use Prim.Native.Nat.{ℕ, _/_, _<_, _≤_}
 use native.Mathlib.Omega.{arith}
@@ -10,14 +10,12 @@ use Rattle.types.specs.Records.{recordSize}
 use Rattle.decoder.specs.Framing.{udp}
 use Rattle.decoder.specs.Limits.{decoded, forestOf, tabled}
 use Rattle.decoder.specs.declared.Decoded.{Decoded}
-use Rattle.decoder.specs.declared.Decoded.the-variants.{Packets}
 use Rattle.encoder.specs.Osc.{packetOf}
 use Rattle.encoder.specs.Outcome.{Outcome, Encodes, plain}
 use Rattle.encoder.specs.declared.Encoded.{Encoded}
 use Rattle.encoder.specs.declared.Encoded.the-variants.{Written, Refused}
-use Rattle.demands.specs.Words.{SameTable}
-use Rattle.demands.specs.Demands.{Playable, PlaysBack}
-use Rattle.demands.specs.There.{CameBack, Returns}
+use Rattle.demands.specs.Demands.{Playable}
+use Rattle.demands.specs.There.{Returns}
 use Rattle.demands.proofs.OscWritten.{outcome-is, written-all}
 use Rattle.demands.proofs.Trip.{round-trip}
 

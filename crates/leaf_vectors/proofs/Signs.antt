@@ -1,7 +1,7 @@
 -- Signed numbers of 64 bits, for `written::magnitude` and for a cast to them. Assumes nothing.
 use mathlib.Core.Path.{_≡_, sym, subst}
 use mathlib.Core.Bool.{Bool, true, false, not}
-use Prim.Native.Nat.{ℕ, suc, _+_, _<_, _-_, _^_}
+use Prim.Native.Nat.{ℕ, suc, _+_, _<_, _-_}
 use native.Mathlib.Nat.{lt-of-le-of-lt}
 use native.Mathlib.Omega.{arith}
 use lib.Dec.{T, leb, le→leb, lit<}

@@ -2,11 +2,10 @@
 -- into it, so no two answers have one number. Assumes nothing.
 use mathlib.Core.Path.{_≡_, sym, subst}
 use mathlib.Core.List.{List}
-use Prim.Native.Nat.{ℕ, _+_, _*_, _/_, _%_, _<_, _≤_}
+use Prim.Native.Nat.{ℕ, _/_, _%_, _≤_}
 use native.Mathlib.Omega.{arith}
 use lib.ListN.{length}
 use Rattle.refusal.specs.Refusal.{numberOf}
-use Rattle.refusal.specs.declared.Refusal.{Refusal}
 use Rattle.number.proofs.Choices.{by-test, by-le}
 use Rattle.utf8.specs.Derive.{utf8}
 use Rattle.types.specs.Forest.{Forest, nil, node, depth}

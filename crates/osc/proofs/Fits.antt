@@ -1,5 +1,4 @@
 -- What a decoder answers fits the bits that it has at the boundary: a tree takes at least as many bytes as it has nodes. Assumes nothing.
-use mathlib.Core.Path.{_≡_}
 use mathlib.Core.List.{List}
 use Prim.Native.Nat.{ℕ, _≤_}
 use native.Mathlib.Omega.{arith}

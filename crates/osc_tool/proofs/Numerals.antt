@@ -1,14 +1,14 @@
 -- A word read as a number, a byte at a time. Assumes nothing.
 use mathlib.Core.Path.{_≡_, refl}
 use mathlib.Core.List.{List, [], _∷_}
-use Prim.Native.Nat.{ℕ, _+_, _≤_, _<_}
+use Prim.Native.Nat.{ℕ, _+_, _<_}
 use native.Mathlib.Numerals.{add-one}
 use native.Mathlib.Omega.{arith}
 use lib.ListN.{length, drop, getD}
 use lib.Seq.{drop-cons, drop-length}
 use Rattle.osc_tool.specs.declared.words.Numeral.{Numeral}
 use Rattle.osc_tool.specs.declared.words.Numeral.the-variants.{Is, Unclear}
-use Rattle.osc_tool.specs.Numeral.{appendedTo, oneMore, allMore, numeralOf}
+use Rattle.osc_tool.specs.Numeral.{oneMore, allMore, numeralOf}
 
 -- no bytes, no number
 pub none-read : (word : List ℕ) → length word ≡ 0 → numeralOf word ≡ Unclear

@@ -1,6 +1,6 @@
 -- `runs::fill` meets its contract. The invariant: each byte up to `i` is the filling.
 -- Assumes nothing.
-use Prim.Native.Nat.{ℕ, _≤_, _<_, _-_}
+use Prim.Native.Nat.{ℕ, _<_, _-_}
 use mathlib.Core.Path.{_≡_, refl}
 use native.Mathlib.Omega.{arith}
 use lib.Seq.{getD-set-same, getD-set-other}

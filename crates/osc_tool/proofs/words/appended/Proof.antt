@@ -1,6 +1,5 @@
 -- `osc_tool::words::appended` meets its contract: each return rewrites with the tests that led there.
 -- Assumes nothing.
-use mathlib.Core.Path.{_≡_}
 use borrow.Author.Needs.{needs}
 use borrow.Author.Tests.{lt-ltb, le-ltb}
 use Rattle.osc_tool.proofs.words.appended.Statement.{statement}
