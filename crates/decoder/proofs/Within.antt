@@ -18,7 +18,7 @@ use Rattle.text.proofs.Within.{TextIn, text-within, found-in}
 use Rattle.number.proofs.Choices.{by-test, by-le}
 use Rattle.arguments.proofs.Counts.{kept-few, args-within}
 use Rattle.decoder.specs.Packet.{Out, fault, one, Elements, upto, after, tagsIn, messageWith, typesThen, messageOf, same, bundleWord, bundleWith, bundleOf, filling, elementOf, joined, goOn, elementsOf, startsWith, packetOf, packetAt, elementsAt, packet, elements}
-use Rattle.decoder.specs.Readings.{bundle, element, usedBy, treesIn}
+use Rattle.decoder.specs.Readings.{element, usedBy, treesIn}
 
 -- ---- packets
 
@@ -133,10 +133,6 @@ module _ (base : ℕ) where
   pub element-in : (l : List ℕ) (p : ℕ) → Within (length l - 4) (element base l p)
   unfolding element
   element-in l p = element-of-in _ l p (λ m q. packet-in m q)
-
-  pub bundle-in : (l : List ℕ) (p : ℕ) → Within (length l) (bundle base l p)
-  unfolding bundle
-  bundle-in l p = bundle-of-in _ l p (elements-within _ _)
 
 by-elements : (m : ℕ) (k : Elements) → ElementsIn m k → (size (treesIn k) ≤ usedBy k) × (usedBy k ≤ m)
 by-elements m (upto f u) w = w

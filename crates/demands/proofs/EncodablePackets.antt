@@ -35,10 +35,6 @@ after-sound : (s : List ℕ) (n : ℕ) (o : Out) → OutSound s o → OutSound s
 after-sound s n (fault k) w = tt
 after-sound s n (one k a b f used) w = w
 
-filling-sound : (s : List ℕ) (n : ℕ) (o : Out) → OutSound s o → OutSound s (filling n o)
-filling-sound s n (fault k) w = tt
-filling-sound s n (one k a b f used) w = w
-
 joined-sound : (s : List ℕ) (k a b : ℕ) (f : Forest) (n : ℕ) (g : Elements) → NodeSound s 35 k a b f → ElementsSound s g → ElementsSound s (joined k a b f n g)
 joined-sound s k a b f n (upto g used) w v = sound-node w v
 

@@ -1,11 +1,10 @@
 -- Parts of a slice, as they are lent and as they come back. Assumes nothing.
 use mathlib.Core.Path.{_≡_, ap, _∙_}
-use mathlib.Core.List.{List, [], _∷_, _++_, append-nil}
-use Prim.Native.Nat.{ℕ, _+_, _-_, _<_, _≤_}
+use mathlib.Core.List.{List, [], _++_, append-nil}
+use Prim.Native.Nat.{ℕ, _+_, _-_, _≤_}
 use native.Mathlib.Omega.{arith}
-use native.Mathlib.Numerals.{add-one}
-use lib.ListN.{length, getD, take, drop, length-drop, length-take, drop-of-length-le}
-use lib.Seq.{take-all, take-suc, getD-drop}
+use lib.ListN.{length, take, drop, length-drop, length-take, drop-of-length-le}
+use lib.Seq.{take-all}
 use borrow.Rule.Slice.PartMut.{midOf, putMid}
 
 -- `&s[k..]` is what is left after k bytes
@@ -29,9 +28,3 @@ length-lent s k = rw lent (length-drop k s)
 -- n bytes from a place on, if they are there
 pub length-part : (s : List ℕ) (at n : ℕ) → at + n ≤ length s → length (take n (drop at s)) ≡ n
 length-part s at n h = simp (length-take, length-drop) (omega arith)
-
--- a part with one byte more
-pub part-more : (s : List ℕ) (at n : ℕ) → at + n < length s → take n (drop at s) ++ (getD s (at + n) 0 ∷ []) ≡ take (n + 1) (drop at s)
-part-more s at n h =
-    let k : n < length (drop at s) = simp length-drop (omega arith) in
-    rw (add-one, take-suc (drop at s) n 0, getD-drop)
