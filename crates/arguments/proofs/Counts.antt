@@ -6,12 +6,13 @@ use mathlib.Core.List.{List, [], _∷_}
 use native.Mathlib.Omega.{arith}
 use lib.ListN.{length, drop, length-drop}
 use Rattle.refusal.specs.declared.Fault.{Fault}
-use Rattle.types.specs.Forest.{Forest, nil, node, size, snoc}
+use Rattle.types.specs.Forest.{Forest, nil, size, snoc}
 use Rattle.types.specs.Records.{recordSize}
 use Rattle.types.specs.Tags.{sortOf}
 use Rattle.types.specs.declared.tags.Class.{Class}
 use Rattle.types.specs.declared.tags.Sort.{Sort}
 use Rattle.types.specs.declared.tags.Sort.the-variants.{Opens, Closes, Leaf}
+use Rattle.types.proofs.Forests.{size-snoc}
 use Rattle.arguments.specs.Argument.{argOf}
 use Rattle.arguments.specs.Arguments.{Args, refused, args, later, taken, act, readArgs, argsOf}
 use Rattle.arguments.specs.Readings.{measured, keptOf, Room}
@@ -24,11 +25,6 @@ use Rattle.arguments.specs.declared.scan.Scanned.the-variants.{Used, Ref
 use Rattle.arguments.specs.declared.scan.Back.{Back}
 use Rattle.arguments.specs.declared.scan.Back.the-variants.{Whole, Cut}
 use Rattle.arguments.proofs.Within.{given-within, any-base}
-
-pub size-snoc : (f : Forest) (k a b : ℕ) (g : Forest) → size (snoc f k a b g) ≡ size f + 1 + size g
-unfolding snoc size
-size-snoc nil k a b g = omega arith
-size-snoc (node k′ a′ b′ f′ rest) k a b g = omega (arith, size-snoc rest k a b g)
 
 -- ---- the forward scan
 

@@ -10,13 +10,14 @@ use Rattle.number.specs.Number.{bytes}
 use Rattle.number.specs.Wrote.{Wrote}
 use Rattle.number.proofs.Numbers.{length-bytes}
 use Rattle.number.proofs.Parts.{tail}
-use Rattle.number.proofs.Writers.{wrote-none, wrote-length}
+use Rattle.number.proofs.Writers.{wrote-none, wrote-length, wrote-next, wrote-over}
 use Rattle.types.specs.Forest.{Forest, nil, size, snoc}
 use Rattle.types.specs.Records.{recordSize, recordOf, recordsOf, endAt}
 use Rattle.types.specs.Tags.{sortOf}
 use Rattle.types.specs.declared.tags.Class.{Class}
 use Rattle.types.specs.declared.tags.Sort.{Sort}
 use Rattle.types.specs.declared.tags.Sort.the-variants.{Opens, Closes, Leaf}
+use Rattle.types.proofs.Forests.{size-snoc}
 use Rattle.arguments.specs.Argument.{argOf}
 use Rattle.arguments.specs.Arguments.{Args, refused, args, later, taken, act, readArgs, argsOf}
 use Rattle.arguments.specs.Readings.{keptOf, Room}
@@ -25,9 +26,9 @@ use Rattle.arguments.specs.declared.Arg.the-variants as arg
 use Rattle.arguments.specs.declared.scan.Back.{Back}
 use Rattle.arguments.specs.declared.scan.Back.the-variants.{Whole, Cut}
 use Rattle.arguments.proofs.Within.{given-within}
-use Rattle.arguments.proofs.Counts.{size-snoc, Counts, counted, args-counted}
+use Rattle.arguments.proofs.Counts.{Counts, counted, args-counted}
 use Rattle.arguments.proofs.Kept.{clash, Deep, deep-law}
-use Rattle.arguments.proofs.Frames.{wrote-next, wrote-over, held, link, layout, length-layout, layout-leaf, layout-open, front, behind, length-front, while-open, once-closed, link-there}
+use Rattle.arguments.proofs.Frames.{held, link, layout, length-layout, layout-leaf, layout-open, front, behind, length-front, while-open, once-closed, link-there}
 
 -- the tags ts and the data m at q are left, which ends at E; n records of F are written to the table T that was T₀, the first with
 -- index i: those of a frame and of the frames that wait below it. The link to the open array is `top`

@@ -1,65 +1,18 @@
 -- The table while arrays are open: an open array's record holds, in place of its end, the link to the open array below it.
 -- Assumes nothing.
-use mathlib.Core.Path.{_≡_, refl, ap, sym, _∙_}
-use Prim.Native.Nat.{ℕ, _+_, _-_, _*_, _^_, _<_, _≤_}
+use mathlib.Core.Path.{_≡_, ap, _∙_}
+use Prim.Native.Nat.{ℕ, _+_, _*_, _^_, _<_}
 use mathlib.Core.List.{List, [], _∷_, _++_, append-assoc, append-nil}
 use native.Mathlib.Omega.{arith}
-use lib.ListN.{length, take, drop, length-append, take-append-drop}
-use lib.Seq.{take-at, drop-at, drop-drop, length-take-le}
-use borrow.Rule.Slice.PartMut.{midOf, putMid}
+use lib.ListN.{length, drop, length-append}
+use lib.Seq.{drop-at}
 use Rattle.number.specs.Number.{number, bytes}
 use Rattle.number.specs.Wrote.{Wrote}
 use Rattle.number.proofs.Numbers.{read-written}
-use Rattle.number.proofs.Writers.{wrote-length, wrote-lent}
 use Rattle.types.specs.Forest.{Forest, nil, node, size, snoc}
 use Rattle.types.specs.Records.{recordSize, recordOf, recordsOf, endAt}
+use Rattle.types.proofs.Forests.{records-snoc}
 use Rattle.types.proofs.Recorded.{length-record, length-records}
-
--- ---- writing over a part of what was written
-
--- nothing before place k changes by a writer that is lent the part from k on
-pub wrote-at : {cs p : List ℕ} (o : List ℕ) (k : ℕ) → k ≤ length o → Wrote cs (midOf k (length o - k) o) p → Wrote (take k o ++ cs) o (putMid k (length o - k) o p)
-wrote-at o k h w =
-    let e : length (take k o) ≡ k = length-take-le k o h in
-    let none : Wrote (take k o) o o = record { room = omega arith; left = rw (e, take-append-drop) } in
-    wrote-lent k none e w
-
--- what is written after bs stands after it in the end
-pub wrote-next : {bs o₀ o p : List ℕ} (cs : List ℕ) (k : ℕ) → Wrote bs o₀ o → length bs ≡ k → Wrote (take k o ++ cs) o p → Wrote (bs ++ cs) o₀ p
-wrote-next {bs} {o₀} {o} {p} cs k w e v =
-    let front : take k o ≡ bs = ap (take k) (w .left) ∙ take-at bs (drop (length bs) o₀) k e in
-    let later : drop (length bs + length cs) o ≡ drop (length bs + length cs) o₀ =
-    sym (drop-drop (length cs) (length bs) o) ∙ ap (λ (l : List ℕ). drop (length cs) (drop (length bs) l)) (w .left)
-    ∙ ap (drop (length cs)) (drop-at bs (drop (length bs) o₀) (length bs) refl) ∙ drop-drop (length cs) (length bs) o₀ in
-    let v′ : Wrote (bs ++ cs) o p = rw front at v in
-    record { room = rw (wrote-length bs o₀ o w) at (v′ .room); left = v′ .left ∙ rw (length-append, later) }
-
--- of what was written the part `was` is written over
-pub wrote-over : {o₀ o p : List ℕ} (hs was bs cs : List ℕ) (k : ℕ) → Wrote (hs ++ (was ++ bs)) o₀ o → length hs ≡ k → length was ≡ length cs
-    → Wrote (take k o ++ cs) o p → Wrote (hs ++ (cs ++ bs)) o₀ p
-wrote-over {o₀} {o} {p} hs was bs cs k w e s v =
-    let D = drop (length (hs ++ (was ++ bs))) o₀ in
-    let same : length (hs ++ (was ++ bs)) ≡ length (hs ++ (cs ++ bs)) = simp (length-append, s) in
-    let eo : o ≡ hs ++ (was ++ (bs ++ D)) = w .left ∙ simp append-assoc in
-    let front : take k o ≡ hs = ap (take k) eo ∙ take-at hs (was ++ (bs ++ D)) k e in
-    let n : length (hs ++ cs) ≡ k + length cs = simp length-append (omega arith) in
-    let later : drop (k + length cs) o ≡ bs ++ D =
-    sym (drop-drop (length cs) k o) ∙ ap (λ (l : List ℕ). drop (length cs) (drop k l)) eo ∙ ap (drop (length cs)) (drop-at hs (was ++ (bs ++ D)) k e)
-    ∙ drop-at was (bs ++ D) (length cs) s in
-    let v′ : Wrote (hs ++ cs) o p = rw front at v in
-    record {
-      room = rw (← same) (w .room);
-      left = v′ .left ∙ rw (n, later, ← same) (simp append-assoc);
-    }
-
--- ---- the records of a forest with one node more
-
-pub records-snoc : (i : ℕ) (f : Forest) (k a b : ℕ) (g : Forest) → recordsOf i (snoc f k a b g) ≡ recordsOf i f ++ recordsOf (i + size f) (node k a b g nil)
-unfolding recordsOf snoc size
-records-snoc i nil k a b g = let e : i + 0 ≡ i = omega arith in rw e
-records-snoc i (node k′ a′ b′ f′ rest) k a b g =
-    let e : i + (1 + size f′ + size rest) ≡ i + 1 + size f′ + size rest = omega arith in
-    rw (records-snoc (i + 1 + size f′) rest k a b g, e, append-assoc, append-assoc)
 
 -- ---- frames in the table
 

@@ -1,10 +1,11 @@
--- Writers that fill the front of a slice, one after another: each is lent the later part. Assumes nothing.
+-- Writers that fill the front of a slice, one after another: each is lent the later part, or a part that was written before.
+-- Assumes nothing.
 use mathlib.Core.Path.{_≡_, refl, sym, ap, _∙_}
 use mathlib.Core.List.{List, [], _∷_, _++_, append-assoc}
 use Prim.Native.Nat.{ℕ, suc, _+_, _-_, _<_, _≤_}
 use native.Mathlib.Omega.{arith}
-use lib.ListN.{length, getD, take, drop, set, length-append, length-drop}
-use lib.Seq.{drop-cons, set-at, take-at, drop-at, drop-drop}
+use lib.ListN.{length, getD, take, drop, set, length-append, length-drop, take-append-drop}
+use lib.Seq.{drop-cons, set-at, take-at, drop-at, drop-drop, length-take-le}
 use borrow.Rule.Slice.PartMut.{midOf, putMid, same-len-mid}
 use Rattle.number.specs.Wrote.{Wrote, Filled}
 use Rattle.number.proofs.Parts.{lent, given-back}
@@ -61,6 +62,41 @@ wrote-lent {bs} {o₀} {o} {cs} {p} k w e v = rw given-back (wrote-part bs o₀ 
 
 pub same-length : {cs p : List ℕ} (o : List ℕ) (k : ℕ) → Wrote cs (midOf k (length o - k) o) p → length (putMid k (length o - k) o p) ≡ length o
 same-length {cs} {p} o k v = same-len-mid k (length o - k) o p (wrote-length cs (midOf k (length o - k) o) p v)
+
+-- ---- writing over a part of what was written
+
+-- nothing before place k changes by a writer that is lent the part from k on
+pub wrote-at : {cs p : List ℕ} (o : List ℕ) (k : ℕ) → k ≤ length o → Wrote cs (midOf k (length o - k) o) p → Wrote (take k o ++ cs) o (putMid k (length o - k) o p)
+wrote-at o k h w =
+    let e : length (take k o) ≡ k = length-take-le k o h in
+    let none : Wrote (take k o) o o = record { room = omega arith; left = rw (e, take-append-drop) } in
+    wrote-lent k none e w
+
+-- what is written after bs stands after it in the end
+pub wrote-next : {bs o₀ o p : List ℕ} (cs : List ℕ) (k : ℕ) → Wrote bs o₀ o → length bs ≡ k → Wrote (take k o ++ cs) o p → Wrote (bs ++ cs) o₀ p
+wrote-next {bs} {o₀} {o} {p} cs k w e v =
+    let later : drop (length bs + length cs) o ≡ drop (length bs + length cs) o₀
+    = sym (drop-drop (length cs) (length bs) o) ∙ ap (drop (length cs)) (drop-wrote bs o₀ o w) ∙ drop-drop (length cs) (length bs) o₀ in
+    let v′ : Wrote (bs ++ cs) o p = rw (← e, take-wrote bs o₀ o w) at v in
+    record { room = rw (wrote-length bs o₀ o w) at (v′ .room); left = v′ .left ∙ rw (length-append, later) }
+
+-- of what was written the part `was` is written over
+pub wrote-over : {o₀ o p : List ℕ} (hs was bs cs : List ℕ) (k : ℕ) → Wrote (hs ++ (was ++ bs)) o₀ o → length hs ≡ k → length was ≡ length cs
+    → Wrote (take k o ++ cs) o p → Wrote (hs ++ (cs ++ bs)) o₀ p
+wrote-over {o₀} {o} {p} hs was bs cs k w e s v =
+    let D = drop (length (hs ++ (was ++ bs))) o₀ in
+    let same : length (hs ++ (was ++ bs)) ≡ length (hs ++ (cs ++ bs)) = simp (length-append, s) in
+    let eo : o ≡ hs ++ (was ++ (bs ++ D)) = w .left ∙ simp append-assoc in
+    let front : take k o ≡ hs = ap (take k) eo ∙ take-at hs (was ++ (bs ++ D)) k e in
+    let n : length (hs ++ cs) ≡ k + length cs = simp length-append (omega arith) in
+    let later : drop (k + length cs) o ≡ bs ++ D =
+    sym (drop-drop (length cs) k o) ∙ ap (λ (l : List ℕ). drop (length cs) (drop k l)) eo ∙ ap (drop (length cs)) (drop-at hs (was ++ (bs ++ D)) k e)
+    ∙ drop-at was (bs ++ D) (length cs) s in
+    let v′ : Wrote (hs ++ cs) o p = rw front at v in
+    record {
+      room = rw (← same) (w .room);
+      left = v′ .left ∙ rw (n, later, ← same) (simp append-assoc);
+    }
 
 -- ---- the same laws for writers that answer a count
 

@@ -2,14 +2,14 @@
 use mathlib.Core.Path.{_≡_, refl, sym, ap, _∙_}
 use mathlib.Core.Logic.{⊎-elim}
 use mathlib.Core.List.{List, [], _∷_, _++_, append-assoc}
-use Prim.Native.Nat.{ℕ, zero, suc, _+_, _^_, _≤_, _<_}
+use Prim.Native.Nat.{ℕ, _+_, _^_, _≤_, _<_}
 use native.Mathlib.Nat.{add-zero, eq-or-lt-of-le}
 use native.Mathlib.Numerals.{add-one}
 use native.Mathlib.Omega.{arith}
-use lib.ListN.{length, getD, take, drop, length-drop, take-append-drop}
-use lib.Seq.{drop-cons, drop-drop, drop-at, getD-drop, length-take-le}
+use lib.ListN.{length, getD, drop}
+use lib.Seq.{drop-cons, drop-drop, drop-at, getD-drop}
 use Rattle.number.specs.Number.{number, bytes}
-use Rattle.number.proofs.Numbers.{length-bytes, read-written, written-read}
+use Rattle.number.proofs.Numbers.{length-bytes, read-written, number-bytes}
 use Rattle.types.specs.Forest.{Forest, nil, node, size}
 use Rattle.types.specs.Records.{startOf, recordOf, recordsOf, kindAt, zerosAt, endAt, aAt, bAt}
 use Rattle.types.proofs.Recorded.{length-record, length-records}
@@ -35,33 +35,17 @@ three-zeros : bytes 3 0 ≡ 0 ∷ 0 ∷ 0 ∷ []
 unfolding bytes
 three-zeros = refl
 
-take-small : (n : ℕ) (l : List ℕ) → ((i : ℕ) → getD l i 0 < 256) → (i : ℕ) → getD (take n l) i 0 < 256
-take-small zero l h i = omega arith
-take-small (suc n) [] h i = omega arith
-take-small (suc n) (x ∷ l) h zero = h 0
-take-small (suc n) (x ∷ l) h (suc i) = take-small n l (λ j. h (suc j)) i
-
 module _ (t : List ℕ) (small : (i : ℕ) → getD t i 0 < 256) where
-  -- the bytes from p to q are those of the number that they stand for
-  number-bytes : (n p q : ℕ) → p + n ≡ q → q ≤ length t → drop p t ≡ bytes n (number n (drop p t)) ++ drop q t
-  number-bytes n p q e h =
-      let s = take n (drop p t) in
-      let l : length s ≡ n = length-take-le n (drop p t) (omega (arith, length-drop p t)) in
-      let f : (i : ℕ) → getD (drop p t) i 0 < 256 = λ i. rw getD-drop (small (p + i)) in
-      let w : bytes n (number n (drop p t)) ≡ s
-      = rw (l, take-append-drop) at (written-read s (drop n (drop p t)) (take-small n (drop p t) f)) in
-      rw (w, ← e, ← drop-drop) (sym (take-append-drop n (drop p t)))
-
   record-bytes : (i : ℕ) → startOf (i + 1) ≤ length t → zerosAt t i ≡ 0
       → drop (startOf i) t ≡ recordOf (kindAt t i) (endAt t i) (aAt t i) (bAt t i) ++ drop (startOf (i + 1)) t
   unfolding kindAt zerosAt endAt aAt bAt
   record-bytes i h z =
       let p = startOf i in
       let x : drop (p + 1) t ≡ 0 ∷ 0 ∷ 0 ∷ drop (p + 4) t
-      = number-bytes 3 (p + 1) (p + 4) (omega arith) (omega arith) ∙ rw (z, three-zeros) in
-      let e = number-bytes 4 (p + 4) (p + 8) (omega arith) (omega arith) in
-      let a = number-bytes 4 (p + 8) (p + 12) (omega arith) (omega arith) in
-      let b = number-bytes 4 (p + 12) (startOf (i + 1)) (omega arith) h in
+      = number-bytes t small 3 (p + 1) (p + 4) (omega arith) (omega arith) ∙ rw (z, three-zeros) in
+      let e = number-bytes t small 4 (p + 4) (p + 8) (omega arith) (omega arith) in
+      let a = number-bytes t small 4 (p + 8) (p + 12) (omega arith) (omega arith) in
+      let b = number-bytes t small 4 (p + 12) (startOf (i + 1)) (omega arith) h in
       drop-cons t p 0 (omega arith)
       ∙ ap (λ (l : List ℕ). getD t p 0 ∷ l) (ap (λ (n : ℕ). drop n t) (sym (add-one p)) ∙ x)
       ∙ ap (λ (l : List ℕ). getD t p 0 ∷ 0 ∷ 0 ∷ 0 ∷ l) (e ∙ ap (λ (l : List ℕ). bytes 4 (endAt t i) ++ l) (a ∙ ap (λ (l : List ℕ). bytes 4 (aAt t i) ++ l) b))

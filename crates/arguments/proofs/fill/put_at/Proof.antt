@@ -3,7 +3,7 @@
 use Prim.Native.Nat.{_*_}
 use native.Mathlib.Omega.{arith}
 use Rattle.types.specs.Records.{recordSize}
-use Rattle.arguments.proofs.Frames.{wrote-at}
+use Rattle.number.proofs.Writers.{wrote-at}
 use borrow.Author.Needs.{needs}
 use Rattle.arguments.proofs.fill.put_at.Statement.{statement}
 use Rattle.arguments.proofs.fill.put_at.Tie as tie

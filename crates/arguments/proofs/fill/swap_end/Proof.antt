@@ -3,7 +3,7 @@
 use Prim.Native.Nat.{_+_, _*_}
 use native.Mathlib.Omega.{arith}
 use Rattle.types.specs.Records.{recordSize, endAt}
-use Rattle.arguments.proofs.Frames.{wrote-at}
+use Rattle.number.proofs.Writers.{wrote-at}
 use borrow.Author.Needs.{needs}
 use Rattle.arguments.proofs.fill.swap_end.Statement.{statement}
 use Rattle.arguments.proofs.fill.swap_end.Tie as tie
