@@ -27,7 +27,7 @@ use Rattle.arguments.proofs.Within.{given-within, any-base}
 pub clash : {m d n c : ℕ} → Whole m d ≡ Cut n c → ⊥
 clash e = let z : _≡_ {A = ℕ} 0 1 = cc in omega arith
 
-later-none : (o : Args) → later 0 o ≡ o
+pub later-none : (o : Args) → later 0 o ≡ o
 later-none (refused fault) = refl
 later-none (args kept used) = ap (args kept) (omega arith)
 

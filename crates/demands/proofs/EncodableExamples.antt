@@ -2,9 +2,8 @@
 use mathlib.Core.Path.{refl}
 use mathlib.Core.List.{List, _∷_}
 use Prim.Native.Nat.{ℕ}
-use lib.ListN.{replicate}
 use Rattle.number.specs.Number.{number}
-use Rattle.types.specs.Forest.{Forest, nil, node, size, depth, snoc}
+use Rattle.types.specs.Forest.{size, depth, snoc}
 use Rattle.types.specs.Tags.{classOf, sortOf}
 use Rattle.text.specs.Text.{textOf}
 use Rattle.arguments.specs.Argument.{argOf}
@@ -16,27 +15,21 @@ use Rattle.table.specs.Formed.{WellFormed}
 use Rattle.demands.specs.Demands.{after}
 use Rattle.table.proofs.Examples as p3
 use Rattle.demands.proofs.Encodable.{encodable-udp, encodable-tcp, encodable-vec}
+use Rattle.demands.proofs.RoomExamples.{blank}
 use Rattle.demands.proofs.TripExamples.{small-bytes}
 
 -- P3 behind its length: 0000000C 2F610000 2C690000 00000005
 abbrev framed : List ℕ
 framed = 0 ∷ 0 ∷ 0 ∷ 12 ∷ p3.packet
 
--- a table of two records, all zero
-abbrev blank : List ℕ
-blank = replicate 32 0
-
-abbrev inside : Forest
-inside = node 105 5 0 nil nil
-
-by-udp : WellFormed (after udp 64 p3.packet blank) 2 p3.packet
+by-udp : WellFormed (after udp 64 p3.packet (blank 2)) 2 p3.packet
 unfolding number size depth snoc classOf sortOf textOf argOf readArgs messageOf packetOf packetAt packet udp decoded
-by-udp = encodable-udp p3.packet (small-bytes p3.packet tt) 64 blank 47 0 2 inside 0 2 refl refl
+by-udp = encodable-udp p3.packet (small-bytes p3.packet tt) 64 (blank 2) 47 0 2 p3.five 0 2 refl refl
 
-by-tcp : WellFormed (after tcp 64 framed blank) 2 framed
+by-tcp : WellFormed (after tcp 64 framed (blank 2)) 2 framed
 unfolding number size depth snoc classOf sortOf textOf argOf readArgs messageOf packetOf packetAt packet frameOf tcp decoded
-by-tcp = encodable-tcp framed (small-bytes framed tt) 64 blank 47 4 2 inside 0 2 refl refl
+by-tcp = encodable-tcp framed (small-bytes framed tt) 64 (blank 2) 47 4 2 p3.five 0 2 refl refl
 
-by-vec : WellFormed (after tcpVec 64 framed blank) 2 framed
+by-vec : WellFormed (after tcpVec 64 framed (blank 2)) 2 framed
 unfolding number size depth snoc classOf sortOf textOf argOf readArgs messageOf packetOf packetAt packet frameOf framesAt frames tcpVec decoded
-by-vec = encodable-vec framed (small-bytes framed tt) 64 blank 47 4 2 inside 0 2 refl refl
+by-vec = encodable-vec framed (small-bytes framed tt) 64 (blank 2) 47 4 2 p3.five 0 2 refl refl

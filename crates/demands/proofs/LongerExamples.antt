@@ -18,7 +18,7 @@ use Rattle.demands.specs.Words.{Unlimited}
 use Rattle.demands.specs.Demands.{answer, GoesOn}
 use Rattle.table.proofs.Examples as p3
 use Rattle.demands.proofs.Longer.{more-bytes-udp, more-bytes-tcp}
-use Rattle.demands.proofs.RoomExamples.{empty, element, blank}
+use Rattle.demands.proofs.RoomExamples.{empty, element, blank, one-element}
 
 unlimited : {r : Decoded} {count left : ℕ} → r ≡ Packets count left → Unlimited r
 unlimited e =
@@ -30,10 +30,6 @@ unlimited e =
     }
 
 -- ---- a bundle with one element gets a second one
-
-one-element : answer udp 1 (empty ++ element) (blank 2) ≡ Packets 2 0
-unfolding number size depth snoc classOf sortOf textOf argOf readArgs messageOf bundleOf elementOf elementsOf packetOf packetAt packet udp decoded
-one-element = refl
 
 two-elements : answer udp 1 ((empty ++ element) ++ element) (blank 3) ≡ Packets 3 0
 unfolding number size depth snoc classOf sortOf textOf argOf readArgs messageOf bundleOf elementOf elementsOf packetOf packetAt packet udp decoded

@@ -8,15 +8,12 @@ use Rattle.demands.specs.Words.{NoNul}
 use Rattle.demands.specs.Osc10.{end, atom, word, Packet, message, bundle, none, also, ArgumentsAllowed, Allowed, AllAllowed, deep, tagsOf, as-word, no-argument, one-atom, Spells, as-message, as-bundle, no-element, element}
 use Rattle.demands.specs.Standards.{AcceptedAs}
 use Rattle.utf8.proofs.Grammar.{octets}
+use Rattle.table.proofs.Examples.{packet as p3-bytes}
 use Rattle.demands.proofs.OscAccepted.{osc10-accepted}
 
 -- /a with the integer 5
 abbrev p3 : Packet
 p3 = message (0x2F ∷ 0x61 ∷ []) (atom (word 105 5) end)
-
--- P3: 2F610000 2C690000 00000005
-abbrev p3-bytes : List ℕ
-p3-bytes = 0x2F ∷ 0x61 ∷ 0 ∷ 0 ∷ 0x2C ∷ 0x69 ∷ 0 ∷ 0 ∷ 0 ∷ 0 ∷ 0 ∷ 5 ∷ []
 
 p3-allowed : Allowed p3
 unfolding Allowed ArgumentsAllowed NoNul

@@ -2,26 +2,20 @@
 use mathlib.Core.Path.{refl}
 use mathlib.Core.List.{List, [], _∷_, _++_}
 use Prim.Native.Nat.{ℕ}
-use native.Mathlib.Omega.{arith}
 use Rattle.refusal.specs.declared.Fault.the-variants.{Empty}
 use Rattle.refusal.specs.declared.Refusal.the-variants.{Unreadable, BadTable, OutputShort, PadOverflow}
 use Rattle.number.specs.Number.{number, bytes}
 use Rattle.number.specs.declared.Padded.the-variants as padded
-use Rattle.types.specs.Forest.{Forest, nil, node, size, depth}
+use Rattle.types.specs.Forest.{depth}
 use Rattle.types.specs.Tags.{classOf, sortOf}
-use Rattle.types.specs.Records.{recordOf, recordsOf}
-use Rattle.types.specs.Value.{ownRules}
 use Rattle.decoder.specs.Packet.{packetOf, packetAt, packet}
 use Rattle.decoder.specs.Framing.{udp, frameOf, tcp}
 use Rattle.decoder.specs.Limits.{decoded}
 use Rattle.decoder.specs.declared.Decoded.the-variants as decodes
-use Rattle.table.specs.Formed.{rangeOk, allowed}
-use Rattle.table.specs.Tree.{IsTree, Obeys, FieldsFit}
 use Rattle.encoder.specs.Osc as osc
 use Rattle.encoder.specs.Outcome.{write, encoded, malformed, formed}
 use Rattle.encoder.specs.declared.Encoded.the-variants as encodes
 use Rattle.demands.specs.Calls.{Meets, decode-udp, decode-tcp, encode, pad}
-use Rattle.table.proofs.Theorem.{bytes-tree}
 use Rattle.table.proofs.Examples as p3
 
 -- P1: no bytes are refused with 2, and any table is as it was
@@ -38,25 +32,17 @@ p14 table = record { answered = refl; left = refl }
 wrong-end : (out : List ℕ) → Meets (encode (p3.table 2 3) 2 p3.packet out) (record { answer = encodes.Refused BadTable; lent = out })
 wrong-end out = malformed p3.wrong-end refl
 
--- the integer of P3's message
-abbrev five : Forest
-five = node 105 5 0 nil nil
-
-p3-tree : IsTree (p3.table 2 2) 2 p3.packet 47 0 2 five
-unfolding number bytes size classOf sortOf recordOf recordsOf ownRules rangeOk allowed Obeys FieldsFit
-p3-tree = bytes-tree (p3.table 2 2) [] p3.packet 47 0 2 five refl (omega arith, omega arith, (omega arith, omega arith, tt, tt), tt) (omega arith) (refl, refl, refl, (refl, refl, refl, tt, tt), tt)
-
 -- P3's table encodes to P3's packet; one byte less is refused with 12
 eleven : List ℕ
 eleven = 1 ∷ 2 ∷ 3 ∷ 4 ∷ 5 ∷ 6 ∷ 7 ∷ 8 ∷ 9 ∷ 10 ∷ 11 ∷ []
 
 short : Meets (encode (p3.table 2 2) 2 p3.packet eleven) (record { answer = encodes.Refused OutputShort; lent = eleven })
 unfolding eleven bytes depth classOf sortOf osc.oscString osc.dataOf osc.tagsOf osc.messageOf osc.packetOf write encoded
-short = formed 47 0 2 five p3-tree refl
+short = formed 47 0 2 p3.five p3.p3-tree refl
 
 written : Meets (encode (p3.table 2 2) 2 p3.packet (eleven ++ (12 ∷ 13 ∷ []))) (record { answer = encodes.Written 12; lent = p3.packet ++ (13 ∷ []) })
 unfolding eleven bytes depth classOf sortOf osc.oscString osc.dataOf osc.tagsOf osc.messageOf osc.packetOf write encoded
-written = formed 47 0 2 five p3-tree refl
+written = formed 47 0 2 p3.five p3.p3-tree refl
 
 -- 2^64 - 1 has no next multiple of 4
 last : Meets (pad 0xffff_ffff_ffff_ffff) (record { answer = padded.Refused PadOverflow; lent = tt })

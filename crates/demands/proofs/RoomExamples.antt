@@ -35,16 +35,16 @@ abbrev pub blank : ℕ → List ℕ
 blank n = replicate (recordSize * n) 0
 
 -- the bundle with one element: two records, depth 1
-two : answer udp 1 (empty ++ element) (blank 2) ≡ Packets 2 0
+pub one-element : answer udp 1 (empty ++ element) (blank 2) ≡ Packets 2 0
 unfolding number size depth snoc classOf sortOf textOf argOf readArgs messageOf bundleOf elementOf elementsOf packetOf packetAt packet udp decoded
-two = refl
+one-element = refl
 
 not-full : {r : Decoded} {count left : ℕ} → r ≡ Packets count left → NotFull r
 not-full e = record { not-9 = λ p. let z : _≡_ {A = ℕ} 0 1 = cc in omega arith; not-10 = λ p. let z : _≡_ {A = ℕ} 0 1 = cc in omega arith }
 
 -- a higher limit and a larger table
 higher : Unchanged udp (empty ++ element) 1 64 (blank 2) (blank 9)
-higher = more-room udp (empty ++ element) 1 64 (blank 2) (blank 9) (omega arith) (omega arith) (omega arith) (not-full two)
+higher = more-room udp (empty ++ element) 1 64 (blank 2) (blank 9) (omega arith) (omega arith) (omega arith) (not-full one-element)
 
 -- one record is not enough, so the bound says something
 full : decoded udp 1 64 (empty ++ element) ≡ Refused TableFull

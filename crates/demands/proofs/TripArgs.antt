@@ -8,10 +8,10 @@ use lib.Seq.{drop-at}
 use Rattle.types.specs.Forest.{Forest, nil, node, snoc}
 use Rattle.types.specs.Tags.{sortOf}
 use Rattle.arguments.specs.Argument.{argOf}
-use Rattle.arguments.specs.Arguments.{Args, refused, args, later, readArgs}
+use Rattle.arguments.specs.Arguments.{args, later, readArgs}
 use Rattle.arguments.specs.declared.Arg.the-variants.{Given}
 use Rattle.demands.specs.Osc10.{Atom, Arguments, end, atom, array, AtomAllowed, ArgumentsAllowed, tagOf, tagsOf, ArgumentsSpell, no-argument, one-atom, one-array, ArgumentsAre, no-node, leaf, branch}
-use Rattle.arguments.proofs.Kept.{later-later}
+use Rattle.arguments.proofs.Kept.{later-none, later-later}
 use Rattle.demands.proofs.Placed.{At, at-front, at-next}
 use Rattle.demands.proofs.TripParts.{atom-even, AtomRead, atom-read}
 use Rattle.demands.proofs.OscTags.{classIs, atom-sort}
@@ -34,12 +34,6 @@ join-end (node k a b i r) = ap (node k a b i) (join-end r)
 join-nil : (f : Forest) → join nil f ≡ f
 unfolding join
 join-nil f = refl
-
--- ---- bytes that were read before
-
-later-none : (x : Args) → later 0 x ≡ x
-later-none (refused k) = refl
-later-none (args f u) = ap (args f) (omega arith)
 
 -- ---- what a tag does
 module _ (base : ℕ) (ts l : List ℕ) (p : ℕ) (frame : Forest) (below : List Forest) where

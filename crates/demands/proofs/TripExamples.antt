@@ -44,27 +44,20 @@ plays w out table h n = round-trip _ _ _ _ _ _ _ w out h _ (formed _ _ _ _ (w .f
 
 -- ---- P3
 
-abbrev p3-tree : Forest
-p3-tree = node 105 5 0 nil nil
-
-p3-is : IsTree (p3.table 2 2) 2 p3.packet 47 0 2 p3-tree
-unfolding bytes recordOf recordsOf size FieldsFit Obeys ownRules rangeOk allowed sortOf classOf
-p3-is = bytes-tree (p3.table 2 2) [] p3.packet 47 0 2 p3-tree refl (omega arith, omega arith, (omega arith, omega arith, tt, tt), tt) (omega arith) (refl, refl, refl, (refl, refl, refl, tt, tt), tt)
-
-p3-playable : Playable (p3.table 2 2) 2 p3.packet 47 0 2 p3-tree
+p3-playable : Playable (p3.table 2 2) 2 p3.packet 47 0 2 p3.five
 unfolding NoNul CleanNode Clean depth bytes oscString dataOf tagsOf messageOf packetOf sortOf classOf
 p3-playable =
     record {
       bytes = small-bytes (p3.table 2 2) tt;
       sourced = small-bytes p3.packet tt;
-      formed = p3-is;
+      formed = p3.p3-tree;
       clean = ((refl, ((λ e. omega arith), ((λ e. omega arith), tt))), (tt, tt, tt), tt);
       shallow = omega arith;
       fits = omega arith;
     }
 
 -- an output of 12 bytes and a table of two records are enough
-p3-plays : PlaysBack (p3.table 2 2) 2 p3.packet (replicate 12 0) (encoded plain p3.packet (replicate 12 0) 47 0 2 p3-tree) (replicate 32 0)
+p3-plays : PlaysBack (p3.table 2 2) 2 p3.packet (replicate 12 0) (encoded plain p3.packet (replicate 12 0) 47 0 2 p3.five) (replicate 32 0)
 unfolding bytes oscString dataOf tagsOf messageOf packetOf sortOf classOf
 p3-plays = plays p3-playable (replicate 12 0) (replicate 32 0) (omega arith) (omega arith)
 

@@ -1,15 +1,18 @@
--- Examples, computed: the table of document 01's P3 is well formed over its packet; with a wrong end, or a range past the packet, it is not.
--- Assumes nothing.
+-- Examples, computed: the table of document 01's P3 is a tree's over its packet, so it is well formed; with a wrong end, or a range past
+-- the packet, it is not. Assumes nothing.
 use mathlib.Core.Path.{_≡_, refl, sym}
 use mathlib.Core.Bool.{true, false, true≢false}
 use mathlib.Core.List.{List, [], _∷_}
-use Prim.Native.Nat.{ℕ, zero, suc, _<_, _≤_}
+use Prim.Native.Nat.{ℕ, _≤_}
 use native.Mathlib.Omega.{arith}
-use Rattle.number.specs.Number.{number}
+use Rattle.number.specs.Number.{number, bytes}
+use Rattle.types.specs.Forest.{Forest, nil, node, size}
 use Rattle.types.specs.Tags.{sortOf, classOf}
-use Rattle.types.specs.Records.{kindAt, zerosAt, endAt, aAt, bAt}
+use Rattle.types.specs.Records.{recordOf, recordsOf, kindAt, endAt, aAt, bAt}
 use Rattle.types.specs.Value.{ownRules}
-use Rattle.table.specs.Formed.{rangeOk, allowed, done, step, NodeOk, WellFormed}
+use Rattle.table.specs.Formed.{rangeOk, allowed, WellFormed}
+use Rattle.table.specs.Tree.{IsTree, Obeys, FieldsFit}
+use Rattle.table.proofs.Theorem.{tree-formed, bytes-tree}
 
 -- P3's packet: 2F610000 2C690000 00000005
 abbrev pub packet : List ℕ
@@ -21,15 +24,19 @@ table length end =
     0x2F ∷ 0 ∷ 0 ∷ 0 ∷ 0 ∷ 0 ∷ 0 ∷ 2 ∷ 0 ∷ 0 ∷ 0 ∷ 0 ∷ 0 ∷ 0 ∷ 0 ∷ length
     ∷ 0x69 ∷ 0 ∷ 0 ∷ 0 ∷ 0 ∷ 0 ∷ 0 ∷ end ∷ 0 ∷ 0 ∷ 0 ∷ 5 ∷ 0 ∷ 0 ∷ 0 ∷ 0 ∷ []
 
-p3-nodes : (i : ℕ) → i < 2 → NodeOk (table 2 2) 2 packet i
-unfolding number sortOf classOf kindAt zerosAt endAt aAt bAt ownRules rangeOk allowed
-p3-nodes zero h = record { zeros = refl; rules = refl; range = refl; within = omega arith; tiles = step {i = 1} {j = 2} (omega arith) refl (omega arith) done }
-p3-nodes (suc zero) h = record { zeros = refl; rules = refl; range = refl; within = omega arith; tiles = done }
-p3-nodes (suc (suc i)) h = absurd (omega arith)
+-- the integer of P3's message
+abbrev pub five : Forest
+five = node 105 5 0 nil nil
+
+pub p3-tree : IsTree (table 2 2) 2 packet 47 0 2 five
+unfolding number bytes size classOf sortOf recordOf recordsOf ownRules rangeOk allowed Obeys FieldsFit
+p3-tree =
+    bytes-tree (table 2 2) [] packet 47 0 2 five refl
+    (omega arith, omega arith, (omega arith, omega arith, tt, tt), tt) (omega arith)
+    (refl, refl, refl, (refl, refl, refl, tt, tt), tt)
 
 pub p3-formed : WellFormed (table 2 2) 2 packet
-unfolding number kindAt endAt
-p3-formed = record { some = omega arith; few = omega arith; fits = omega arith; root = refl; whole = refl; nodes = p3-nodes }
+p3-formed = tree-formed p3-tree
 
 -- the integer ends after the table's end
 pub wrong-end : WellFormed (table 2 3) 2 packet → ⊥
