@@ -8,12 +8,12 @@ use native.Mathlib.Omega.{arith}
 use borrow.Author.Tests.{leb-true}
 use lib.Dec.{leb}
 use lib.ListN.{length, getD, drop}
-use lib.Seq.{getD-drop}
 use Rattle.refusal.specs.declared.Fault.the-variants.{RunsOut}
 use Rattle.number.specs.Number.{number}
 use Rattle.number.proofs.Choices.{by-test}
 use Rattle.text.proofs.Within.{found-in}
 use Rattle.number.proofs.Numbers.{number-small}
+use Rattle.number.proofs.Parts.{drop-small}
 use Rattle.types.specs.Tags.{isScalar}
 use Rattle.types.specs.declared.tags.Class.{Class}
 use Rattle.types.specs.declared.tags.Class.the-variants.{Four, Eight, Bare, Text as String, Blob, Scalar, Unknown}
@@ -79,7 +79,7 @@ pub given-fits : {a b used : ℕ} (class : Class) (base : ℕ) (l : List ℕ) (p
 given-fits class base l p bytes low e =
     let P : ℕ → ℕ → ℕ → Type 0 = λ a b used. (a < 256 ^ 4) × (b < 256 ^ 4) in
     let n : number 4 l < 256 ^ 4 = number-small 4 l bytes in
-    let m : number 4 (drop 4 l) < 256 ^ 4 = number-small 4 (drop 4 l) (λ j. rw getD-drop (bytes (4 + j))) in
+    let m : number 4 (drop 4 l) < 256 ^ 4 = number-small 4 (drop 4 l) (drop-small 4 l bytes) in
     subst (Holds P) (sym e)
     (arg-holds P base l p (λ h. (n, omega arith)) (λ h. (n, m)) (omega arith, omega arith)
     (λ k used f. (omega arith, omega (arith, found-in l p f))) (λ h k. (omega arith, n)) class)

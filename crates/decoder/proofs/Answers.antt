@@ -98,7 +98,8 @@ pub record Fitting (w : Whole) (capacity n : ℕ) : Type 0 where
   pub accepted : Accepted w
   pub fits : size (forestOf w) ≤ capacity
 
-no-packets : {A : Type 0} {count left : ℕ} {r : Refusal} → Packets count left ≡ Refused r → A
+-- a refusal is no answer of packets
+pub no-packets : {A : Type 0} {count left : ℕ} {r : Refusal} → Packets count left ≡ Refused r → A
 no-packets e = let z : _≡_ {A = ℕ} 0 1 = cc in absurd (omega arith)
 
 pub packets-fit : {count left : ℕ} (rule : List ℕ → Whole) (capacity limit : ℕ) (msg : List ℕ) → Packets count left ≡ decoded rule capacity limit msg → Fitting (rule msg) capacity (length msg)

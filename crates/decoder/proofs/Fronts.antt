@@ -1,4 +1,5 @@
--- A packet by what it starts with, an element by its size; and what the code answers of each front. Assumes nothing.
+-- A packet by what it starts with, an element by its size, a type text by its tags; and what the code answers of each front.
+-- Assumes nothing.
 use mathlib.Core.Path.{_≡_, refl, ap, sym, _∙_, subst}
 use mathlib.Core.Bool.{Bool, true, false}
 use mathlib.Core.List.{List, [], _∷_}

@@ -9,8 +9,8 @@ pub mod Extents
 pub mod Skims
 pub mod Stored
 pub mod Fills
-pub mod Lists
-pub mod Listed
+pub mod FrameExtents
+pub mod FrameFills
 pub mod Answers
 pub mod Only
 pub mod Examples

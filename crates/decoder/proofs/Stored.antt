@@ -1,9 +1,9 @@
--- A table in which a forest's records stand after the first c records. Assumes nothing.
+-- A table in which a forest's records stand from the first byte on, or after the first c records. Assumes nothing.
 use mathlib.Core.Path.{_≡_, refl, ap, _∙_}
 use mathlib.Core.List.{List, _++_, append-assoc, append-nil}
 use Prim.Native.Nat.{ℕ, _+_, _-_, _*_, _≤_}
 use native.Mathlib.Omega.{arith}
-use lib.ListN.{length, take, drop, length-append, length-take, length-drop}
+use lib.ListN.{length, take, drop, length-append, length-take, length-drop, take-append-drop}
 use lib.Seq.{take-at, drop-at, drop-drop, length-take-le}
 use borrow.Rule.Slice.PartMut.{midOf, putMid}
 use Rattle.number.specs.Wrote.{Wrote}
@@ -38,6 +38,9 @@ completed T c j f = take (recordSize * c) T ++ stored j f (drop (recordSize * c)
 pub length-completed : (T : List ℕ) (c j : ℕ) (f : Forest) → recordSize * (c + size f) ≤ length T → length (completed T c j f) ≡ length T
 length-completed T c j f h =
     simp (length-append, length-take) (omega (arith, length-drop (recordSize * c) T, length-stored j f (drop (recordSize * c) T) (omega (arith, length-drop (recordSize * c) T))))
+
+pub completed-nil : (T : List ℕ) (c j : ℕ) → completed T c j nil ≡ T
+completed-nil T c j = rw (stored-nil j (drop (recordSize * c) T)) (take-append-drop (recordSize * c) T)
 
 -- the later part was lent and came back with f's records over its first bytes
 pub lent-stored : {Y : List ℕ} (T : List ℕ) (c j : ℕ) (f : Forest) → Y ≡ stored j f (midOf (recordSize * c) (length T - recordSize * c) T)

@@ -1,41 +1,37 @@
 -- What an answer with packets shows of the input and of the table. Assumes nothing.
-use mathlib.Core.Path.{_≡_, ap, _∙_}
+use mathlib.Core.Path.{_≡_, sym, ap, _∙_}
 use mathlib.Core.List.{List, _++_}
 use Prim.Native.Nat.{ℕ, _*_}
 use native.Mathlib.Omega.{arith}
 use lib.ListN.{take, drop}
 use lib.Seq.{take-at}
-use Rattle.refusal.specs.declared.Refusal.{Refusal}
 use Rattle.types.specs.Forest.{size}
 use Rattle.types.specs.Records.{recordSize, recordsOf}
 use Rattle.decoder.specs.Framing.{Whole, trees, waiting, refusal}
 use Rattle.decoder.specs.Limits.{limited, decoded, forestOf, stored, tabled}
 use Rattle.decoder.specs.declared.Decoded.{Decoded}
-use Rattle.decoder.specs.declared.Decoded.the-variants.{Packets, Refused}
+use Rattle.decoder.specs.declared.Decoded.the-variants.{Packets}
 use Rattle.demands.specs.Demands.{answer, after}
 use Rattle.types.proofs.Recorded.{length-records}
 use Rattle.decoder.proofs.Chosen.{by-decoded, by-trees}
+use Rattle.decoder.proofs.Answers.{no-packets}
 
 -- the input is read as trees of so many nodes, and so many bytes are left
 pub record Accepted (w : Whole) (count left : ℕ) : Type 0 where
   pub read : w ≡ trees (forestOf w) left
   pub counts : size (forestOf w) ≡ count
 
--- a refusal is no answer with packets
-pub no-packets : {A : Type 0} {count left : ℕ} {r : Refusal} → Refused r ≡ Packets count left → A
-no-packets e = let z : _≡_ {A = ℕ} 0 1 = cc in absurd (omega arith)
-
 module _ {count left : ℕ} where
   limited-accepted : (capacity limit : ℕ) (w : Whole) → limited capacity limit w ≡ Packets count left → Accepted w count left
   limited-accepted capacity limit (trees f n) e =
-      by-trees (λ r. r ≡ Packets count left → Accepted (trees f n) count left) capacity limit f n (λ h. no-packets) (λ h. no-packets)
+      by-trees (λ r. r ≡ Packets count left → Accepted (trees f n) count left) capacity limit f n (λ h p. no-packets (sym p)) (λ h p. no-packets (sym p))
       (λ h k p. let l : n ≡ left = cc in record { read = rw l; counts = cc }) e
   limited-accepted capacity limit waiting e = let z : _≡_ {A = ℕ} 0 1 = cc in absurd (omega arith)
-  limited-accepted capacity limit (refusal k) e = no-packets e
+  limited-accepted capacity limit (refusal k) e = no-packets (sym e)
 
   pub accepted : (rule : List ℕ → Whole) (capacity limit : ℕ) (msg : List ℕ) → decoded rule capacity limit msg ≡ Packets count left → Accepted (rule msg) count left
   accepted rule capacity limit msg =
-      by-decoded (λ r. r ≡ Packets count left → Accepted (rule msg) count left) rule capacity limit msg (λ h. no-packets) (λ h. no-packets)
+      by-decoded (λ r. r ≡ Packets count left → Accepted (rule msg) count left) rule capacity limit msg (λ h p. no-packets (sym p)) (λ h p. no-packets (sym p))
       (λ h k. limited-accepted capacity limit (rule msg))
 
   module _ (rule : List ℕ → Whole) (limit : ℕ) (msg table : List ℕ) (e : answer rule limit msg table ≡ Packets count left) where

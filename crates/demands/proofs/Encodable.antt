@@ -1,5 +1,5 @@
 -- What is decoded can be encoded: a table that was answered for one packet is well formed over the call's input. Assumes nothing.
-use mathlib.Core.Path.{_≡_, ap, subst, _∙_}
+use mathlib.Core.Path.{_≡_, sym, ap, subst, _∙_}
 use mathlib.Core.Logic.{⊎-elim}
 use mathlib.Core.List.{List, _++_}
 use Prim.Native.Nat.{ℕ, zero, suc, _+_, _*_, _/_, _^_, _≤_, _<_}
@@ -22,7 +22,8 @@ use Rattle.table.proofs.Grown.{lt-or-le}
 use Rattle.table.proofs.Theorem.{tree-formed, bytes-tree}
 use Rattle.demands.proofs.Placed.{At, at-all, at-drop}
 use Rattle.decoder.proofs.Chosen.{by-decoded, by-trees}
-use Rattle.demands.proofs.Answers.{accepted, after-is, no-packets}
+use Rattle.decoder.proofs.Answers.{no-packets}
+use Rattle.demands.proofs.Answers.{accepted, after-is}
 use Rattle.demands.proofs.Counts.{records-hold-udp, records-hold-tcp, records-hold-vec}
 use Rattle.demands.proofs.EncodableArgs.{Sound, NodeSound, sound-nil, sound-node}
 use Rattle.demands.proofs.EncodablePackets.{OutSound, packet-sound}
@@ -102,8 +103,8 @@ module _ (rule : List ℕ → Whole) (limit : ℕ) (msg : List ℕ) (F : Forest)
   within : (capacity : ℕ) {count left : ℕ} → decoded rule capacity limit msg ≡ Packets count left → InLimits limit msg F
   within capacity {count} {left} =
       let P : Decoded → Type 0 = λ r. r ≡ Packets count left → InLimits limit msg F in
-      by-decoded P rule capacity limit msg (λ _. no-packets) (λ _. no-packets)
-      (λ h k. rw e (by-trees P capacity limit F n (λ _. no-packets) (λ _. no-packets) (λ d c q. record { limits = h; short = k; shallow = d })))
+      by-decoded P rule capacity limit msg (λ _ q. no-packets (sym q)) (λ _ q. no-packets (sym q))
+      (λ h k. rw e (by-trees P capacity limit F n (λ _ q. no-packets (sym q)) (λ _ q. no-packets (sym q)) (λ d c q. record { limits = h; short = k; shallow = d })))
 
   -- there are no more nodes than bytes, since so many records always hold them
   few : RecordsHold rule → InLimits limit msg F → size F ≤ length msg

@@ -19,7 +19,8 @@ use Rattle.demands.specs.Words.{Bytes}
 use Rattle.number.proofs.Choices.{by-test, by-le}
 use Rattle.number.proofs.Numbers.{number-small}
 use Rattle.text.proofs.Within.{found-in}
-use Rattle.demands.proofs.Placed.{At, at-take, at-on, at-bytes, bytes-drop}
+use Rattle.number.proofs.Parts.{drop-small}
+use Rattle.demands.proofs.Placed.{At, at-take, at-on, at-bytes}
 use Rattle.demands.proofs.EncodableArgs.{Sound, NodeSound, sound-nil, sound-node, text-range, args-sound}
 
 -- ---- what was read is sound
@@ -69,7 +70,7 @@ module _ {s : List ℕ} (small : Bytes s) (low : length s < 256 ^ 4) (base : ℕ
       with-elements : (x : Elements) → ElementsSound s x → OutSound s (bundleWith (number 4 l) (number 4 (drop 4 l)) x)
       with-elements (upto f used) w =
           let b = at-bytes small at in
-          record { rules = refl; range = refl; may = refl; low = (number-small 4 l b, number-small 4 (drop 4 l) (bytes-drop 4 l b)); in-sound = w }
+          record { rules = refl; range = refl; may = refl; low = (number-small 4 l b, number-small 4 (drop 4 l) (drop-small 4 l b)); in-sound = w }
 
   -- ---- packets
 

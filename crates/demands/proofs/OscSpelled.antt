@@ -25,7 +25,7 @@ use Rattle.demands.specs.Osc10.{Atom, word, long, bare, string, blob, ch
 use Rattle.demands.specs.Standards.{Spelled}
 use Rattle.utf8.proofs.Grammar.{octets}
 use Rattle.encoder.proofs.Lengths.{packet-even, length-string, length-blob}
-use Rattle.demands.proofs.Placed.{bytes-take, bytes-drop}
+use Rattle.number.proofs.Parts.{take-small, drop-small}
 use Rattle.demands.proofs.OscTags.{of-among, HasTag, HasSort, has-sort}
 
 no-way : {A : Type 0} → false ≡ true → A
@@ -114,7 +114,7 @@ module _ (source : List ℕ) (small : Bytes source) where
       record {
         value = blob (part source a b);
         tag = sym t;
-        allowed = bytes-take b (drop a source) (bytes-drop a source small);
+        allowed = take-small b (drop a source) (drop-small a source small);
         fields = is-blob (record { lies = leb-true (a + b) (length source) (rw t at g); holds = refl });
         spells = as-blob (blob-spelled (part source a b));
       }

@@ -1,10 +1,11 @@
 -- Parts of an input that stand at a position: their parts, and the ranges that they are. Assumes nothing.
 use mathlib.Core.Path.{_≡_, refl, sym, ap, _∙_}
-use mathlib.Core.List.{List, [], _∷_, _++_, append-assoc, append-nil}
-use Prim.Native.Nat.{ℕ, zero, suc, _+_, _≤_}
+use mathlib.Core.List.{List, [], _++_, append-assoc, append-nil}
+use Prim.Native.Nat.{ℕ, _+_, _≤_}
 use native.Mathlib.Omega.{arith}
 use lib.ListN.{length, take, drop, length-append, take-append-drop}
-use lib.Seq.{take-at, drop-at, drop-drop, getD-drop, length-take-le}
+use lib.Seq.{take-at, drop-at, drop-drop, length-take-le}
+use Rattle.number.proofs.Parts.{take-small, drop-small}
 use Rattle.demands.specs.Words.{Bytes}
 use Rattle.demands.specs.Osc10.{Range}
 
@@ -54,17 +55,6 @@ at-on base p n k h =
     let e : base + p + n ≡ base + (p + n) = omega arith in
     rw e at (at-drop n k h)
 
--- ---- a part of bytes is bytes
-
-pub bytes-take : (n : ℕ) (l : List ℕ) → Bytes l → Bytes (take n l)
-bytes-take zero l h i = omega arith
-bytes-take (suc n) [] h i = omega arith
-bytes-take (suc n) (x ∷ l) h zero = h 0
-bytes-take (suc n) (x ∷ l) h (suc i) = bytes-take n l (λ j. h (suc j)) i
-
-pub bytes-drop : (n : ℕ) (l : List ℕ) → Bytes l → Bytes (drop n l)
-bytes-drop n l h i = rw getD-drop (h (n + i))
-
 -- what stands in bytes is bytes
 pub at-bytes : {s : List ℕ} {q : ℕ} {l : List ℕ} → Bytes s → At s q l → Bytes l
-at-bytes {s} {q} {l} h at = rw (range-at at .holds) at (bytes-take (length l) (drop q s) (bytes-drop q s h))
+at-bytes {s} {q} {l} h at = rw (range-at at .holds) at (take-small (length l) (drop q s) (drop-small q s h))

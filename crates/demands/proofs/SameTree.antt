@@ -72,7 +72,7 @@ module _ {s s' : List ℕ} where
     same-forest none h no-packet no-packet = words.Same.none
     same-forest (also P Ps) h (packet x r) (packet x' r') = same-tree P (h .0) x x' (same-forest Ps (h .1) r r')
 
--- ---- the same tree has the same size and depth
+-- ---- the same tree has the same size
 
 pub same-size : {s s' : List ℕ} {F G : Forest} → Same s s' F G → size F ≡ size G
 unfolding size

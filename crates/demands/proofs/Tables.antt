@@ -14,7 +14,7 @@ use Rattle.demands.specs.Words as words
 use Rattle.number.proofs.Numbers.{number-small}
 use Rattle.table.proofs.Spanned.{spans-size}
 use Rattle.table.proofs.Grown.{lt-or-le}
-use Rattle.demands.proofs.Placed.{bytes-drop}
+use Rattle.number.proofs.Parts.{drop-small}
 use Rattle.demands.proofs.SameTree.{same-size}
 
 -- the fields of a record of bytes fit
@@ -22,7 +22,7 @@ pub spans-fit : (t : List ℕ) → Bytes t → (lo hi : ℕ) (F : Forest) → Sp
 unfolding Spans FieldsFit aAt bAt
 spans-fit t small lo hi nil s = tt
 spans-fit t small lo hi (node k a b inside rest) s =
-    let fit : (n : ℕ) → _ = λ n. number-small 4 (drop n t) (bytes-drop n t small) in (
+    let fit : (n : ℕ) → _ = λ n. number-small 4 (drop n t) (drop-small n t small) in (
       rw (← s .1) (fit (startOf lo + 8)),
       rw (← s .2) (fit (startOf lo + 12)),
       spans-fit t small (lo + 1) (endAt t lo) inside (s .3),

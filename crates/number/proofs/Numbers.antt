@@ -9,8 +9,9 @@ use native.Mathlib.Omega.{arith}
 use lib.Dec.{lit<}
 use lib.Arith.{digits-div, digits-mod}
 use lib.ListN.{length, take, drop, getD, set, length-append, length-drop, take-append-drop}
-use lib.Seq.{drop-cons, take-add, set-split, drop-at, drop-drop, take-at, take-append-seam, append-snoc, length-take-le, getD-drop}
+use lib.Seq.{drop-cons, take-add, set-split, drop-at, drop-drop, take-at, take-append-seam, append-snoc, length-take-le}
 use Rattle.number.specs.Number.{from, number, bytes}
+use Rattle.number.proofs.Parts.{take-small, drop-small}
 
 -- ---- writing: one byte more, from the last to the first
 pub write-on : (out : List ℕ) (i j x : ℕ) → i ≡ j + 1 → j < length out
@@ -102,19 +103,12 @@ pub written-read : (s more : List ℕ) → ((i : ℕ) → getD s i 0 < 256) → 
 unfolding bytes number
 written-read s more h = rw (take-append-seam s more) (rw zero-add at (bytes-from s 0 0 h))
 
-take-small : (n : ℕ) (l : List ℕ) → ((i : ℕ) → getD l i 0 < 256) → (i : ℕ) → getD (take n l) i 0 < 256
-take-small zero l h i = omega arith
-take-small (suc n) [] h i = omega arith
-take-small (suc n) (x ∷ l) h zero = h 0
-take-small (suc n) (x ∷ l) h (suc i) = take-small n l (λ j. h (suc j)) i
-
 -- the bytes from p to q are those of the number that they stand for
 pub number-bytes : (t : List ℕ) → ((i : ℕ) → getD t i 0 < 256) → (n p q : ℕ) → p + n ≡ q → q ≤ length t
     → drop p t ≡ bytes n (number n (drop p t)) ++ drop q t
 number-bytes t small n p q e h =
     let s = take n (drop p t) in
     let l : length s ≡ n = length-take-le n (drop p t) (omega (arith, length-drop p t)) in
-    let f : (i : ℕ) → getD (drop p t) i 0 < 256 = λ i. rw getD-drop (small (p + i)) in
     let w : bytes n (number n (drop p t)) ≡ s
-    = rw (l, take-append-drop) at (written-read s (drop n (drop p t)) (take-small n (drop p t) f)) in
+    = rw (l, take-append-drop) at (written-read s (drop n (drop p t)) (take-small n (drop p t) (drop-small p t small))) in
     rw (w, ← e, ← drop-drop) (sym (take-append-drop n (drop p t)))

@@ -1,10 +1,10 @@
--- Parts of a slice, as they are lent and as they come back. Assumes nothing.
+-- Parts of a slice, as they are lent and as they come back; and a part of bytes is bytes. Assumes nothing.
 use mathlib.Core.Path.{_≡_, ap, _∙_}
-use mathlib.Core.List.{List, [], _++_, append-nil}
-use Prim.Native.Nat.{ℕ, _+_, _-_, _≤_}
+use mathlib.Core.List.{List, [], _∷_, _++_, append-nil}
+use Prim.Native.Nat.{ℕ, zero, suc, _+_, _-_, _<_, _≤_}
 use native.Mathlib.Omega.{arith}
-use lib.ListN.{length, take, drop, length-drop, length-take, drop-of-length-le}
-use lib.Seq.{take-all}
+use lib.ListN.{length, getD, take, drop, length-drop, length-take, drop-of-length-le}
+use lib.Seq.{take-all, getD-drop}
 use borrow.Rule.Slice.PartMut.{midOf, putMid}
 
 -- `&s[k..]` is what is left after k bytes
@@ -28,3 +28,14 @@ length-lent s k = rw lent (length-drop k s)
 -- n bytes from a place on, if they are there
 pub length-part : (s : List ℕ) (at n : ℕ) → at + n ≤ length s → length (take n (drop at s)) ≡ n
 length-part s at n h = simp (length-take, length-drop) (omega arith)
+
+-- ---- a part of bytes is bytes
+
+pub take-small : (n : ℕ) (l : List ℕ) → ((i : ℕ) → getD l i 0 < 256) → (i : ℕ) → getD (take n l) i 0 < 256
+take-small zero l h i = omega arith
+take-small (suc n) [] h i = omega arith
+take-small (suc n) (x ∷ l) h zero = h 0
+take-small (suc n) (x ∷ l) h (suc i) = take-small n l (λ j. h (suc j)) i
+
+pub drop-small : (n : ℕ) (l : List ℕ) → ((i : ℕ) → getD l i 0 < 256) → (i : ℕ) → getD (drop n l) i 0 < 256
+drop-small n l h i = rw getD-drop (h (n + i))

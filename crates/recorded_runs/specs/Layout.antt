@@ -15,6 +15,7 @@ pub record Ends (s : List ℕ) (at e : ℕ) : Type 0 where
   pub here : e ≡ at + 4 + be 4 (drop at s)
   pub within : e ≤ length s
 
+-- an end that was found; nothing is said where there is none
 abbrev pub EndIn : List ℕ → ℕ → End → Type 0
 EndIn s at (At e) = Ends s at e
 EndIn s at Damaged = Unit
@@ -31,6 +32,7 @@ pub record Laid (s : List ℕ) (c : Case) : Type 0 where
   pub due : c .due ≡ be 8 (drop (c .second) s)
   pub written : Ends s (c .second + 8) (c .end)
 
+-- a case that was found; nothing is said where there is none
 abbrev pub CaseIn : List ℕ → Found → Type 0
 CaseIn s (Whole c) = Laid s c
 CaseIn s Broken = Unit

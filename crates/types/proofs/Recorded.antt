@@ -1,10 +1,9 @@
--- A record as it is written and as it is read. Assumes nothing.
+-- A record as it is written and as it is read, and how many bytes the records of a forest take. Assumes nothing.
 use mathlib.Core.Path.{_≡_, refl}
 use mathlib.Core.List.{List, [], _∷_, _++_, append-assoc}
 use Prim.Native.Nat.{ℕ, _+_, _-_, _*_, _%_, _^_, _<_, _≤_}
 use native.Mathlib.Omega.{arith}
 use lib.ListN.{length, getD, set, drop, length-append}
-use lib.Seq.{getD-drop}
 use borrow.Rule.Slice.PartMut.{midOf, putMid}
 use Rattle.number.specs.Number.{number, bytes}
 use Rattle.number.specs.Wrote.{Wrote}
@@ -12,6 +11,7 @@ use Rattle.types.specs.Records.{recordSize, recordOf, recordsOf, kindAt,
 use Rattle.types.specs.declared.record.Record.{Record}
 use Rattle.types.specs.Forest.{Forest, nil, node, size}
 use Rattle.number.proofs.Numbers.{length-bytes, number-parts, number-small}
+use Rattle.number.proofs.Parts.{drop-small}
 use Rattle.number.proofs.Writers.{wrote-none, wrote-set, wrote-lent}
 
 -- a kind and three zeros, byte by byte
@@ -51,7 +51,7 @@ unfolding zerosAt
 zeros-read t i b h =
     let p : number 4 (drop (startOf i) t) ≡ number 1 (drop (startOf i) t) * 256 ^ 3 + number 3 (drop (startOf i + 1) t)
     = number-parts 1 3 t (startOf i) h in
-    let s : number 3 (drop (startOf i + 1) t) < 256 ^ 3 = number-small 3 (drop (startOf i + 1) t) (λ j. rw getD-drop (b (startOf i + 1 + j))) in
+    let s : number 3 (drop (startOf i + 1) t) < 256 ^ 3 = number-small 3 (drop (startOf i + 1) t) (drop-small (startOf i + 1) t b) in
     omega arith
 
 -- a record, field by field
@@ -59,7 +59,6 @@ pub record-read : (t : List ℕ) (i : ℕ) {z e a b : ℕ} → z ≡ zerosAt t i
     → _≡_ {A = Record} (record { kind = kindAt t i; zeros = z; end = e; a = a; b = b }) (recordAt t i)
 record-read t i p q r s = rw (p, q, r, s)
 
--- how many bytes the records of a forest take
 pub length-records : (i : ℕ) (f : Forest) → length (recordsOf i f) ≡ recordSize * size f
 unfolding recordsOf size
 length-records i nil = refl

@@ -1,6 +1,6 @@
 -- `decoder::frames::decode_frame` meets its contract. What is written of the packet after the prefix.
 -- Assumes nothing.
-use Rattle.decoder.proofs.Listed.{frame-room, frame-fills, waits-nothing, short-nothing}
+use Rattle.decoder.proofs.FrameFills.{frame-room, frame-fills, waits-nothing, short-nothing}
 use Rattle.decoder.proofs.Fills.{fills-none}
 use Rattle.decoder.proofs.Prefixes.{prefix-in}
 use Rattle.number.proofs.Parts.{tail}

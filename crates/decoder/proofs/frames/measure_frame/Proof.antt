@@ -1,6 +1,6 @@
 -- `decoder::frames::measure_frame` meets its contract. The extent of the packet after the prefix, whose position is 4.
 -- Assumes nothing.
-use Rattle.decoder.proofs.Lists.{frame-by-packet, frame-waits, frame-runs-out}
+use Rattle.decoder.proofs.FrameExtents.{frame-by-packet, frame-waits, frame-runs-out}
 use Rattle.decoder.proofs.Prefixes.{prefix-in}
 use Rattle.number.proofs.Parts.{tail}
 use native.Mathlib.Omega.{arith}

@@ -1,7 +1,7 @@
 -- `decoder::frames::measure_tcp` meets its contract. The total of one frame.
 -- Assumes nothing.
 use Rattle.decoder.proofs.Answers.{tcp-total}
-use Rattle.decoder.proofs.Lists.{tree-frame-in}
+use Rattle.decoder.proofs.FrameExtents.{tree-frame-in}
 use native.Mathlib.Omega.{arith}
 use mathlib.Core.Path.{sym, _∙_}
 use borrow.Author.Needs.{needs}

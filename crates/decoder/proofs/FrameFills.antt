@@ -4,7 +4,7 @@ use mathlib.Core.List.{List, [], _∷_}
 use Prim.Native.Nat.{ℕ, _+_, _-_, _*_, _<_, _≤_}
 use native.Mathlib.Nat.{zero-add}
 use native.Mathlib.Omega.{arith}
-use lib.ListN.{length, take, drop, length-drop, take-append-drop}
+use lib.ListN.{length, take, drop, length-drop}
 use lib.Seq.{drop-drop}
 use borrow.Rule.Slice.PartMut.{midOf, putMid}
 use Rattle.refusal.specs.declared.Fault.the-variants as faults
@@ -20,8 +20,8 @@ use Rattle.decoder.specs.declared.heads.Prefix.the-variants as prefix
 use Rattle.decoder.specs.declared.fill.Filled.{Filled}
 use Rattle.decoder.specs.declared.fill.Filled.the-variants.{Wrote, Nothing}
 use Rattle.decoder.proofs.Prefixes.{prefixed, frame-prefix, FrameIn, frame-in}
-use Rattle.decoder.proofs.Lists.{remaining, remaining-list, remaining-none, frames-by, frames-tree}
-use Rattle.decoder.proofs.Stored.{stored-nil, completed, length-completed, lent-stored, completed-turn}
+use Rattle.decoder.proofs.FrameExtents.{remaining, remaining-list, remaining-none, frames-by, frames-tree}
+use Rattle.decoder.proofs.Stored.{completed, length-completed, completed-nil, lent-stored, completed-turn}
 
 -- the second reading of a frame: its packet stands at 4
 filled-framed : (o : Out) → filled 4 o ≡ filled 0 (framePacket (framed o))
@@ -67,9 +67,6 @@ forest-before : (k a b : ℕ) (f : Forest) (w : Whole) → Accepted (before k a 
 forest-before k a b f (trees g left) h = refl
 forest-before k a b f waiting h = absurd h
 forest-before k a b f (refusal j) h = absurd h
-
-completed-nil : (T : List ℕ) (c j : ℕ) → completed T c j nil ≡ T
-completed-nil T c j = rw (stored-nil j (drop (recordSize * c) T)) (take-append-drop (recordSize * c) T)
 
 -- the frames of msg are written to T, which was T₀: c records have their place, and the frames from `at` on are left
 pub record Listing (msg T₀ T : List ℕ) (at c : ℕ) : Type 0 where
