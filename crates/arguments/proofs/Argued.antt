@@ -80,7 +80,8 @@ module _ (l : List ℕ) where
     unfolding argOf
     blob-short h = rw (lt-leb 4 (length l) h)
 
-    pub blob-lacks : {n : ℕ} → 4 ≤ length l → n ≡ number 4 l → length l < (p + 4 + n + 3) / 4 * 4 - p → Refused RunsOut ≡ argOf Blob base l p
+    pub blob-lacks : {n : ℕ} → 4 ≤ length l → n ≡ number 4 l → length l < (p + 4 + n + 3) / 4 * 4 - p
+        → Refused RunsOut ≡ argOf Blob base l p
     unfolding argOf
     blob-lacks {n} h e k = rw (le-leb 4 (length l) h, ← e, lt-leb (reach p (4 + n)) (length l) (rw reached at k))
 

@@ -54,7 +54,8 @@ outcome-act (Leaf class) go goS base tag l p frame below h =
     outcome-taken _ _ tag l p frame (argOf class base l p) (λ m q f. h m q f below)
     ∙ ap (passed (λ m q. goS m q (length below)) l p) (any-base class base 0 l p)
 
-scan-law : (base : ℕ) (ts l : List ℕ) (p : ℕ) (frame : Forest) (below : List Forest) → outcome (readArgs base ts l p frame below) ≡ scan ts l p (length below)
+scan-law : (base : ℕ) (ts l : List ℕ) (p : ℕ) (frame : Forest) (below : List Forest)
+    → outcome (readArgs base ts l p frame below) ≡ scan ts l p (length below)
 unfolding readArgs scan
 scan-law base [] l p frame below = refl
 scan-law base (t ∷ ts) l p frame below = outcome-act (sortOf t) _ _ base t l p frame below (λ m q f b. scan-law base ts m q f b)
@@ -90,7 +91,8 @@ total-closes : (k : Back) (f g : Forest) (b : List Forest) → total k (snoc g 9
 total-closes (Cut n c) f g b = refl
 total-closes (Whole n c) f g b = omega (arith, size-snoc g 91 0 0 f)
 
-total-leaf : (class : Class) (k : Back) (f : Forest) (b : List Forest) (j x y : ℕ) → total k (snoc f j x y nil) b ≡ total (before (Leaf class) k) f b
+total-leaf : (class : Class) (k : Back) (f : Forest) (b : List Forest) (j x y : ℕ)
+    → total k (snoc f j x y nil) b ≡ total (before (Leaf class) k) f b
 unfolding size
 total-leaf class (Cut n c) f b j x y = refl
 total-leaf class (Whole n c) f b j x y = omega (arith, size-snoc f j x y nil)
@@ -109,7 +111,8 @@ counts-act (Leaf class) k go base tag l p frame below h = by-arg (argOf class ba
         counts-later (total (before (Leaf class) k) frame below) used (go (drop used l) (p + used) (snoc frame tag a b nil) below)
         (rw (total-leaf class k frame below tag a b) at (h (drop used l) (p + used) (snoc frame tag a b nil) below))
 
-counts-law : (base : ℕ) (ts l : List ℕ) (p : ℕ) (frame : Forest) (below : List Forest) → Counts (total (back ts) frame below) (readArgs base ts l p frame below)
+counts-law : (base : ℕ) (ts l : List ℕ) (p : ℕ) (frame : Forest) (below : List Forest)
+    → Counts (total (back ts) frame below) (readArgs base ts l p frame below)
 unfolding readArgs back
 counts-law base [] l p frame below = omega arith
 counts-law base (t ∷ ts) l p frame below = counts-act (sortOf t) (back ts) _ base t l p frame below (λ m q f b. counts-law base ts m q f b)
@@ -130,7 +133,8 @@ args-counted base ts l p = rw (total-none (back ts)) at (counts-law base ts l p 
 
 -- ---- the first reading
 
-pub measured-refused : {fault : Fault} (base : ℕ) (ts l : List ℕ) (p : ℕ) → Refused fault ≡ scan ts l p 0 → measure.Refused fault ≡ measured (argsOf base ts l p)
+pub measured-refused : {fault : Fault} (base : ℕ) (ts l : List ℕ) (p : ℕ) → Refused fault ≡ scan ts l p 0
+    → measure.Refused fault ≡ measured (argsOf base ts l p)
 unfolding measured
 measured-refused {fault} base ts l p e = by-out (argsOf base ts l p) (e ∙ sym (scan-law base ts l p nil []))
   where
@@ -180,7 +184,8 @@ used-later n l (refused fault) h w = tt
 used-later n l (args kept used) h w = omega (arith, length-drop n l)
 
 used-act : (s : Sort) (go : List ℕ → ℕ → Forest → List Forest → Args) (base tag : ℕ) (l : List ℕ) (p : ℕ) (frame : Forest) (below : List Forest)
-    → ((m : List ℕ) (q : ℕ) (f : Forest) (b : List Forest) → UsedIn (length m) (go m q f b)) → UsedIn (length l) (act s go base tag l p frame below)
+    → ((m : List ℕ) (q : ℕ) (f : Forest) (b : List Forest) → UsedIn (length m) (go m q f b))
+    → UsedIn (length l) (act s go base tag l p frame below)
 used-act Opens go base tag l p frame below h = h l p nil (frame ∷ below)
 used-act Closes go base tag l p frame [] h = tt
 used-act Closes go base tag l p frame (outer ∷ below) h = h l p (snoc outer 91 0 0 frame) below
@@ -207,7 +212,8 @@ pub measured-within : {count used : ℕ} (base : ℕ) (ts l : List ℕ) (p : ℕ
 unfolding measured
 measured-within {count} {used} base ts l p e = by-out (argsOf base ts l p) e (kept-few base ts l p) (used-law base ts l p nil [])
   where
-    by-out : (o : Args) → measure.Kept count used ≡ measured o → size (keptOf o) ≤ length ts → UsedIn (length l) o → (count ≤ length ts) × (used ≤ length l)
+    by-out : (o : Args) → measure.Kept count used ≡ measured o → size (keptOf o) ≤ length ts → UsedIn (length l) o
+        → (count ≤ length ts) × (used ≤ length l)
     by-out (refused fault) e k w = let z : _≡_ {A = ℕ} 0 1 = cc in absurd (omega arith)
     by-out (args kept u) e k w = let z : count ≡ size kept = cc in let y : used ≡ u = cc in (omega arith, omega arith)
 

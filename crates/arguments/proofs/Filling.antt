@@ -79,7 +79,8 @@ link-le : (frame : Forest) (below : List Forest) → link below ≤ held frame b
 link-le frame [] = omega arith
 link-le frame (f ∷ below) = omega arith
 
-held-snoc : (frame : Forest) (below : List Forest) (k a b : ℕ) (g : Forest) → held (snoc frame k a b g) below ≡ held frame below + 1 + size g
+held-snoc : (frame : Forest) (below : List Forest) (k a b : ℕ) (g : Forest)
+    → held (snoc frame k a b g) below ≡ held frame below + 1 + size g
 held-snoc frame [] k a b g = size-snoc frame k a b g
 held-snoc frame (f ∷ below) k a b g = omega (arith, size-snoc frame k a b g)
 
@@ -161,7 +162,8 @@ module _ {base : ℕ} {F : Forest} {i E : ℕ} {T₀ T ts m : List ℕ} {q n top
   pub room-opens : Opens ≡ sortOf (getD ts 0 0) → (top ≤ n) × (i + n + 1 ≤ 65535) × (recordSize * n + recordSize ≤ length T)
   room-opens e = one-more (omega (arith, has-opens e .one, w .count))
 
-  pub room-leaf : {class : Class} → Leaf class ≡ sortOf (getD ts 0 0) → (top ≤ n) × (i + n + 1 ≤ 65535) × (recordSize * n + recordSize ≤ length T)
+  pub room-leaf : {class : Class} → Leaf class ≡ sortOf (getD ts 0 0)
+      → (top ≤ n) × (i + n + 1 ≤ 65535) × (recordSize * n + recordSize ≤ length T)
   room-leaf e = one-more (omega (arith, has-leaf e .one, w .count))
 
   pub room-closes : Closes ≡ sortOf (getD ts 0 0) → (1 ≤ top) × ((top ≤ n) × (i + n ≤ 65535) × (recordSize * n ≤ length T))
@@ -230,7 +232,8 @@ module _ {base : ℕ} {F : Forest} {i E : ℕ} {T₀ T ts m : List ℕ} {q n top
       })
 
   pub filling-closes : {T′ : List ℕ} {r : ℕ} → Closes ≡ sortOf (getD ts 0 0) → r ≡ endAt T (top - 1)
-      → Wrote (take (recordSize * (top - 1) + 4) T ++ bytes 4 (i + n)) T T′ → Filling base F i E T₀ T′ (take (length ts - 1) (drop 1 ts)) m q n r
+      → Wrote (take (recordSize * (top - 1) + 4) T ++ bytes 4 (i + n)) T T′
+      → Filling base F i E T₀ T′ (take (length ts - 1) (drop 1 ts)) m q n r
   filling-closes {T′} {r} e er v =
       by-below (w .below) (has-closes e .0) (has-closes e .1) (turned e) (w .place) (w .linked) (w .table)
     where
@@ -272,13 +275,15 @@ module _ {base : ℕ} {F : Forest} {i E : ℕ} {T₀ T ts m : List ℕ} {q n top
       let z : _≡_ {A = ℕ} 0 1 = cc in omega arith
 
 -- where no tag is left, the frame is all, and none waits below it
-ended : (base : ℕ) (ts m : List ℕ) (q : ℕ) {frame F : Forest} {used d c : ℕ} (below : List Forest) → length ts ≤ 0 → readArgs base ts m q frame below ≡ args F used
+ended : (base : ℕ) (ts m : List ℕ) (q : ℕ) {frame F : Forest} {used d c : ℕ} (below : List Forest) → length ts ≤ 0
+    → readArgs base ts m q frame below ≡ args F used
     → back ts ≡ Whole d c → (frame ≡ F) × (d ≡ 0)
 unfolding readArgs back
 ended base (t ∷ ts) m q below h r a = absurd (omega arith)
 ended base [] m q {frame} {F} {used} {d} {c} below h r a = (cc, cc)
 
-pub filling-done : {base : ℕ} {F : Forest} {i E : ℕ} {T₀ T ts m : List ℕ} {q n top : ℕ} → Filling base F i E T₀ T ts m q n top → length ts ≤ 0
+pub filling-done : {base : ℕ} {F : Forest} {i E : ℕ} {T₀ T ts m : List ℕ} {q n top : ℕ} → Filling base F i E T₀ T ts m q n top
+    → length ts ≤ 0
     → Wrote (recordsOf i F) T₀ T
 filling-done {base} {F} {i} {E} {T₀} {T} {ts} {m} {q} w h =
     let e = ended base ts m q (w .below) h (w .reads) (w .ahead) in

@@ -49,7 +49,8 @@ layout-leaf i frame below k a b =
     let e : i + held frame below + 1 + 0 ≡ i + held frame below + 1 = omega arith in
     layout-snoc i frame below k a b nil ∙ rw (e, append-nil (recordOf k (i + held frame below + 1) a b))
 
-pub layout-open : (i : ℕ) (frame : Forest) (below : List Forest) → layout i nil (frame ∷ below) ≡ layout i frame below ++ recordOf 91 (link below) 0 0
+pub layout-open : (i : ℕ) (frame : Forest) (below : List Forest)
+    → layout i nil (frame ∷ below) ≡ layout i frame below ++ recordOf 91 (link below) 0 0
 unfolding recordsOf
 layout-open i frame below = rw (append-nil (recordOf 91 (link below) 0 0))
 
@@ -64,12 +65,14 @@ behind i frame f below = (bytes 4 0 ++ bytes 4 0) ++ recordsOf (i + held f below
 pub length-front : (i : ℕ) (f : Forest) (below : List Forest) → length (front i f below) ≡ recordSize * held f below + 4
 length-front i f below = length-append (layout i f below) (91 ∷ 0 ∷ 0 ∷ 0 ∷ []) ∙ ap (λ (n : ℕ). n + 4) (length-layout i f below)
 
-apart : (end : ℕ) (l r : List ℕ) → l ++ (recordOf 91 end 0 0 ++ r) ≡ (l ++ (91 ∷ 0 ∷ 0 ∷ 0 ∷ [])) ++ (bytes 4 end ++ ((bytes 4 0 ++ bytes 4 0) ++ r))
+apart : (end : ℕ) (l r : List ℕ)
+    → l ++ (recordOf 91 end 0 0 ++ r) ≡ (l ++ (91 ∷ 0 ∷ 0 ∷ 0 ∷ [])) ++ (bytes 4 end ++ ((bytes 4 0 ++ bytes 4 0) ++ r))
 unfolding recordOf
 apart end l r = simp append-assoc
 
 -- an array that is open holds the link
-pub while-open : (i : ℕ) (frame f : Forest) (below : List Forest) → layout i frame (f ∷ below) ≡ front i f below ++ (bytes 4 (link below) ++ behind i frame f below)
+pub while-open : (i : ℕ) (frame f : Forest) (below : List Forest)
+    → layout i frame (f ∷ below) ≡ front i f below ++ (bytes 4 (link below) ++ behind i frame f below)
 while-open i frame f below = apart (link below) (layout i f below) (recordsOf (i + held f below + 1) frame)
 
 -- an array that is closed holds its end, and is else the same
@@ -82,7 +85,8 @@ once-closed i frame f below =
     layout-snoc i f below 91 0 0 frame
     ∙ rw (append-nil r, e) (apart (i + held frame (f ∷ below)) (layout i f below) r)
 
-pub link-there : (i : ℕ) (frame f : Forest) (below : List Forest) {o₀ o : List ℕ} → Wrote (layout i frame (f ∷ below)) o₀ o → link below < 256 ^ 4
+pub link-there : (i : ℕ) (frame f : Forest) (below : List Forest) {o₀ o : List ℕ} → Wrote (layout i frame (f ∷ below)) o₀ o
+    → link below < 256 ^ 4
     → endAt o (held f below) ≡ link below
 unfolding endAt
 link-there i frame f below {o₀} {o} w h =

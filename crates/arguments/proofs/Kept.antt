@@ -81,7 +81,8 @@ Closed (Whole n c) m = n ≤ m
 Closed (Cut n c) m = ⊥
 
 under-act : (s : Sort) (k : Back) (go : List ℕ → ℕ → Forest → List Forest → Args) (base tag : ℕ) (l : List ℕ) (p : ℕ) (frame : Forest) (A B : List Forest)
-    → ((m : List ℕ) (q : ℕ) (f : Forest) (A : List Forest) → Closed k (length A) → go m q f (A ++ B) ≡ go m q f A) → Closed (before s k) (length A)
+    → ((m : List ℕ) (q : ℕ) (f : Forest) (A : List Forest) → Closed k (length A) → go m q f (A ++ B) ≡ go m q f A)
+    → Closed (before s k) (length A)
     → act s go base tag l p frame (A ++ B) ≡ act s go base tag l p frame A
 under-act Opens (Cut n c) go base tag l p frame A B h w = absurd w
 under-act Opens (Whole zero c) go base tag l p frame A B h w = absurd w
@@ -131,7 +132,8 @@ abbrev Cuts : ℕ → List ℕ → Type 0
 Cuts base ts = (l : List ℕ) (p : ℕ) (frame : Forest) (below : List Forest) (n c : ℕ) → back ts ≡ Cut n c → Accepted (readArgs base ts l p frame below)
     → Keeps base (scan (take n ts) l p (length below)) (readArgs base ts l p frame below) (drop n ts) l p
 
-cut-act : (s : Sort) (k : Back) (base tag : ℕ) (ts l : List ℕ) (p : ℕ) (frame : Forest) (below : List Forest) (n c : ℕ) → Cuts base ts → back ts ≡ k
+cut-act : (s : Sort) (k : Back) (base tag : ℕ) (ts l : List ℕ) (p : ℕ) (frame : Forest) (below : List Forest) (n c : ℕ)
+    → Cuts base ts → back ts ≡ k
     → before s k ≡ Cut (suc n) c → Accepted (act s (λ m q f b. readArgs base ts m q f b) base tag l p frame below)
     → Keeps base (turn s (λ m q i. scan (take n ts) m q i) l p (length below)) (act s (λ m q f b. readArgs base ts m q f b) base tag l p frame below) (drop n ts) l p
 unfolding scan
@@ -234,6 +236,7 @@ module _ (base : ℕ) (ts l : List ℕ) (p : ℕ) {n c : ℕ} (e : Cut n c ≡ b
           kept = ap keptOf reads-rest ∙ kept-later used (rest base ts l p n used);
         }
 
-pub cut-room : {base : ℕ} {ts l : List ℕ} {p n used index : ℕ} {table : List ℕ} → CutAt base ts l p n used → Room (argsOf base ts l p) index table
+pub cut-room : {base : ℕ} {ts l : List ℕ} {p n used index : ℕ} {table : List ℕ} → CutAt base ts l p n used
+    → Room (argsOf base ts l p) index table
     → Room (rest base ts l p n used) index table
 cut-room k w = record { accepted = k .accepted; fits = rw (k .kept) at (w .fits); low = rw (k .kept) at (w .low) }

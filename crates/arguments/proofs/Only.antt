@@ -13,7 +13,8 @@ use Rattle.arguments.specs.Readings.{measured, keptOf}
 use Rattle.arguments.specs.declared.Arg.{Arg}
 use Rattle.arguments.specs.declared.Measured.{Measured}
 
-pub read-osc-arg-only : (class : Class) (input : List ℕ) (base pos : ℕ) (r s : Arg) → r ≡ argOf class base input pos → s ≡ argOf class base input pos → r ≡ s
+pub read-osc-arg-only : (class : Class) (input : List ℕ) (base pos : ℕ) (r s : Arg) → r ≡ argOf class base input pos
+    → s ≡ argOf class base input pos → r ≡ s
 read-osc-arg-only class input base pos r s = one-outcome
 
 pub measure-osc-args-only : (tags input : List ℕ) (pos : ℕ) (r s : Measured) → ((base : ℕ) → r ≡ measured (argsOf base tags input pos))
@@ -21,5 +22,6 @@ pub measure-osc-args-only : (tags input : List ℕ) (pos : ℕ) (r s : Measured)
 measure-osc-args-only tags input pos r s e f = one-outcome (e 0) (f 0)
 
 pub read-osc-args-only : (tags input : List ℕ) (base pos : ℕ) (table : List ℕ) (index : ℕ) (t u : List ℕ)
-    → Wrote (recordsOf index (keptOf (argsOf base tags input pos))) table t → Wrote (recordsOf index (keptOf (argsOf base tags input pos))) table u → t ≡ u
+    → Wrote (recordsOf index (keptOf (argsOf base tags input pos))) table t
+    → Wrote (recordsOf index (keptOf (argsOf base tags input pos))) table u → t ≡ u
 read-osc-args-only tags input base pos table index t u = wrote-one

@@ -78,7 +78,8 @@ scanning-start tags l pos =
 
 module _ {tags l : List ℕ} {pos : ℕ} {ts m : List ℕ} {at n : ℕ} (w : Scanning tags l pos ts m at n) where
   -- one tag less is left, and n′ arrays are open
-  next : (n′ : ℕ) → 0 < length ts → n′ ≤ n + 1 → scan ts m at n ≡ scan (drop 1 ts) m at n′ → Scanning tags l pos (take (length ts - 1) (drop 1 ts)) m at n′
+  next : (n′ : ℕ) → 0 < length ts → n′ ≤ n + 1 → scan ts m at n ≡ scan (drop 1 ts) m at n′
+      → Scanning tags l pos (take (length ts - 1) (drop 1 ts)) m at n′
   next n′ h k e =
       rw (tail ts 1)
       (record { whole = w .whole ∙ ap (more (at - pos)) e; ends = w .ends; past = w .past; few = omega (arith, length-drop 1 ts, w .few) })
@@ -86,10 +87,12 @@ module _ {tags l : List ℕ} {pos : ℕ} {ts m : List ℕ} {at n : ℕ} (w : Sca
   pub scanning-opens : 0 < length ts → Opens ≡ sortOf (getD ts 0 0) → Scanning tags l pos (take (length ts - 1) (drop 1 ts)) m at (n + 1)
   scanning-opens h e = next (n + 1) h (omega arith) (scan-opens ts m at n h e)
 
-  pub scanning-closes : 0 < length ts → Closes ≡ sortOf (getD ts 0 0) → (n ≡ 0 → ⊥) → Scanning tags l pos (take (length ts - 1) (drop 1 ts)) m at (n - 1)
+  pub scanning-closes : 0 < length ts → Closes ≡ sortOf (getD ts 0 0) → (n ≡ 0 → ⊥)
+      → Scanning tags l pos (take (length ts - 1) (drop 1 ts)) m at (n - 1)
   scanning-closes h e z = next (n - 1) h (omega arith) (scan-closes ts m at n h e z)
 
-  pub scanning-given : {class : Class} {used : ℕ} → 0 < length ts → Leaf class ≡ sortOf (getD ts 0 0) → Used used ≡ usedOf (argOf class 0 m at)
+  pub scanning-given : {class : Class} {used : ℕ} → 0 < length ts → Leaf class ≡ sortOf (getD ts 0 0)
+      → Used used ≡ usedOf (argOf class 0 m at)
       → Scanning tags l pos (take (length ts - 1) (drop 1 ts)) (take (length m - used) (drop used m)) (at + used) n
   scanning-given {class} {used} h e g =
       let sum : at - pos + used ≡ at + used - pos = omega (arith, w .past) in
@@ -106,7 +109,8 @@ module _ {tags l : List ℕ} {pos : ℕ} {ts m : List ℕ} {at n : ℕ} (w : Sca
   pub scanning-none : 0 < length ts → Closes ≡ sortOf (getD ts 0 0) → n ≡ 0 → Refused NotOpen ≡ scan tags l pos 0
   scanning-none h e z = sym (w .whole ∙ ap (more (at - pos)) (scan-none ts m at n h e z))
 
-  pub scanning-refused : {class : Class} {fault : Fault} → 0 < length ts → Leaf class ≡ sortOf (getD ts 0 0) → Refused fault ≡ usedOf (argOf class 0 m at)
+  pub scanning-refused : {class : Class} {fault : Fault} → 0 < length ts → Leaf class ≡ sortOf (getD ts 0 0)
+      → Refused fault ≡ usedOf (argOf class 0 m at)
       → Refused fault ≡ scan tags l pos 0
   scanning-refused h e g = sym (w .whole ∙ ap (more (at - pos)) (scan-refused ts m at n h e g))
 
@@ -149,7 +153,8 @@ module _ {tags : List ℕ} {j n c : ℕ} (w : Looking tags j n c) (h : 0 < j) wh
       rw (drop-cons tags (j - 1) 0 (omega (arith, w .inside)), ← e, later)
 
   -- one tag more was looked at
-  earlier : {s : Sort} (n′ c′ : ℕ) → s ≡ sortOf (getD tags (j - 1) 0) → n′ + c′ ≤ n + c + 1 → before s (Whole n c) ≡ Whole n′ c′ → Looking tags (j - 1) n′ c′
+  earlier : {s : Sort} (n′ c′ : ℕ) → s ≡ sortOf (getD tags (j - 1) 0) → n′ + c′ ≤ n + c + 1 → before s (Whole n c) ≡ Whole n′ c′
+      → Looking tags (j - 1) n′ c′
   earlier n′ c′ e k b = record { inside = omega (arith, w .inside); few = omega (arith, w .few); whole = back-turn e ∙ b }
 
   pub looking-opens : Opens ≡ sortOf (getD tags (j - 1) 0) → (n ≡ 0 → ⊥) → Looking tags (j - 1) (n - 1) (c + 1)

@@ -74,7 +74,8 @@ used-within class base l p e =
     (arg-holds (λ a b used. used ≤ length l) base l p (λ h. h) (λ h. h) (omega arith) (λ n used f. found-in l p f .1) (λ h k. k) class) e
 
 -- its fields fit in 4 bytes
-pub given-fits : {a b used : ℕ} (class : Class) (base : ℕ) (l : List ℕ) (p : ℕ) → ((j : ℕ) → getD l j 0 < 256) → base + p + length l < 256 ^ 4
+pub given-fits : {a b used : ℕ} (class : Class) (base : ℕ) (l : List ℕ) (p : ℕ) → ((j : ℕ) → getD l j 0 < 256)
+    → base + p + length l < 256 ^ 4
     → Given a b used ≡ argOf class base l p → (a < 256 ^ 4) × (b < 256 ^ 4)
 given-fits class base l p bytes low e =
     let P : ℕ → ℕ → ℕ → Type 0 = λ a b used. (a < 256 ^ 4) × (b < 256 ^ 4) in

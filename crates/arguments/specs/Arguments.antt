@@ -1,5 +1,5 @@
 -- The arguments of a message by its tags: document 01, "How bytes are read", rules 2 and 3. Assumes nothing.
--- The crate's loop word for word: a frame that is filled, and the frames that wait below it.
+-- rosc's loop word for word: a frame that is filled, and the frames that wait below it.
 use mathlib.Core.List.{List, [], _∷_}
 use Prim.Native.Nat.{ℕ, _+_}
 use lib.ListN.{drop}
@@ -28,7 +28,8 @@ abbrev pub taken : (List ℕ → ℕ → Forest → Args) → ℕ → List ℕ �
 taken go tag l p frame (arg.Refused fault) = refused fault
 taken go tag l p frame (arg.Given a b used) = later used (go (drop used l) (p + used) (snoc frame tag a b nil))
 
--- what one tag does: [ lets the frame wait and opens a new one, ] puts the frame as an array at the end of the one below, any other is an argument
+-- what one tag does: [ lets the frame wait and opens a new one, ] puts the frame as an array at the end of the one below, any
+-- other is an argument
 abbrev pub act : Sort → (List ℕ → ℕ → Forest → List Forest → Args) → ℕ → ℕ → List ℕ → ℕ → Forest → List Forest → Args
 act Opens go base tag l p frame below = go l p nil (frame ∷ below)
 act Closes go base tag l p frame [] = refused NotOpen

@@ -44,7 +44,8 @@ module _ (rule : List ℕ → Whole) (capacity limit : ℕ) (msg : List ℕ) whe
   unfolding decoded
   length-over h g = rw (decoded, le-leb limit 64 h, lt-leb (length msg) 65535 g)
 
-  pub decoded-is : {r : Total} {x : Decoded} → limit ≤ 64 → length msg ≤ 65535 → x ≡ answered capacity r → r ≡ totalOf limit (rule msg) → x ≡ decoded rule capacity limit msg
+  pub decoded-is : {r : Total} {x : Decoded} → limit ≤ 64 → length msg ≤ 65535 → x ≡ answered capacity r
+      → r ≡ totalOf limit (rule msg) → x ≡ decoded rule capacity limit msg
   unfolding decoded
   decoded-is h g a e = a ∙ ap (answered capacity) e ∙ sym (limited-is capacity limit (rule msg)) ∙ rw (decoded, le-leb limit 64 h, le-leb (length msg) 65535 g)
 
@@ -70,7 +71,8 @@ total-single n limit (fault k) = refl
 total-single n limit (one k a b f u) =
     rw (one-tree k a b f, one-size k a b f, zero-add u) (by-both (λ (x : Extent) (y : Total). ofExtent n x ≡ y) (leb (level k (depth f)) limit) refl refl)
 
-pub udp-total : {r : Extent} (limit : ℕ) (msg : List ℕ) → r ≡ extent limit 0 (packet 0 msg 0) → ofExtent (length msg) r ≡ totalOf limit (udp msg)
+pub udp-total : {r : Extent} (limit : ℕ) (msg : List ℕ) → r ≡ extent limit 0 (packet 0 msg 0)
+    → ofExtent (length msg) r ≡ totalOf limit (udp msg)
 unfolding udp
 udp-total limit msg e = ap (ofExtent (length msg)) e ∙ total-single (length msg) limit (packet 0 msg 0)
 
@@ -86,7 +88,8 @@ total-first n limit (stop k) = refl
 total-first n limit (tree k a b f u) =
     rw (one-tree k a b f, one-size k a b f) (by-both (λ (x : FrameExtent) (y : Total). ofFrame n x ≡ y) (leb (level k (depth f)) limit) refl refl)
 
-pub tcp-total : {r : FrameExtent} (limit : ℕ) (msg : List ℕ) → r ≡ frameExtent limit (frameOf 0 msg) → ofFrame (length msg) r ≡ totalOf limit (tcp msg)
+pub tcp-total : {r : FrameExtent} (limit : ℕ) (msg : List ℕ) → r ≡ frameExtent limit (frameOf 0 msg)
+    → ofFrame (length msg) r ≡ totalOf limit (tcp msg)
 unfolding tcp
 tcp-total limit msg e = ap (ofFrame (length msg)) e ∙ total-first (length msg) limit (frameOf 0 msg)
 
@@ -102,7 +105,8 @@ pub record Fitting (w : Whole) (capacity n : ℕ) : Type 0 where
 pub no-packets : {A : Type 0} {count left : ℕ} {r : Refusal} → Packets count left ≡ Refused r → A
 no-packets e = let z : _≡_ {A = ℕ} 0 1 = cc in absurd (omega arith)
 
-pub packets-fit : {count left : ℕ} (rule : List ℕ → Whole) (capacity limit : ℕ) (msg : List ℕ) → Packets count left ≡ decoded rule capacity limit msg → Fitting (rule msg) capacity (length msg)
+pub packets-fit : {count left : ℕ} (rule : List ℕ → Whole) (capacity limit : ℕ) (msg : List ℕ)
+    → Packets count left ≡ decoded rule capacity limit msg → Fitting (rule msg) capacity (length msg)
 packets-fit {count} {left} rule capacity limit msg e =
     by-decoded (λ (x : Decoded). Packets count left ≡ x → Fitting (rule msg) capacity (length msg)) rule capacity limit msg
     (λ _. no-packets) (λ _. no-packets) (λ _ h. by-whole h (rule msg)) e
@@ -115,7 +119,8 @@ packets-fit {count} {left} rule capacity limit msg e =
         (λ _. no-packets) (λ _. no-packets) (λ _ s _. record { short = h; accepted = tt; fits = s }) i
 
 -- and the count is that of its records
-pub packets-count : {count left : ℕ} (rule : List ℕ → Whole) (capacity limit : ℕ) (msg : List ℕ) → Packets count left ≡ decoded rule capacity limit msg → size (forestOf (rule msg)) ≡ count
+pub packets-count : {count left : ℕ} (rule : List ℕ → Whole) (capacity limit : ℕ) (msg : List ℕ)
+    → Packets count left ≡ decoded rule capacity limit msg → size (forestOf (rule msg)) ≡ count
 packets-count {count} {left} rule capacity limit msg e =
     by-decoded (λ (x : Decoded). Packets count left ≡ x → size (forestOf (rule msg)) ≡ count) rule capacity limit msg
     (λ _. no-packets) (λ _. no-packets) (λ _ _. by-whole (rule msg)) e

@@ -72,7 +72,8 @@ pub record Stepped (base : ℕ) (m : List ℕ) (q n next : ℕ) : Type 0 where
   pub low : (1 ≤ n) × (q + 4 + n ≤ next)
   pub high : next ≤ q + length m
 
-pub stepped : {k a b u : ℕ} {f : Forest} (base : ℕ) (m : List ℕ) (q : ℕ) → element base m q ≡ one k a b f u → Stepped base m q (1 + size f) (q + 4 + u)
+pub stepped : {k a b u : ℕ} {f : Forest} (base : ℕ) (m : List ℕ) (q : ℕ) → element base m q ≡ one k a b f u
+    → Stepped base m q (1 + size f) (q + 4 + u)
 unfolding size
 stepped {k} {a} {b} {u} {f} base m q e =
     let w = first-in base m q e in

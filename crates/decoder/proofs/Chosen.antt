@@ -12,12 +12,14 @@ use Rattle.decoder.specs.declared.Decoded.the-variants.{Packets, Refused
 
 module _ (P : Decoded → Type 0) where
   -- 13, then 1, then what the rule gives
-  pub by-decoded : (rule : List ℕ → Whole) (capacity limit : ℕ) (msg : List ℕ) → (64 < limit → P (Refused DepthLimit)) → (65535 < length msg → P (Refused TooLong))
+  pub by-decoded : (rule : List ℕ → Whole) (capacity limit : ℕ) (msg : List ℕ) → (64 < limit → P (Refused DepthLimit))
+      → (65535 < length msg → P (Refused TooLong))
       → (limit ≤ 64 → length msg ≤ 65535 → P (limited capacity limit (rule msg))) → P (decoded rule capacity limit msg)
   unfolding decoded
   by-decoded rule capacity limit msg deep long f = by-le P limit 64 (λ h. by-le P (length msg) 65535 (λ k. f h k) long) deep
 
   -- of trees: 9, then 10, then their count
-  pub by-trees : (capacity limit : ℕ) (f : Forest) (left : ℕ) → (limit < depth f → P (Refused TooDeep)) → (capacity < size f → P (Refused TableFull))
+  pub by-trees : (capacity limit : ℕ) (f : Forest) (left : ℕ) → (limit < depth f → P (Refused TooDeep))
+      → (capacity < size f → P (Refused TableFull))
       → (depth f ≤ limit → size f ≤ capacity → P (Packets (size f) left)) → P (limited capacity limit (trees f left))
   by-trees capacity limit f left deep full g = by-le P (depth f) limit (λ h. by-le P (size f) capacity (λ k. g h k) full) deep

@@ -52,7 +52,8 @@ extent-message room p offset n (refused k) = refl
 extent-message room p offset n (args f u) = rw (leb·zero room)
 
 module _ (base offset n room : ℕ) (l : List ℕ) (p : ℕ) where
-  pub message-exit : {m used : ℕ} {x : Measured} {tags rest : List ℕ} → Found m used ≡ textOf l p → tags ≡ tagsIn (take m l) → rest ≡ drop used l
+  pub message-exit : {m used : ℕ} {x : Measured} {tags rest : List ℕ} → Found m used ≡ textOf l p → tags ≡ tagsIn (take m l)
+      → rest ≡ drop used l
       → x ≡ measured (argsOf base tags rest (p + used)) → messageExtent (p + used) x ≡ extent room p (messageOf base offset n l p)
   message-exit {m} {used} {x} e t s g =
       let y : x ≡ measured (argsOf base (tagsIn (take m l)) (drop used l) (p + used)) = rw (t, s) at g in
@@ -127,12 +128,14 @@ extent-bundle room p a b (upto f u) = refl
 
 module _ (base : ℕ) (l : List ℕ) (p : ℕ) where
   -- too deep: where its elements end
-  pub bundle-deep : {x : ℕ} (room : ℕ) → 8 ≤ length l → room < depth (treesIn (contents base l p)) + 1 → x ≡ p + 8 + usedBy (contents base l p) → Deep x ≡ extent room p (bundle base l p)
+  pub bundle-deep : {x : ℕ} (room : ℕ) → 8 ≤ length l → room < depth (treesIn (contents base l p)) + 1
+      → x ≡ p + 8 + usedBy (contents base l p) → Deep x ≡ extent room p (bundle base l p)
   bundle-deep {x} room h d e =
       let u : x ≡ p + (8 + usedBy (contents base l p)) = omega arith in
       sym (ap (extent room p) (bundle-long base l p h) ∙ extent-bundle room p _ _ (contents base l p) ∙ rw (lt-leb _ _ d, u))
 
-  bundle-tree : {c x : ℕ} (room : ℕ) → 8 ≤ length l → depth (treesIn (contents base l p)) + 1 ≤ room → c ≡ 1 + size (treesIn (contents base l p)) → x ≡ p + 8 + usedBy (contents base l p)
+  bundle-tree : {c x : ℕ} (room : ℕ) → 8 ≤ length l → depth (treesIn (contents base l p)) + 1 ≤ room
+      → c ≡ 1 + size (treesIn (contents base l p)) → x ≡ p + 8 + usedBy (contents base l p)
       → Tree c x ≡ extent room p (bundle base l p)
   bundle-tree {c} {x} room h d ec e =
       let u : x ≡ p + (8 + usedBy (contents base l p)) = omega arith in
@@ -160,7 +163,8 @@ pub record Turned (base : ℕ) (m : List ℕ) (q room c next : ℕ) : Type 0 whe
   pub deep : leb (depth (treesIn (elements base m q))) room ≡ leb (depth (treesIn (elements base (drop (next - q) m) next))) room
 
 module _ (base : ℕ) (m : List ℕ) (q room : ℕ) where
-  turned-one : (k a b n : ℕ) (f : Forest) → element base m q ≡ one k a b f n → level k (depth f) ≤ room → Turned base m q room (1 + size f) (q + 4 + n)
+  turned-one : (k a b n : ℕ) (f : Forest) → element base m q ≡ one k a b f n → level k (depth f) ≤ room
+      → Turned base m q room (1 + size f) (q + 4 + n)
   unfolding depth
   turned-one k a b n f e h =
       let g = elements base (drop (4 + n) m) (q + (4 + n)) in
@@ -209,17 +213,20 @@ module _ (base : ℕ) (m : List ℕ) (q room : ℕ) where
           g
 
 module _ (base : ℕ) (l : List ℕ) (p room : ℕ) (m : List ℕ) (q c : ℕ) (w : Going base l p room m q c) where
-  pub going-on : {n next : ℕ} → Tree n next ≡ extent room (q + 4) (element base m q) → Going base l p room (take (length m - (next - q)) (drop (next - q) m)) next (c + n)
+  pub going-on : {n next : ℕ} → Tree n next ≡ extent room (q + 4) (element base m q)
+      → Going base l p room (take (length m - (next - q)) (drop (next - q) m)) next (c + n)
   going-on {n} {next} e =
       let t : Turned base m q room n next = turned base m q room e in
       record { counted = counted-on base l p m q c (w .counted) (t .step); deep = w .deep ∙ t .deep ∙ rw (tail m (next - q)) }
 
-  pub going-deep : {next x d : ℕ} → room + 1 ≡ d → 8 ≤ length l → Deep next ≡ extent room (q + 4) (element base m q) → x ≡ q + usedBy (elements base m q) → Deep x ≡ extent d p (bundle base l p)
+  pub going-deep : {next x d : ℕ} → room + 1 ≡ d → 8 ≤ length l → Deep next ≡ extent room (q + 4) (element base m q)
+      → x ≡ q + usedBy (elements base m q) → Deep x ≡ extent d p (bundle base l p)
   going-deep {next} {x} {d} o h e u =
       let over : room < depth (treesIn (contents base l p)) = leb-false _ _ (w .deep ∙ turned-deep base m q room e) in
       bundle-deep base l p d h (omega arith) (omega arith)
 
-  pub going-done : {k : Fault} {d : ℕ} → room + 1 ≡ d → 8 ≤ length l → Refused k ≡ extent room (q + 4) (element base m q) → Tree c q ≡ extent d p (bundle base l p)
+  pub going-done : {k : Fault} {d : ℕ} → room + 1 ≡ d → 8 ≤ length l → Refused k ≡ extent room (q + 4) (element base m q)
+      → Tree c q ≡ extent d p (bundle base l p)
   unfolding size depth
   going-done {k} {d} o h e =
       let none : elements base m q ≡ upto nil 0 = turned-end base m q room e in

@@ -62,10 +62,12 @@ module _ (base : ℕ) (l rest : List ℕ) (p : ℕ) where
     message-packet : packet base l p ≡ after used (messageOf base (base + p) n rest (p + used))
     message-packet = packet-start base l p ∙ ap (started base l p) (sym e) ∙ rw s
 
-    pub message-room : {i : ℕ} {T : List ℕ} → Room (treeOf (packet base l p)) i T → Room (treeOf (messageOf base (base + p) n rest (p + used))) i T
+    pub message-room : {i : ℕ} {T : List ℕ} → Room (treeOf (packet base l p)) i T
+        → Room (treeOf (messageOf base (base + p) n rest (p + used))) i T
     message-room {i} {T} w = subst (λ (f : Forest). Room f i T) (ap treeOf message-packet ∙ tree-after used (messageOf base (base + p) n rest (p + used))) w
 
-    pub packet-fills-message : {i : ℕ} {r : Filled} {T T' : List ℕ} → Fills (messageOf base (base + p) n rest (p + used)) (p + used) i T r T' → Fills (packet base l p) p i T r T'
+    pub packet-fills-message : {i : ℕ} {r : Filled} {T T' : List ℕ}
+        → Fills (messageOf base (base + p) n rest (p + used)) (p + used) i T r T' → Fills (packet base l p) p i T r T'
     packet-fills-message w = rw message-packet (fills-after used (messageOf base (base + p) n rest (p + used)) w)
 
     message-tree : treeOf (packet base l p) ≡ treeOf (messageOf base (base + p) n rest (p + used))
@@ -74,7 +76,8 @@ module _ (base : ℕ) (l rest : List ℕ) (p : ℕ) where
     pub message-known : {count : ℕ} → Known (packet base l p) count → Known (messageOf base (base + p) n rest (p + used)) count
     message-known k = record { some = k .some; records = ap size (sym message-tree) ∙ k .records }
 
-    pub packet-stored : {T' : List ℕ} (i : ℕ) (T : List ℕ) → T' ≡ stored i (treeOf (messageOf base (base + p) n rest (p + used))) T → T' ≡ stored i (treeOf (packet base l p)) T
+    pub packet-stored : {T' : List ℕ} (i : ℕ) (T : List ℕ) → T' ≡ stored i (treeOf (messageOf base (base + p) n rest (p + used))) T
+        → T' ≡ stored i (treeOf (packet base l p)) T
     packet-stored i T w = w ∙ ap (λ (f : Forest). stored i f T) (sym message-tree)
 
   module _ {used : ℕ} (e : start.Bundle used ≡ startOf l p) (s : rest ≡ drop used l) where
@@ -84,7 +87,8 @@ module _ (base : ℕ) (l rest : List ℕ) (p : ℕ) where
     pub bundle-room : {i : ℕ} {T : List ℕ} → Room (treeOf (packet base l p)) i T → Room (treeOf (bundle base rest (p + used))) i T
     bundle-room {i} {T} w = subst (λ (f : Forest). Room f i T) (ap treeOf bundle-packet ∙ tree-after used (bundle base rest (p + used))) w
 
-    pub packet-fills-bundle : {i : ℕ} {r : Filled} {T T' : List ℕ} → Fills (bundle base rest (p + used)) (p + used) i T r T' → Fills (packet base l p) p i T r T'
+    pub packet-fills-bundle : {i : ℕ} {r : Filled} {T T' : List ℕ} → Fills (bundle base rest (p + used)) (p + used) i T r T'
+        → Fills (packet base l p) p i T r T'
     packet-fills-bundle w = rw bundle-packet (fills-after used (bundle base rest (p + used)) w)
 
 -- ---- elements
@@ -109,7 +113,8 @@ module _ {n : ℕ} (base : ℕ) (l part : List ℕ) (p : ℕ) (e : sized.Holds n
   pub element-room : {i : ℕ} {T : List ℕ} → Room (treeOf (element base l p)) i T → Room (treeOf (packet base part (p + 4))) i T
   element-room {i} {T} w = subst (λ (f : Forest). Room f i T) (ap treeOf packet-element ∙ tree-filling n (packet base part (p + 4))) w
 
-  pub element-fills : {i : ℕ} {r r' : Filled} {T T' : List ℕ} → r ≡ r' → Fills (packet base part (p + 4)) (p + 4) i T r T' → Fills (element base l p) (p + 4) i T (endsAt (p + 4 + n) r') T'
+  pub element-fills : {i : ℕ} {r r' : Filled} {T T' : List ℕ} → r ≡ r' → Fills (packet base part (p + 4)) (p + 4) i T r T'
+      → Fills (element base l p) (p + 4) i T (endsAt (p + 4 + n) r') T'
   element-fills {i} {r} {r'} {T} z w =
       let o = packet base part (p + 4) in
       rw packet-element
@@ -139,11 +144,13 @@ module _ {m used : ℕ} {tags rest : List ℕ} (base offset n : ℕ) (l : List �
 
   module _ {count taken : ℕ} (g : measure.Kept count taken ≡ measured (argsOf base tags rest (p + used))) where
     -- the message's own record and its arguments'
-    pub args-room : {i : ℕ} {T : List ℕ} → Room (treeOf (messageOf base offset n l p)) i T → (recordSize * (1 + count) ≤ length T) × (i + (1 + count) ≤ 65535)
+    pub args-room : {i : ℕ} {T : List ℕ} → Room (treeOf (messageOf base offset n l p)) i T
+        → (recordSize * (1 + count) ≤ length T) × (i + (1 + count) ≤ 65535)
     unfolding measured size
     args-room {i} {T} w = by-args (argsOf base tags rest (p + used)) g (rw with-args at w)
       where
-        by-args : (o : Args) → measure.Kept count taken ≡ measured o → Room (treeOf (after used (messageWith offset n o))) i T → (recordSize * (1 + count) ≤ length T) × (i + (1 + count) ≤ 65535)
+        by-args : (o : Args) → measure.Kept count taken ≡ measured o → Room (treeOf (after used (messageWith offset n o))) i T
+            → (recordSize * (1 + count) ≤ length T) × (i + (1 + count) ≤ 65535)
         by-args (refused j) g w = let z : _≡_ {A = ℕ} 0 1 = cc in absurd (omega arith)
         by-args (args f u) g w = let z : count ≡ size f = cc in (omega arith, omega arith)
 
@@ -176,7 +183,8 @@ module _ {m used : ℕ} {tags rest : List ℕ} (base offset n : ℕ) (l : List �
       by-args (args f u) z = let y : count - 1 ≡ size f = omega arith in rw y
 
   module _ {count : ℕ} (k : Known (messageOf base offset n l p) count) where
-    pub known-room : {i : ℕ} {T : List ℕ} → Room (treeOf (messageOf base offset n l p)) i T → (recordSize * count ≤ length T) × (i + count ≤ 65535)
+    pub known-room : {i : ℕ} {T : List ℕ} → Room (treeOf (messageOf base offset n l p)) i T
+        → (recordSize * count ≤ length T) × (i + count ≤ 65535)
     known-room {i} {T} w =
         let z : (recordSize * (1 + (count - 1)) ≤ length T) × (i + (1 + (count - 1)) ≤ 65535) = args-room (known-args k) w in
         (omega (arith, k .some), omega (arith, k .some))
@@ -192,11 +200,13 @@ module _ {m used : ℕ} {tags rest : List ℕ} (base offset n : ℕ) (l : List �
 
 module _ (base : ℕ) (l : List ℕ) (p : ℕ) where
   -- room for the bundle's own record and for those of its elements
-  pub contents-room : {i : ℕ} {T : List ℕ} → 8 ≤ length l → Room (treeOf (bundle base l p)) i T → Room (node 35 0 0 (treesIn (contents base l p)) nil) i T
+  pub contents-room : {i : ℕ} {T : List ℕ} → 8 ≤ length l → Room (treeOf (bundle base l p)) i T
+      → Room (node 35 0 0 (treesIn (contents base l p)) nil) i T
   unfolding size
   contents-room {i} {T} h w = by-elements (contents base l p) (rw (bundle-long base l p h) at w)
     where
-      by-elements : (k : Elements) → Room (treeOf (bundleWith (number 4 l) (number 4 (drop 4 l)) k)) i T → Room (node 35 0 0 (treesIn k) nil) i T
+      by-elements : (k : Elements) → Room (treeOf (bundleWith (number 4 l) (number 4 (drop 4 l)) k)) i T
+          → Room (node 35 0 0 (treesIn k) nil) i T
       by-elements (upto f u) v = record { fits = v .fits; low = v .low }
 
 pub is-none : (p : ℕ) (o : Out) → Nothing ≡ filled p o → treeOf o ≡ nil
@@ -227,7 +237,8 @@ no-step base m q h = by-out (element base m q) refl h
     by-out (fault k) e g = ended base m q e
     by-out (one k a b f u) e g = let z : _≡_ {A = ℕ} 0 1 = cc in absurd (omega arith)
 
-with-elements : {c q : ℕ} {Z : List ℕ} (p i x y : ℕ) (T : List ℕ) (k : Elements) → c ≡ 1 + size (treesIn k) → q ≡ p + (8 + usedBy k) → Z ≡ stored i (node 35 x y (treesIn k) nil) T
+with-elements : {c q : ℕ} {Z : List ℕ} (p i x y : ℕ) (T : List ℕ) (k : Elements) → c ≡ 1 + size (treesIn k) → q ≡ p + (8 + usedBy k)
+    → Z ≡ stored i (node 35 x y (treesIn k) nil) T
     → Fills (bundleWith x y k) p i T (Wrote c q) Z
 with-elements p i x y T (upto f u) ec eq et = record { answered = rw (ec, eq); table = et }
 
@@ -255,10 +266,12 @@ module _ (base : ℕ) (l : List ℕ) (p i : ℕ) (T₀ T m : List ℕ) (q c : �
   next-fits = record { fits = omega (arith, filling-fits, next-room base m q, length-lent T (recordSize * c)); low = omega (arith, filling-fits, next-room base m q) }
 
   -- the next element was written
-  pub filling-step : {n next : ℕ} {x : Filled} {Y : List ℕ} → Fills (element base m q) (q + 4) (i + c) later x Y → x ≡ Wrote n next → Stepped base m q n next
+  pub filling-step : {n next : ℕ} {x : Filled} {Y : List ℕ} → Fills (element base m q) (q + 4) (i + c) later x Y → x ≡ Wrote n next
+      → Stepped base m q n next
   filling-step f z = tree-step base m q (sym z ∙ f .answered)
 
-  filling-one : {k a b u : ℕ} {g : Forest} {x : Filled} {Y : List ℕ} → element base m q ≡ one k a b g u → Fills (element base m q) (q + 4) (i + c) later x Y
+  filling-one : {k a b u : ℕ} {g : Forest} {x : Filled} {Y : List ℕ} → element base m q ≡ one k a b g u
+      → Fills (element base m q) (q + 4) (i + c) later x Y
       → Filling base l p i T₀ (putMid (recordSize * c) (length T - recordSize * c) T Y) (take (length m - (q + 4 + u - q)) (drop (q + 4 + u - q) m)) (q + 4 + u) (c + (1 + size g))
   filling-one {k} {a} {b} {u} {g} {x} {Y} e f =
       let N = node k a b g nil in
@@ -287,7 +300,8 @@ module _ (base : ℕ) (l : List ℕ) (p i : ℕ) (T₀ T m : List ℕ) (q c : �
 
   -- no element follows: the bundle's own record is written
   pub filling-done : {x : Filled} {a b : ℕ} {Y Z : List ℕ} → 8 ≤ length l → Fills (element base m q) (q + 4) (i + c) later x Y → x ≡ Nothing
-      → a ≡ number 4 l → b ≡ number 4 (drop 4 l) → number.Wrote (recordOf 35 (i + c) a b) (putMid (recordSize * c) (length T - recordSize * c) T Y) Z
+      → a ≡ number 4 l → b ≡ number 4 (drop 4 l)
+      → number.Wrote (recordOf 35 (i + c) a b) (putMid (recordSize * c) (length T - recordSize * c) T Y) Z
       → Fills (bundle base l p) p i T₀ (Wrote c q) Z
   unfolding size
   filling-done {x} {a} {b} {Y} {Z} h f z ea eb v =

@@ -42,7 +42,8 @@ extent-framed limit (fault k) = refl
 extent-framed limit (one k a b f u) = by-both (λ (x : Extent) (y : FrameExtent). ofPacket x ≡ y) (leb (level k (depth f)) limit) refl refl
 
 module _ (base : ℕ) (l : List ℕ) where
-  pub frame-by-packet : {r : Extent} (limit : ℕ) (rest : List ℕ) → prefix.Whole ≡ prefixOf l → rest ≡ drop 4 l → r ≡ extent limit 4 (packet base rest 4)
+  pub frame-by-packet : {r : Extent} (limit : ℕ) (rest : List ℕ) → prefix.Whole ≡ prefixOf l → rest ≡ drop 4 l
+      → r ≡ extent limit 4 (packet base rest 4)
       → ofPacket r ≡ frameExtent limit (frameOf base l)
   frame-by-packet {r} limit rest e s g =
       let is : r ≡ extent limit 4 (packet base (drop 4 l) 4) = rw s at g in
@@ -73,7 +74,8 @@ module _ (base : ℕ) (l : List ℕ) where
 abbrev pub after : ℕ → List ℕ → ℕ → Whole
 after base l u = remaining (base + u) (drop u l)
 
-pub frames-tree : {k a b u : ℕ} {f : Forest} (base : ℕ) (l : List ℕ) → frameOf base l ≡ tree k a b f u → frames base l ≡ before k a b f (after base l u)
+pub frames-tree : {k a b u : ℕ} {f : Forest} (base : ℕ) (l : List ℕ) → frameOf base l ≡ tree k a b f u
+    → frames base l ≡ before k a b f (after base l u)
 frames-tree {k} {a} {b} {u} {f} base l e = frames-by base l e ∙ ends (leb (length l) u) refl
   where
     ends : (t : Bool) → leb (length l) u ≡ t
@@ -147,7 +149,8 @@ module _ (limit base : ℕ) (l : List ℕ) (c : ℕ) (deep : Bool) where
       (added-more c (1 + size f) deep (totalOf limit (after base l u)))
       (added-deep c 0 deep (totalOf limit (after base l u)))
 
-  next-frame : {x : FrameExtent} → 0 < length l → x ≡ frameExtent limit (frameOf base l) → added c deep (totalOf limit (remaining base l)) ≡ onward x
+  next-frame : {x : FrameExtent} → 0 < length l → x ≡ frameExtent limit (frameOf base l)
+      → added c deep (totalOf limit (remaining base l)) ≡ onward x
   next-frame some h =
       ap (λ (w : Whole). added c deep (totalOf limit w)) (remaining-list base l some) ∙ by-frame (frameOf base l) refl ∙ ap onward (sym h)
 
@@ -206,7 +209,8 @@ module _ (limit : ℕ) (msg : List ℕ) (at c : ℕ) (deep : Bool) (w : Totallin
     by-next : totalOf limit (tcpVec msg) ≡ onward limit at (drop at msg) c deep x
     by-next = w .whole ∙ next-frame limit at (drop at msg) c deep (omega (arith, length-drop at msg)) frame-here
 
-    pub totalling-tree : {n used : ℕ} → x ≡ Tree n used → ((4 ≤ used) × (at + used ≤ length msg)) × Totalling limit msg (at + used) (c + n) deep
+    pub totalling-tree : {n used : ℕ} → x ≡ Tree n used
+        → ((4 ≤ used) × (at + used ≤ length msg)) × Totalling limit msg (at + used) (c + n) deep
     totalling-tree {n} {used} z =
         let v = tree-frame-in limit at (drop at msg) (sym z ∙ frame-here) in (
           (omega arith, omega (arith, length-drop at msg)),

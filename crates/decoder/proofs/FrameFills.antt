@@ -39,7 +39,8 @@ module _ (base : ℕ) (l rest : List ℕ) (e : prefix.Whole ≡ prefixOf l) (s :
   pub frame-room : {i : ℕ} {T : List ℕ} → Room (treeOf (framePacket (frameOf base l))) i T → Room (treeOf (packet base rest 4)) i T
   frame-room {i} {T} w = subst (λ (f : Forest). Room f i T) (ap (λ (x : Frame). treeOf (framePacket x)) whole-frame ∙ tree-framed (packet base rest 4)) w
 
-  pub frame-fills : {i : ℕ} {r : Filled} {T T' : List ℕ} → Fills (packet base rest 4) 4 i T r T' → Fills (framePacket (frameOf base l)) 0 i T r T'
+  pub frame-fills : {i : ℕ} {r : Filled} {T T' : List ℕ} → Fills (packet base rest 4) 4 i T r T'
+      → Fills (framePacket (frameOf base l)) 0 i T r T'
   frame-fills {i} {r} {T} w =
       let o = packet base rest 4 in
       rw whole-frame (record { answered = w .answered ∙ filled-framed o; table = w .table ∙ ap (λ (f : Forest). stored i f T) (sym (tree-framed o)) })
@@ -97,7 +98,8 @@ module _ (msg T₀ T : List ℕ) (at c : ℕ) (w : Listing msg T₀ T at c) (som
   here = remaining-list at (drop at msg) (omega (arith, length-drop at msg))
 
   -- by the next frame
-  here-tree : {k a b u : ℕ} {f : Forest} → frameOf at (drop at msg) ≡ tree k a b f u → remaining at (drop at msg) ≡ before k a b f (remaining (at + u) (drop (at + u) msg))
+  here-tree : {k a b u : ℕ} {f : Forest} → frameOf at (drop at msg) ≡ tree k a b f u
+      → remaining at (drop at msg) ≡ before k a b f (remaining (at + u) (drop (at + u) msg))
   here-tree {k} {a} {b} {u} {f} e = here ∙ frames-tree at (drop at msg) e ∙ rw (drop-drop u at msg)
 
   forest-tree : {k a b u : ℕ} {f : Forest} → frameOf at (drop at msg) ≡ tree k a b f u
@@ -120,7 +122,8 @@ module _ (msg T₀ T : List ℕ) (at c : ℕ) (w : Listing msg T₀ T at c) (som
   unfolding size
   next-in {n} {next} f z = by-frame (frameOf at (drop at msg)) refl (frame-in at (drop at msg)) (sym z ∙ f .answered)
     where
-      by-frame : (x : Frame) → frameOf at (drop at msg) ≡ x → FrameIn (length (drop at msg)) x → Wrote n next ≡ filled 0 (framePacket x) → (4 ≤ next) × (at + next ≤ length msg) × (c + n ≤ 65535)
+      by-frame : (x : Frame) → frameOf at (drop at msg) ≡ x → FrameIn (length (drop at msg)) x
+          → Wrote n next ≡ filled 0 (framePacket x) → (4 ≤ next) × (at + next ≤ length msg) × (c + n ≤ 65535)
       by-frame wait e i h = let z : _≡_ {A = ℕ} 0 1 = cc in absurd (omega arith)
       by-frame (stop k) e i h = let z : _≡_ {A = ℕ} 0 1 = cc in absurd (omega arith)
       by-frame (tree k a b g u) e i h =
@@ -128,7 +131,8 @@ module _ (msg T₀ T : List ℕ) (at c : ℕ) (w : Listing msg T₀ T at c) (som
           let ee : next ≡ 0 + u = cc in
           (omega arith, omega (arith, length-drop at msg), omega (arith, w .low, ap size (forest-tree e)))
 
-  listing-tree : {k a b u : ℕ} {g : Forest} {x : Filled} {Y : List ℕ} → frameOf at (drop at msg) ≡ tree k a b g u → Fills (framePacket (frameOf at (drop at msg))) 0 c later x Y
+  listing-tree : {k a b u : ℕ} {g : Forest} {x : Filled} {Y : List ℕ} → frameOf at (drop at msg) ≡ tree k a b g u
+      → Fills (framePacket (frameOf at (drop at msg))) 0 c later x Y
       → Listing msg T₀ (putMid (recordSize * c) (length T - recordSize * c) T Y) (at + u) (c + (1 + size g))
   unfolding size
   listing-tree {k} {a} {b} {u} {g} {x} {Y} e f =
@@ -166,7 +170,8 @@ module _ (msg T₀ T : List ℕ) (at c : ℕ) (w : Listing msg T₀ T at c) (som
       → putMid (recordSize * c) (length T - recordSize * c) T Y ≡ stored 0 (forestOf (tcpVec msg)) T₀
   listing-waits {x} {Y} f z = by-frame (frameOf at (drop at msg)) refl (sym z ∙ f .answered)
     where
-      by-frame : (y : Frame) → frameOf at (drop at msg) ≡ y → Nothing ≡ filled 0 (framePacket y) → putMid (recordSize * c) (length T - recordSize * c) T Y ≡ stored 0 (forestOf (tcpVec msg)) T₀
+      by-frame : (y : Frame) → frameOf at (drop at msg) ≡ y → Nothing ≡ filled 0 (framePacket y)
+          → putMid (recordSize * c) (length T - recordSize * c) T Y ≡ stored 0 (forestOf (tcpVec msg)) T₀
       by-frame wait e h =
           lent-stored T c c nil (f .table ∙ ap (λ (y : Frame). stored c (treeOf (framePacket y)) later) e)
           ∙ ap (λ (y : Whole). completed T c c (forestOf y)) (sym (here ∙ frames-by at (drop at msg) e)) ∙ w .left
@@ -174,6 +179,7 @@ module _ (msg T₀ T : List ℕ) (at c : ℕ) (w : Listing msg T₀ T at c) (som
       by-frame (tree k a b g u) e h = let z : _≡_ {A = ℕ} 0 1 = cc in absurd (omega arith)
 
 -- `&msg[at..]` is what is left
-pub fills-tail : {p i : ℕ} {x : Filled} {T Y : List ℕ} (msg : List ℕ) (at : ℕ) → Fills (framePacket (frameOf at (take (length msg - at) (drop at msg)))) p i T x Y
+pub fills-tail : {p i : ℕ} {x : Filled} {T Y : List ℕ} (msg : List ℕ) (at : ℕ)
+    → Fills (framePacket (frameOf at (take (length msg - at) (drop at msg)))) p i T x Y
     → Fills (framePacket (frameOf at (drop at msg))) p i T x Y
 fills-tail msg at f = rw (tail msg at) at f

@@ -175,6 +175,7 @@ pub types-tags : {tags : List ℕ} (l : List ℕ) (n : ℕ) → tags ≡ tagsIn 
 types-tags l n e = rw sub-zero at e
 
 -- there are fewer tags than bytes of type text, and no more data than bytes after it
-pub args-fit : {tags : List ℕ} (l : List ℕ) (n used : ℕ) → tags ≡ tagsIn (take (n - 0) (drop 0 l)) → (length tags ≤ n) × (length (take (length l - used) (drop used l)) ≡ length l - used)
+pub args-fit : {tags : List ℕ} (l : List ℕ) (n used : ℕ) → tags ≡ tagsIn (take (n - 0) (drop 0 l))
+    → (length tags ≤ n) × (length (take (length l - used) (drop used l)) ≡ length l - used)
 args-fit l n used e =
     (rw e (omega (arith, length-drop (lead (getD (take (n - 0) l) 0 0)) (take (n - 0) l), length-take (n - 0) l)), rw tail (length-drop used l))

@@ -1,4 +1,5 @@
--- The number of bytes that ties the knot of packets, elements and frames does not matter: each meets its rule, with no side condition. Assumes nothing.
+-- The number of bytes that ties the knot of packets, elements and frames does not matter: each meets its rule, with no side
+-- condition. Assumes nothing.
 use mathlib.Core.Path.{_≡_, refl, ap, _∙_}
 use mathlib.Core.Bool.{cond}
 use mathlib.Core.List.{List, [], _∷_}
@@ -23,7 +24,8 @@ Agree f g l = (m : List ℕ) (q : ℕ) → length m ≤ length l - 1 → f m q �
 
 -- ---- a rule takes rules that agree to the same result
 
-bundle-cong : (es es' : List ℕ → ℕ → Elements) (l : List ℕ) (p : ℕ) → es (drop 8 l) (p + 8) ≡ es' (drop 8 l) (p + 8) → bundleOf es l p ≡ bundleOf es' l p
+bundle-cong : (es es' : List ℕ → ℕ → Elements) (l : List ℕ) (p : ℕ) → es (drop 8 l) (p + 8) ≡ es' (drop 8 l) (p + 8)
+    → bundleOf es l p ≡ bundleOf es' l p
 unfolding bundleOf
 bundle-cong es es' l p e = ap (λ (k : Elements). cond (leb 8 (length l)) (bundleWith (number 4 l) (number 4 (drop 4 l)) k) (fault RunsOut)) e
 
@@ -37,12 +39,14 @@ on-cong : (es es' : List ℕ → ℕ → Elements) (l : List ℕ) (p : ℕ) (o :
 on-cong es es' l p (fault k) h = refl
 on-cong es es' l p (one k a b f n) h = ap (joined k a b f n) (h _ _ (omega (arith, length-drop (4 + n) l)))
 
-elements-cong : (pk pk' : List ℕ → ℕ → Out) (es es' : List ℕ → ℕ → Elements) (l : List ℕ) (p : ℕ) → Agree pk pk' l → Agree es es' l → elementsOf pk es l p ≡ elementsOf pk' es' l p
+elements-cong : (pk pk' : List ℕ → ℕ → Out) (es es' : List ℕ → ℕ → Elements) (l : List ℕ) (p : ℕ) → Agree pk pk' l → Agree es es' l
+    → elementsOf pk es l p ≡ elementsOf pk' es' l p
 unfolding elementsOf
 elements-cong pk pk' es es' l p hp he = on-cong es es' l p (elementOf pk l p) he ∙ ap (goOn es' l p) (element-cong pk pk' l p hp)
 
 module _ (base : ℕ) where
-  start-cong : (es es' : List ℕ → ℕ → Elements) (l : List ℕ) (p : ℕ) (t : Text) → Agree es es' l → startsWith base es l p t ≡ startsWith base es' l p t
+  start-cong : (es es' : List ℕ → ℕ → Elements) (l : List ℕ) (p : ℕ) (t : Text) → Agree es es' l
+      → startsWith base es l p t ≡ startsWith base es' l p t
   start-cong es es' l p (Lacks k) h = refl
   start-cong es es' l p (Found n used) h =
       ap (λ (o : Out). cond (eqb (getD l 0 0) 47) (after used (messageOf base (base + p) n (drop used l) (p + used))) (cond (same (take n l) bundleWord) (after used o) (fault BadStart)))
@@ -102,7 +106,8 @@ module _ (base : ℕ) where
 
 -- ---- lists of frames
 
-after-cong : (go go' : ℕ → List ℕ → Whole) (base : ℕ) (l : List ℕ) (x : Frame) → FrameIn (length l) x → ((q : ℕ) (m : List ℕ) → length m < length l → go q m ≡ go' q m)
+after-cong : (go go' : ℕ → List ℕ → Whole) (base : ℕ) (l : List ℕ) (x : Frame) → FrameIn (length l) x
+    → ((q : ℕ) (m : List ℕ) → length m < length l → go q m ≡ go' q m)
     → afterFrame go base l x ≡ afterFrame go' base l x
 after-cong go go' base l (stop k) w h = refl
 after-cong go go' base l wait w h = refl

@@ -52,7 +52,8 @@ before-in kind a b f m n (trees g left) h w = omega arith
 before-in kind a b f m n waiting h w = tt
 before-in kind a b f m n (refusal k) h w = tt
 
-after-in : (go : ℕ → List ℕ → Whole) (base : ℕ) (l : List ℕ) (x : Frame) → ((q : ℕ) (m : List ℕ) → WholeIn (length m) (go q m)) → FrameIn (length l) x
+after-in : (go : ℕ → List ℕ → Whole) (base : ℕ) (l : List ℕ) (x : Frame) → ((q : ℕ) (m : List ℕ) → WholeIn (length m) (go q m))
+    → FrameIn (length l) x
     → WholeIn (length l) (afterFrame go base l x)
 unfolding size
 after-in go base l (stop k) h w = tt

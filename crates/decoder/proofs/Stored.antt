@@ -47,7 +47,8 @@ pub lent-stored : {Y : List ℕ} (T : List ℕ) (c j : ℕ) (f : Forest) → Y �
     → putMid (recordSize * c) (length T - recordSize * c) T Y ≡ completed T c j f
 lent-stored {Y} T c j f e = given-back T Y (recordSize * c) ∙ ap (λ (l : List ℕ). take (recordSize * c) T ++ l) (e ∙ ap (stored j f) (lent T (recordSize * c)))
 
-records-split : (i k a b : ℕ) (f g : Forest) → recordsOf i (node k a b f g) ≡ recordsOf i (node k a b f nil) ++ recordsOf (i + (1 + size f)) g
+records-split : (i k a b : ℕ) (f g : Forest)
+    → recordsOf i (node k a b f g) ≡ recordsOf i (node k a b f nil) ++ recordsOf (i + (1 + size f)) g
 unfolding recordsOf
 records-split i k a b f g =
     let e : i + 1 + size f ≡ i + (1 + size f) = omega arith in
@@ -72,7 +73,8 @@ completed-turn T c n j k a b f g h en e =
     (length-take-le (recordSize * c) T h) (length-records j (node k a b f nil)))
 
 -- a node's own record, in front of what it contains
-pub completed-node : {T' R : List ℕ} (T : List ℕ) (i k a b e : ℕ) (f : Forest) → recordSize ≤ length T → R ≡ completed T 1 (i + 1) f → e ≡ i + 1 + size f
+pub completed-node : {T' R : List ℕ} (T : List ℕ) (i k a b e : ℕ) (f : Forest) → recordSize ≤ length T → R ≡ completed T 1 (i + 1) f
+    → e ≡ i + 1 + size f
     → Wrote (recordOf k e a b) R T' → T' ≡ stored i (node k a b f nil) T
 unfolding stored size
 completed-node {T'} {R} T i k a b e f h r ee w =

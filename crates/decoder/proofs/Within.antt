@@ -40,7 +40,8 @@ arguments-in offset n t u j m (refused k) h g few low = tt
 arguments-in offset n t u j m (args f v) h g few low = omega (arith, low f v refl)
 
 module _ (base offset n : ℕ) (l : List ℕ) (p : ℕ) where
-  pub types-found : {m used : ℕ} → Found m used ≡ textOf l p → messageOf base offset n l p ≡ after used (messageWith offset n (argsOf base (tagsIn (take m l)) (drop used l) (p + used)))
+  pub types-found : {m used : ℕ} → Found m used ≡ textOf l p
+      → messageOf base offset n l p ≡ after used (messageWith offset n (argsOf base (tagsIn (take m l)) (drop used l) (p + used)))
   unfolding messageOf
   types-found e = sym (ap (typesThen base offset n l p) e)
 
@@ -65,13 +66,15 @@ module _ (base offset n : ℕ) (l : List ℕ) (p : ℕ) where
 bundle-with-in : (a b : ℕ) (k : Elements) (m : ℕ) → 8 ≤ m → ElementsIn (m - 8) k → Within m (bundleWith a b k)
 bundle-with-in a b (upto f u) m h w = omega arith
 
-bundle-of-in : (es : List ℕ → ℕ → Elements) (l : List ℕ) (p : ℕ) → ElementsIn (length (drop 8 l)) (es (drop 8 l) (p + 8)) → Within (length l) (bundleOf es l p)
+bundle-of-in : (es : List ℕ → ℕ → Elements) (l : List ℕ) (p : ℕ) → ElementsIn (length (drop 8 l)) (es (drop 8 l) (p + 8))
+    → Within (length l) (bundleOf es l p)
 unfolding bundleOf
 bundle-of-in es l p w =
     by-le (Within (length l)) 8 (length l) (λ h. bundle-with-in _ _ (es (drop 8 l) (p + 8)) (length l) h (rw length-drop at w)) (λ h. tt)
 
 module _ (base : ℕ) where
-  start-in : (es : List ℕ → ℕ → Elements) (l : List ℕ) (p : ℕ) (t : Text) → ((m : List ℕ) (q : ℕ) → ElementsIn (length m) (es m q)) → TextIn l t → Within (length l) (startsWith base es l p t)
+  start-in : (es : List ℕ → ℕ → Elements) (l : List ℕ) (p : ℕ) (t : Text) → ((m : List ℕ) (q : ℕ) → ElementsIn (length m) (es m q))
+      → TextIn l t → Within (length l) (startsWith base es l p t)
   start-in es l p (Lacks k) h w = tt
   start-in es l p (Found n used) h w =
       by-test (Within (length l)) (eqb (getD l 0 0) 47)
@@ -80,7 +83,8 @@ module _ (base : ℕ) where
       (λ _. after-in used (length l) (bundleOf es (drop used l) (p + used)) (w .1) (rw length-drop at (bundle-of-in es (drop used l) (p + used) (h _ _))))
       (λ _. tt))
 
-  packet-of-in : (es : List ℕ → ℕ → Elements) (l : List ℕ) (p : ℕ) → ((m : List ℕ) (q : ℕ) → ElementsIn (length m) (es m q)) → Within (length l) (packetOf base es l p)
+  packet-of-in : (es : List ℕ → ℕ → Elements) (l : List ℕ) (p : ℕ) → ((m : List ℕ) (q : ℕ) → ElementsIn (length m) (es m q))
+      → Within (length l) (packetOf base es l p)
   unfolding packetOf
   packet-of-in es l p h = by-test (Within (length l)) (eqb (length l) 0) (λ _. tt) (λ _. start-in es l p (textOf l p) h (text-within l p))
 
@@ -90,7 +94,8 @@ filling-in : (n j m : ℕ) (o : Out) → j ≤ n → n ≤ m → Within j o → 
 filling-in n j m (fault k) h g w = tt
 filling-in n j m (one k a b f u) h g w = omega arith
 
-element-of-in : (pk : List ℕ → ℕ → Out) (l : List ℕ) (p : ℕ) → ((m : List ℕ) (q : ℕ) → Within (length m) (pk m q)) → Within (length l - 4) (elementOf pk l p)
+element-of-in : (pk : List ℕ → ℕ → Out) (l : List ℕ) (p : ℕ) → ((m : List ℕ) (q : ℕ) → Within (length m) (pk m q))
+    → Within (length l - 4) (elementOf pk l p)
 unfolding elementOf
 element-of-in pk l p h =
     by-le (Within (length l - 4)) 4 (length l)
@@ -99,11 +104,13 @@ element-of-in pk l p h =
     (λ _. tt))
     (λ _. tt)
 
-joined-in : (k a b : ℕ) (f : Forest) (n m : ℕ) (g : Elements) → Within (m - 4) (one k a b f n) → ElementsIn (m - (4 + n)) g → ElementsIn m (joined k a b f n g)
+joined-in : (k a b : ℕ) (f : Forest) (n m : ℕ) (g : Elements) → Within (m - 4) (one k a b f n) → ElementsIn (m - (4 + n)) g
+    → ElementsIn m (joined k a b f n g)
 unfolding size
 joined-in k a b f n m (upto g u) w v = omega arith
 
-on-in : (es : List ℕ → ℕ → Elements) (l : List ℕ) (p : ℕ) (o : Out) → ((m : List ℕ) (q : ℕ) → ElementsIn (length m) (es m q)) → Within (length l - 4) o → ElementsIn (length l) (goOn es l p o)
+on-in : (es : List ℕ → ℕ → Elements) (l : List ℕ) (p : ℕ) (o : Out) → ((m : List ℕ) (q : ℕ) → ElementsIn (length m) (es m q))
+    → Within (length l - 4) o → ElementsIn (length l) (goOn es l p o)
 unfolding size
 on-in es l p (fault k) h w = omega arith
 on-in es l p (one k a b f n) h w = joined-in k a b f n (length l) (es (drop (4 + n) l) (p + (4 + n))) w (rw length-drop at (h (drop (4 + n) l) (p + (4 + n))))
@@ -137,5 +144,6 @@ module _ (base : ℕ) where
 by-elements : (m : ℕ) (k : Elements) → ElementsIn m k → (size (treesIn k) ≤ usedBy k) × (usedBy k ≤ m)
 by-elements m (upto f u) w = w
 
-pub elements-in : (base : ℕ) (l : List ℕ) (p : ℕ) → (size (treesIn (elements base l p)) ≤ usedBy (elements base l p)) × (usedBy (elements base l p) ≤ length l)
+pub elements-in : (base : ℕ) (l : List ℕ) (p : ℕ)
+    → (size (treesIn (elements base l p)) ≤ usedBy (elements base l p)) × (usedBy (elements base l p) ≤ length l)
 elements-in base l p = by-elements (length l) (elements base l p) (elements-within base l p)

@@ -36,7 +36,8 @@ abbrev pub framed : Out → Frame
 framed (fault k) = stop k
 framed (one kind a b inside used) = tree kind a b inside (4 + used)
 
--- rule 6: a 4-byte length; greater than the whole input, Waiting; otherwise a packet from everything after the prefix, and the length cuts nothing
+-- rule 6: a 4-byte length; greater than the whole input, Waiting; otherwise a packet from everything after the prefix, and the
+-- length cuts nothing
 unfoldable pub frameOf : ℕ → List ℕ → Frame
 frameOf base l =
     cond (leb 4 (length l)) (cond (leb (number 4 l) (length l)) (framed (packet base (drop 4 l) 4)) wait) (stop RunsOut)

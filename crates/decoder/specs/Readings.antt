@@ -38,7 +38,8 @@ element base l p = elementOf (λ m q. packet base m q) l p
 
 -- ---- the first reading
 
--- a packet at position p, where `room` levels of bundles may be opened yet: its records and where it ends; or that it is too deep, and where it ends
+-- a packet at position p, where `room` levels of bundles may be opened yet: its records and where it ends; or that it is too
+-- deep, and where it ends
 unfoldable pub extent : ℕ → ℕ → Out → Extent
 extent room p (fault k) = Refused k
 extent room p (one kind a b inside used) = cond (leb (level kind (depth inside)) room) (Tree (1 + size inside) (p + used)) (Deep (p + used))

@@ -29,7 +29,8 @@ module _ {count left : ℕ} where
   limited-accepted capacity limit waiting e = let z : _≡_ {A = ℕ} 0 1 = cc in absurd (omega arith)
   limited-accepted capacity limit (refusal k) e = no-packets (sym e)
 
-  pub accepted : (rule : List ℕ → Whole) (capacity limit : ℕ) (msg : List ℕ) → decoded rule capacity limit msg ≡ Packets count left → Accepted (rule msg) count left
+  pub accepted : (rule : List ℕ → Whole) (capacity limit : ℕ) (msg : List ℕ) → decoded rule capacity limit msg ≡ Packets count left
+      → Accepted (rule msg) count left
   accepted rule capacity limit msg =
       by-decoded (λ r. r ≡ Packets count left → Accepted (rule msg) count left) rule capacity limit msg (λ h p. no-packets (sym p)) (λ h p. no-packets (sym p))
       (λ h k. limited-accepted capacity limit (rule msg))

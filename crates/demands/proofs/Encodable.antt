@@ -73,7 +73,8 @@ module _ (s : List ℕ) (small : Bytes s) (low : length s < 256 ^ 4) where
   unfolding tcp
   tcp-sound = first-sound s (length s) (frameOf 0 s) (frame-sound 0 (at-all s))
 
-  after-sound : (go : ℕ → List ℕ → Whole) (base : ℕ) {l : List ℕ} (x : Frame) → At s base l → ((q : ℕ) (m : List ℕ) → At s q m → WholeSound s (go q m)) → FrameSound s x
+  after-sound : (go : ℕ → List ℕ → Whole) (base : ℕ) {l : List ℕ} (x : Frame) → At s base l
+      → ((q : ℕ) (m : List ℕ) → At s q m → WholeSound s (go q m)) → FrameSound s x
       → WholeSound s (afterFrame go base l x)
   after-sound go base (stop k) at h w = tt
   after-sound go base wait at h w = sound-nil
@@ -116,7 +117,8 @@ module _ (rule : List ℕ → Whole) (limit : ℕ) (msg : List ℕ) (F : Forest)
 
 -- ---- the table
 
-encodable : (rule : List ℕ → Whole) → RecordsHold rule → ((s : List ℕ) → Bytes s → length s < 256 ^ 4 → WholeSound s (rule s)) → Encodable rule
+encodable : (rule : List ℕ → Whole) → RecordsHold rule → ((s : List ℕ) → Bytes s → length s < 256 ^ 4 → WholeSound s (rule s))
+    → Encodable rule
 encodable rule holds sound msg small limit table k a b inside left count e q =
     let F = node k a b inside nil in
     let w = within rule limit msg F left e (length table / recordSize) q in

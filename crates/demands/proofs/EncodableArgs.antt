@@ -1,4 +1,5 @@
--- What is read is sound: every argument that a message is read to have obeys the rules of a well-formed table, and its fields fit. Assumes nothing.
+-- What is read is sound: every argument that a message is read to have obeys the rules of a well-formed table, and its fields
+-- fit. Assumes nothing.
 use mathlib.Core.Path.{_≡_, refl, sym, ap, subst, _∙_}
 use mathlib.Core.Bool.{Bool, true, false}
 use mathlib.Core.List.{List, [], _∷_}
@@ -57,7 +58,8 @@ module _ {s : List ℕ} {container : ℕ} where
   sound-node n r =
       record { obeys = (n .rules, n .range, n .may, n .in-sound .obeys, r .obeys); fits = (n .low .0, n .low .1, n .in-sound .fits, r .fits) }
 
-  pub sound-snoc : (F : Forest) {k a b : ℕ} {f : Forest} → NodeSound s container k a b f → Sound s container F → Sound s container (snoc F k a b f)
+  pub sound-snoc : (F : Forest) {k a b : ℕ} {f : Forest} → NodeSound s container k a b f → Sound s container F
+      → Sound s container (snoc F k a b f)
   unfolding Obeys FieldsFit snoc
   sound-snoc nil n w = sound-node n w
   sound-snoc (node k' a' b' f' rest) n w =
@@ -80,7 +82,8 @@ LeafSound s class tag (arg.Given a b used) = (leafRules class a b ≡ true) × (
 LeafSound s class tag (arg.Refused k) = Unit {0}
 
 -- a text that was found is one of the source
-pub text-range : {s l : List ℕ} {q n : ℕ} (tag : ℕ) → among tag (47 ∷ 115 ∷ []) ≡ true → At s q l → n ≤ length l → utf8 (take n l) ≡ true → rangeOk s tag q n ≡ true
+pub text-range : {s l : List ℕ} {q n : ℕ} (tag : ℕ) → among tag (47 ∷ 115 ∷ []) ≡ true → At s q l → n ≤ length l
+    → utf8 (take n l) ≡ true → rangeOk s tag q n ≡ true
 unfolding rangeOk
 text-range {s} {l} {q} {n} tag t at h v =
     let e : length (take n l) ≡ n = length-take-le n l h in
@@ -142,7 +145,8 @@ later-sound s n (args f used) w = w
 
 module _ {s : List ℕ} (small : Bytes s) (low : length s < 256 ^ 4) (base : ℕ) where
   -- an argument that was read may stand in an array
-  leaf-node : {l : List ℕ} (p : ℕ) → At s (base + p) l → (class : Class) (tag : ℕ) → sortOf tag ≡ Leaf class → HasTag tag class → {a b used : ℕ}
+  leaf-node : {l : List ℕ} (p : ℕ) → At s (base + p) l → (class : Class) (tag : ℕ) → sortOf tag ≡ Leaf class → HasTag tag class
+      → {a b used : ℕ}
       → arg.Given a b used ≡ argOf class base l p → NodeSound s 91 tag a b nil
   unfolding ownRules allowed argOf
   leaf-node {l} p at class tag e t {a} {b} {used} g =
@@ -165,7 +169,8 @@ module _ {s : List ℕ} (small : Bytes s) (low : length s < 256 ^ 4) (base : ℕ
 
   -- ---- the arguments of a message
 
-  act-sound : (sort : Sort) (tag : ℕ) → sortOf tag ≡ sort → HasSort tag sort → (go : List ℕ → ℕ → Forest → List Forest → Args) {l : List ℕ} (p : ℕ) (frame : Forest) (below : List Forest)
+  act-sound : (sort : Sort) (tag : ℕ) → sortOf tag ≡ sort → HasSort tag sort
+      → (go : List ℕ → ℕ → Forest → List Forest → Args) {l : List ℕ} (p : ℕ) (frame : Forest) (below : List Forest)
       → At s (base + p) l → Sound s 91 frame → AllSound s below
       → ((m : List ℕ) (q : ℕ) (f : Forest) (b : List Forest) → At s (base + q) m → Sound s 91 f → AllSound s b → ArgsSound s (go m q f b))
       → ArgsSound s (act sort go base tag l p frame below)
@@ -181,12 +186,14 @@ module _ {s : List ℕ} (small : Bytes s) (low : length s < 256 ^ 4) (base : ℕ
           later-sound s used (go (drop used l) (p + used) (snoc frame tag a b nil) below)
           (h (drop used l) (p + used) (snoc frame tag a b nil) below (at-on base p used n at) (sound-snoc frame (leaf-node p at class tag e (t .1) g) w) v)
 
-  read-sound : (ts : List ℕ) {l : List ℕ} (p : ℕ) (frame : Forest) (below : List Forest) → At s (base + p) l → Sound s 91 frame → AllSound s below
+  read-sound : (ts : List ℕ) {l : List ℕ} (p : ℕ) (frame : Forest) (below : List Forest) → At s (base + p) l → Sound s 91 frame
+      → AllSound s below
       → ArgsSound s (readArgs base ts l p frame below)
   unfolding readArgs
   read-sound [] p frame below at w v = w
   read-sound (t ∷ ts) p frame below at w v =
       act-sound (sortOf t) t refl (has-sort t) (λ m q f b. readArgs base ts m q f b) p frame below at w v (λ m q f b. read-sound ts {l = m} q f b)
 
-  pub args-sound : (ts : List ℕ) {l : List ℕ} (p : ℕ) → At s (base + p) l → {kept : Forest} {used : ℕ} → args kept used ≡ argsOf base ts l p → Sound s 47 kept
+  pub args-sound : (ts : List ℕ) {l : List ℕ} (p : ℕ) → At s (base + p) l → {kept : Forest} {used : ℕ}
+      → args kept used ≡ argsOf base ts l p → Sound s 47 kept
   args-sound ts p at {kept} {used} e = in-message kept (subst (ArgsSound s) (sym e) (read-sound ts p nil [] at sound-nil tt))

@@ -1,4 +1,5 @@
--- Examples, computed, that meet the hypotheses of `encodable-udp`, `-tcp` and `-vec`: document 01's P3, bare and behind its length. Assumes nothing.
+-- Examples, computed, that meet the hypotheses of `encodable-udp`, `-tcp` and `-vec`: document 01's P3, bare and behind its
+-- length. Assumes nothing.
 use mathlib.Core.Path.{refl}
 use mathlib.Core.List.{List, _∷_}
 use Prim.Native.Nat.{ℕ}

@@ -36,7 +36,8 @@ after-sound : (s : List ℕ) (n : ℕ) (o : Out) → OutSound s o → OutSound s
 after-sound s n (fault k) w = tt
 after-sound s n (one k a b f used) w = w
 
-joined-sound : (s : List ℕ) (k a b : ℕ) (f : Forest) (n : ℕ) (g : Elements) → NodeSound s 35 k a b f → ElementsSound s g → ElementsSound s (joined k a b f n g)
+joined-sound : (s : List ℕ) (k a b : ℕ) (f : Forest) (n : ℕ) (g : Elements) → NodeSound s 35 k a b f → ElementsSound s g
+    → ElementsSound s (joined k a b f n g)
 joined-sound s k a b f n (upto g used) w v = sound-node w v
 
 module _ {s : List ℕ} (small : Bytes s) (low : length s < 256 ^ 4) (base : ℕ) where
@@ -62,7 +63,8 @@ module _ {s : List ℕ} (small : Bytes s) (low : length s < 256 ^ 4) (base : ℕ
 
   -- ---- bundles
 
-  bundle-sound : (es : List ℕ → ℕ → Elements) {l : List ℕ} (p : ℕ) → At s (base + p) l → ((m : List ℕ) (q : ℕ) → At s (base + q) m → ElementsSound s (es m q))
+  bundle-sound : (es : List ℕ → ℕ → Elements) {l : List ℕ} (p : ℕ) → At s (base + p) l
+      → ((m : List ℕ) (q : ℕ) → At s (base + q) m → ElementsSound s (es m q))
       → OutSound s (bundleOf es l p)
   unfolding bundleOf ownRules rangeOk allowed
   bundle-sound es {l} p at h = by-le (OutSound s) 8 (length l) (λ k. with-elements (es (drop 8 l) (p + 8)) (h (drop 8 l) (p + 8) (at-on base p 8 k at))) (λ _. tt)
@@ -74,7 +76,8 @@ module _ {s : List ℕ} (small : Bytes s) (low : length s < 256 ^ 4) (base : ℕ
 
   -- ---- packets
 
-  start-sound : (es : List ℕ → ℕ → Elements) {l : List ℕ} (p : ℕ) → At s (base + p) l → ((m : List ℕ) (q : ℕ) → At s (base + q) m → ElementsSound s (es m q))
+  start-sound : (es : List ℕ → ℕ → Elements) {l : List ℕ} (p : ℕ) → At s (base + p) l
+      → ((m : List ℕ) (q : ℕ) → At s (base + q) m → ElementsSound s (es m q))
       → (t : Text) → t ≡ textOf l p → OutSound s (startsWith base es l p t)
   start-sound es p at h (Lacks k) e = tt
   start-sound es {l} p at h (Found n used) e =
@@ -87,7 +90,8 @@ module _ {s : List ℕ} (small : Bytes s) (low : length s < 256 ^ 4) (base : ℕ
       (λ _. after-sound s used (bundleOf es (drop used l) (p + used)) (bundle-sound es (p + used) next h))
       (λ _. tt))
 
-  packet-of-sound : (es : List ℕ → ℕ → Elements) {l : List ℕ} (p : ℕ) → At s (base + p) l → ((m : List ℕ) (q : ℕ) → At s (base + q) m → ElementsSound s (es m q))
+  packet-of-sound : (es : List ℕ → ℕ → Elements) {l : List ℕ} (p : ℕ) → At s (base + p) l
+      → ((m : List ℕ) (q : ℕ) → At s (base + q) m → ElementsSound s (es m q))
       → OutSound s (packetOf base es l p)
   unfolding packetOf
   packet-of-sound es {l} p at h = by-test (OutSound s) (eqb (length l) 0) (λ _. tt) (λ _. start-sound es p at h (textOf l p) refl)
@@ -96,7 +100,8 @@ module _ {s : List ℕ} (small : Bytes s) (low : length s < 256 ^ 4) (base : ℕ
 
   module _ (pk : List ℕ → ℕ → Out) (es : List ℕ → ℕ → Elements) (hp : (m : List ℕ) (q : ℕ) → At s (base + q) m → OutSound s (pk m q))
       (he : (m : List ℕ) (q : ℕ) → At s (base + q) m → ElementsSound s (es m q)) where
-    filled-sound : {l : List ℕ} (p n : ℕ) (o : Out) → 4 + n ≤ length l → At s (base + p) l → OutSound s o → ElementsSound s (goOn es l p (filling n o))
+    filled-sound : {l : List ℕ} (p n : ℕ) (o : Out) → 4 + n ≤ length l → At s (base + p) l → OutSound s o
+        → ElementsSound s (goOn es l p (filling n o))
     filled-sound p n (fault k) h at w = sound-nil
     filled-sound {l} p n (one k a b f used) h at w =
         joined-sound s k a b f n (es (drop (4 + n) l) (p + (4 + n))) w (he (drop (4 + n) l) (p + (4 + n)) (at-on base p (4 + n) h at))

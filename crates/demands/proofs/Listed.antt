@@ -51,7 +51,8 @@ before-never kind a b f (trees g left) h = tt
 before-never kind a b f waiting h = h
 before-never kind a b f (refusal k) h = tt
 
-after-never : (go : ℕ → List ℕ → Whole) (base : ℕ) (l : List ℕ) (x : Frame) → ((q : ℕ) (m : List ℕ) → MayWait false (go q m)) → MayWait false (afterFrame go base l x)
+after-never : (go : ℕ → List ℕ → Whole) (base : ℕ) (l : List ℕ) (x : Frame) → ((q : ℕ) (m : List ℕ) → MayWait false (go q m))
+    → MayWait false (afterFrame go base l x)
 after-never go base l (stop k) h = tt
 after-never go base l wait h = tt
 after-never go base l (tree kind a b f used) h =
@@ -81,7 +82,8 @@ limited-listed b capacity limit (refusal NotOpen) h = refl
 limited-listed b capacity limit (refusal UnknownTag) h = refl
 limited-listed b capacity limit (refusal NotScalar) h = refl
 
-decoded-listed : (b : Bool) (rule : List ℕ → Whole) (capacity limit : ℕ) (msg : List ℕ) {r : Decoded} → r ≡ decoded rule capacity limit msg → MayWait b (rule msg) → Decoding b r
+decoded-listed : (b : Bool) (rule : List ℕ → Whole) (capacity limit : ℕ) (msg : List ℕ) {r : Decoded}
+    → r ≡ decoded rule capacity limit msg → MayWait b (rule msg) → Decoding b r
 decoded-listed b rule capacity limit msg e h =
     subst (Decoding b) (sym e) (by-decoded (Decoding b) rule capacity limit msg (λ g. refl) (λ g. refl) (λ g k. limited-listed b capacity limit (rule msg) h))
 
@@ -96,7 +98,8 @@ unfolding write
 write-listed numbers bs out p q =
     by-le (Encoding numbers) (length bs) 65535 (λ h. by-le (Encoding numbers) (length bs) (length out) (λ k. tt) (λ k. q)) (λ h. p)
 
-encodes-listed : {frame : ℕ → List ℕ → List ℕ} {t : List ℕ} {count : ℕ} {source out : List ℕ} {r : Outcome} → Encodes frame t count source out r → Encoding encodeOrder r
+encodes-listed : {frame : ℕ → List ℕ → List ℕ} {t : List ℕ} {count : ℕ} {source out : List ℕ} {r : Outcome}
+    → Encodes frame t count source out r → Encoding encodeOrder r
 unfolding encoded
 encodes-listed (malformed n e) = subst (Encoding encodeOrder) (sym e) refl
 encodes-listed {frame} {source = source} {out = out} (formed kind a b inside w e) =

@@ -59,7 +59,8 @@ tcp-longer msg more =
 -- ---- answers and tables
 
 -- where no limit refuses the call, its trees are the answer
-given : (rule : List ℕ → Whole) (capacity limit : ℕ) (msg : List ℕ) {f : Forest} {left : ℕ} → rule msg ≡ trees f left → Unlimited (decoded rule capacity limit msg)
+given : (rule : List ℕ → Whole) (capacity limit : ℕ) (msg : List ℕ) {f : Forest} {left : ℕ} → rule msg ≡ trees f left
+    → Unlimited (decoded rule capacity limit msg)
     → decoded rule capacity limit msg ≡ Packets (size f) left
 given rule capacity limit msg {f} {left} e =
     by-decoded (λ r. Unlimited r → r ≡ Packets (size f) left) rule capacity limit msg (λ h u. absurd (u .not-13 refl)) (λ h u. absurd (u .not-1 refl))
@@ -69,7 +70,8 @@ module _ (rule : List ℕ → Whole) (longer : (msg more : List ℕ) → Longer 
   more-bytes : MoreBytes rule
   more-bytes msg more limit limit' table table' count left d c e u = by-longer (rule msg) (rule (msg ++ more)) refl refl (longer msg more)
     where
-      by-longer : (w w' : Whole) → rule msg ≡ w → rule (msg ++ more) ≡ w' → Longer w w' → GoesOn rule msg more limit limit' table table' count
+      by-longer : (w w' : Whole) → rule msg ≡ w → rule (msg ++ more) ≡ w' → Longer w w'
+          → GoesOn rule msg more limit limit' table table' count
       by-longer w w' x y no-tree = let z = accepted rule _ limit msg e .read in let z' : _≡_ {A = ℕ} 0 1 = cc in absurd (omega arith)
       by-longer w w' x y none-yet = let z = accepted rule _ limit msg e .read in let z' : _≡_ {A = ℕ} 0 1 = cc in absurd (omega arith)
       by-longer w w' x y (goes-on {left' = left'} on) =

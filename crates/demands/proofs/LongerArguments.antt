@@ -122,7 +122,8 @@ module _ (more : List ℕ) where
           let f = snoc frame tag a b nil in
           rw (s, drop-append-le used l more (given-within class base l p e)) (later-longer used (go (drop used l) (p + used) f below) (go (drop used l ++ more) (p + used) f below) (h (drop used l) (p + used) f below))
 
-  read-longer : (base : ℕ) (tags l : List ℕ) (p : ℕ) (frame : Forest) (below : List Forest) → KeptArgs (readArgs base tags l p frame below) (readArgs base tags (l ++ more) p frame below)
+  read-longer : (base : ℕ) (tags l : List ℕ) (p : ℕ) (frame : Forest) (below : List Forest)
+      → KeptArgs (readArgs base tags l p frame below) (readArgs base tags (l ++ more) p frame below)
   unfolding readArgs
   read-longer base [] l p frame below = refl
   read-longer base (tag ∷ tags) l p frame below = act-longer (sortOf tag) _ base tag l p frame below (λ m q f b. read-longer base tags m q f b)

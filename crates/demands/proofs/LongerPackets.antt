@@ -1,4 +1,5 @@
--- Bytes appended to a packet: a message is the same message, and a bundle keeps its time tag and begins with the same elements. Assumes nothing.
+-- Bytes appended to a packet: a message is the same message, and a bundle keeps its time tag and begins with the same elements.
+-- Assumes nothing.
 use mathlib.Core.Path.{_≡_, refl, ap}
 use mathlib.Core.List.{List, _++_}
 use Prim.Native.Nat.{ℕ, _+_, _-_, _≤_}

@@ -1,4 +1,5 @@
--- A tree that continues another, on the table: record 0 keeps its kind and fields, and the records after it begin with the same ones. Assumes nothing.
+-- A tree that continues another, on the table: record 0 keeps its kind and fields, and the records after it begin with the same
+-- ones. Assumes nothing.
 use mathlib.Core.Path.{_≡_, refl, ap, sym, _∙_}
 use mathlib.Core.List.{List, _++_, append-assoc, append-nil}
 use Prim.Native.Nat.{ℕ, _+_, _-_, _*_}

@@ -93,7 +93,8 @@ module _ (source : List ℕ) (small : Bytes source) where
     fields : FieldsAre source value a b
     spells : AtomSpells value (argumentOf class source a b)
 
-  text-is : (k a b : ℕ) → among k (47 ∷ 115 ∷ []) ≡ true → rangeOk source k a b ≡ true → NoNul (part source a b) → IsText (part source a b) × Range source a b (part source a b)
+  text-is : (k a b : ℕ) → among k (47 ∷ 115 ∷ []) ≡ true → rangeOk source k a b ≡ true → NoNul (part source a b)
+      → IsText (part source a b) × Range source a b (part source a b)
   unfolding rangeOk
   text-is k a b e g n =
       let w = then-true (inside source a b) (utf8 (part source a b)) (rw e at g) in
@@ -162,15 +163,18 @@ module _ (source : List ℕ) (small : Bytes source) where
           spells = rw e (one-array (I .spells) (R .spells));
         }
 
-    node-args : (sort : Sort) → sortOf k ≡ sort → HasSort k sort → isPacket k ≡ false → argRules sort a b ≡ true → rangeOk source k a b ≡ true → CleanNode source k a b
-        → a < 256 ^ 4 → b < 256 ^ 4 → Obeys source k inside → (Obeys source 91 inside → ArgsWritten inside) → ArgsWritten (node k a b inside rest)
+    node-args : (sort : Sort) → sortOf k ≡ sort → HasSort k sort → isPacket k ≡ false → argRules sort a b ≡ true
+        → rangeOk source k a b ≡ true → CleanNode source k a b
+        → a < 256 ^ 4 → b < 256 ^ 4 → Obeys source k inside → (Obeys source 91 inside → ArgsWritten inside)
+        → ArgsWritten (node k a b inside rest)
     node-args Opens e t p h g c la lb o go =
         let z = both-true (eqb a 0) (eqb b 0) h in
         array-args e t (eqb-true a 0 (z .0)) (eqb-true b 0 (z .1)) (go (rw t at o))
     node-args Closes e t p h g c la lb o go = no-way h
     node-args (Leaf class) e t p h g c la lb o go = leaf-args class e (no-inside k inside p (t .0) o) (leaf-is class k a b (t .1) h g c la lb)
 
-  args-are : (F : Forest) (container : ℕ) → ((j : ℕ) → allowed container j ≡ not (isPacket j)) → Obeys source container F → Clean source F → FieldsFit F → ArgsWritten F
+  args-are : (F : Forest) (container : ℕ) → ((j : ℕ) → allowed container j ≡ not (isPacket j)) → Obeys source container F
+      → Clean source F → FieldsFit F → ArgsWritten F
   unfolding Obeys Clean FieldsFit enc.tagsOf dataOf tagsOf ArgumentsAllowed ownRules
   args-are nil container q o c f = record { arguments = end; allowed = tt; stands = no-node; tags = refl; spells = no-argument }
   args-are (node k a b inside rest) container q o c f =
@@ -187,7 +191,8 @@ module _ (source : List ℕ) (small : Bytes source) where
     stands : StandFor source packets F
     spells : ElementsSpell packets (elementsOf source F)
 
-  a-message : (a b : ℕ) (inside : Forest) → rangeOk source 47 a b ≡ true → CleanNode source 47 a b → ArgsWritten inside → Spelled source 47 a b inside (messageOf source a b inside)
+  a-message : (a b : ℕ) (inside : Forest) → rangeOk source 47 a b ≡ true → CleanNode source 47 a b → ArgsWritten inside
+      → Spelled source 47 a b inside (messageOf source a b inside)
   unfolding messageOf CleanNode Allowed
   a-message a b inside g c A =
       let w = text-is 47 a b refl g (c .1) in
@@ -199,7 +204,8 @@ module _ (source : List ℕ) (small : Bytes source) where
         stands = is-message (w .1) (A .stands);
       }
 
-  a-bundle : (a b : ℕ) (inside : Forest) → a < 256 ^ 4 → b < 256 ^ 4 → PacketsWritten inside → Spelled source 35 a b inside (bundleOf a b (elementsOf source inside))
+  a-bundle : (a b : ℕ) (inside : Forest) → a < 256 ^ 4 → b < 256 ^ 4 → PacketsWritten inside
+      → Spelled source 35 a b inside (bundleOf a b (elementsOf source inside))
   unfolding bundleOf Allowed
   a-bundle a b inside la lb P =
       record {
@@ -209,7 +215,8 @@ module _ (source : List ℕ) (small : Bytes source) where
         stands = is-bundle (P .stands);
       }
 
-  a-packet : (t : Bool) (k a b : ℕ) (inside : Forest) → eqb k 47 ≡ t → rangeOk source k a b ≡ true → allowed 35 k ≡ true → CleanNode source k a b → a < 256 ^ 4 → b < 256 ^ 4
+  a-packet : (t : Bool) (k a b : ℕ) (inside : Forest) → eqb k 47 ≡ t → rangeOk source k a b ≡ true → allowed 35 k ≡ true
+      → CleanNode source k a b → a < 256 ^ 4 → b < 256 ^ 4
       → Obeys source k inside → (Obeys source 47 inside → ArgsWritten inside) → (Obeys source 35 inside → PacketsWritten inside)
       → Spelled source k a b inside (cond t (messageOf source a b inside) (bundleOf a b (elementsOf source inside)))
   a-packet true k a b inside e g w c la lb o args packets =
@@ -219,7 +226,8 @@ module _ (source : List ℕ) (small : Bytes source) where
       let k35 : k ≡ 35 = bundle-kind k (eqb-false k 47 e) (sym (bundle-allows k) ∙ w) in
       rw k35 (a-bundle a b inside la lb (packets (rw k35 at o)))
 
-  one-more : (k a b : ℕ) (inside rest : Forest) → PacketsWritten rest → Spelled source k a b inside (packetOf source k a b inside) → PacketsWritten (node k a b inside rest)
+  one-more : (k a b : ℕ) (inside rest : Forest) → PacketsWritten rest → Spelled source k a b inside (packetOf source k a b inside)
+      → PacketsWritten (node k a b inside rest)
   unfolding elementsOf AllAllowed packetOf
   one-more k a b inside rest R S =
       record {
@@ -231,7 +239,8 @@ module _ (source : List ℕ) (small : Bytes source) where
 
   module _ (k a b : ℕ) (inside rest : Forest) (o : Obeys source 35 (node k a b inside rest)) (c : Clean source (node k a b inside rest)) (f : FieldsFit (node k a b inside rest)) where
     -- the first packet, by what a bundle in it contains
-    packet-by : (Obeys source 35 inside → Clean source inside → FieldsFit inside → PacketsWritten inside) → Spelled source k a b inside (packetOf source k a b inside)
+    packet-by : (Obeys source 35 inside → Clean source inside → FieldsFit inside → PacketsWritten inside)
+        → Spelled source k a b inside (packetOf source k a b inside)
     unfolding Obeys Clean FieldsFit packetOf
     packet-by go =
         a-packet (eqb k 47) k a b inside refl (o .1) (o .2) (c .0) (f .0) (f .1) (o .3) (λ h. args-are inside 47 message-allows h (c .1) (f .2)) (λ h. go h (c .1) (f .2))
@@ -243,6 +252,7 @@ module _ (source : List ℕ) (small : Bytes source) where
       one-more k a b inside rest (packets-are rest (o .4) (c .2) (f .3)) (packet-by k a b inside rest o c f (packets-are inside))
 
   -- the tree's packet, and that its bytes spell it
-  pub packet-is : (k a b : ℕ) (inside : Forest) → Obeys source 35 (node k a b inside nil) → Clean source (node k a b inside nil) → FieldsFit (node k a b inside nil)
+  pub packet-is : (k a b : ℕ) (inside : Forest) → Obeys source 35 (node k a b inside nil) → Clean source (node k a b inside nil)
+      → FieldsFit (node k a b inside nil)
       → Spelled source k a b inside (packetOf source k a b inside)
   packet-is k a b inside o c f = packet-by k a b inside nil o c f (packets-are inside)

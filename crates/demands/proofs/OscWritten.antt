@@ -1,4 +1,5 @@
--- What `encode` writes for a table, by its contract, is the bytes of the table's tree, and so a packet that OSC 1.0 allows. Assumes nothing.
+-- What `encode` writes for a table, by its contract, is the bytes of the table's tree, and so a packet that OSC 1.0 allows.
+-- Assumes nothing.
 use mathlib.Core.Path.{_≡_}
 use mathlib.Core.List.{List}
 use Prim.Native.Nat.{ℕ, _≤_}
@@ -45,7 +46,8 @@ module _ (source out : List ℕ) (k a b : ℕ) (inside : Forest) where
       (λ _ n e. let z : _≡_ {A = ℕ} 0 1 = cc in absurd (omega arith))
 
   -- with room it is written
-  pub written-all : depth (node k a b inside nil) ≤ 64 → length (packetOf source k a b inside) ≤ 65535 → length (packetOf source k a b inside) ≤ length out
+  pub written-all : depth (node k a b inside nil) ≤ 64 → length (packetOf source k a b inside) ≤ 65535
+      → length (packetOf source k a b inside) ≤ length out
       → encoded plain source out k a b inside .answer ≡ Written (length (packetOf source k a b inside))
   unfolding encoded write
   written-all d n h =

@@ -24,7 +24,8 @@ unfolding packetAt packet udp decoded
 p1 table = record { answered = refl; left = refl }
 
 -- P14: 00000009 2F610000 is not all there
-p14 : (table : List ℕ) → Meets (decode-tcp (0 ∷ 0 ∷ 0 ∷ 9 ∷ 0x2F ∷ 0x61 ∷ 0 ∷ 0 ∷ []) table 64) (record { answer = decodes.Waiting; lent = table })
+p14 : (table : List ℕ)
+    → Meets (decode-tcp (0 ∷ 0 ∷ 0 ∷ 9 ∷ 0x2F ∷ 0x61 ∷ 0 ∷ 0 ∷ []) table 64) (record { answer = decodes.Waiting; lent = table })
 unfolding number frameOf tcp decoded
 p14 table = record { answered = refl; left = refl }
 

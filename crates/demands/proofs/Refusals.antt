@@ -24,14 +24,16 @@ use Rattle.table.proofs.Theorem.{formed-tree, tree-formed, tree-unique}
 ending : {c : Call} {e e' : Ending c} → e .answer ≡ e' .answer → e .lent ≡ e' .lent → e ≡ e'
 ending {c} p q = ap₂ (λ (a : Answer c) (l : Lent c). record { answer = a; lent = l }) p q
 
-decodes-one : {rule : List ℕ → Whole} {msg table : List ℕ} {limit : ℕ} {r r' : Decoded} {t t' : List ℕ} → Decodes rule msg table limit r t → Decodes rule msg table limit r' t'
+decodes-one : {rule : List ℕ → Whole} {msg table : List ℕ} {limit : ℕ} {r r' : Decoded} {t t' : List ℕ}
+    → Decodes rule msg table limit r t → Decodes rule msg table limit r' t'
     → (r ≡ r') × (t ≡ t')
 decodes-one {rule} {msg} {table} m m' =
     let e = m .answered ∙ sym (m' .answered) in
     (e, m .left ∙ ap (λ (d : Decoded). tabled d (forestOf (rule msg)) table) e ∙ sym (m' .left))
 
 -- a table is one tree's alone
-trees-one : {t : List ℕ} {count : ℕ} {source : List ℕ} {kind a b kind' a' b' : ℕ} {inside inside' : Forest} → IsTree t count source kind a b inside → IsTree t count source kind' a' b' inside'
+trees-one : {t : List ℕ} {count : ℕ} {source : List ℕ} {kind a b kind' a' b' : ℕ} {inside inside' : Forest}
+    → IsTree t count source kind a b inside → IsTree t count source kind' a' b' inside'
     → node kind a b inside nil ≡ node kind' a' b' inside' nil
 trees-one {t} {count} w w' = tree-unique t 0 count _ _ (w .spans) (w' .spans)
 
@@ -55,7 +57,8 @@ settled (text-of value packet label) e e' m m' = ending (m ∙ sym m') refl
 
 -- ---- an ending for every call
 
-encodes-met : (frame : ℕ → List ℕ → List ℕ) (t : List ℕ) (count : ℕ) (source out : List ℕ) → ((r : Outcome) → Encodes frame t count source out r → ⊥) → ⊥
+encodes-met : (frame : ℕ → List ℕ → List ℕ) (t : List ℕ) (count : ℕ) (source out : List ℕ)
+    → ((r : Outcome) → Encodes frame t count source out r → ⊥) → ⊥
 encodes-met frame t count source out n =
     n _ (malformed (λ w. let x = formed-tree t count source w in n _ (formed _ _ _ (x .0) (x .1) refl)) refl)
 
@@ -88,7 +91,8 @@ write-same bs out =
     (λ h. by-le (Same out) (length bs) (length out) (λ k n. absurd (n refl)) (λ k n. refl))
     (λ h n. refl)
 
-encodes-same : {frame : ℕ → List ℕ → List ℕ} {t : List ℕ} {count : ℕ} {source out : List ℕ} {r : Outcome} → Encodes frame t count source out r → Same out r
+encodes-same : {frame : ℕ → List ℕ → List ℕ} {t : List ℕ} {count : ℕ} {source out : List ℕ} {r : Outcome}
+    → Encodes frame t count source out r → Same out r
 unfolding encoded
 encodes-same {out = out} (malformed n e) = subst (Same out) (sym e) (λ _. refl)
 encodes-same {frame} {source = source} {out = out} (formed kind a b inside w e) =

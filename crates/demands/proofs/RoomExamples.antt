@@ -1,4 +1,5 @@
--- Examples, computed: calls that meet the hypotheses of `more-room` and of the records' bound, and one that is refused with 10. Assumes nothing.
+-- Examples, computed: calls that meet the hypotheses of `more-room` and of the records' bound, and one that is refused with 10.
+-- Assumes nothing.
 use mathlib.Core.Path.{_≡_, refl}
 use mathlib.Core.List.{List, [], _∷_, _++_}
 use Prim.Native.Nat.{ℕ, _*_}

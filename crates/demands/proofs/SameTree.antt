@@ -1,4 +1,5 @@
--- Trees that stand for one packet, each over its own source, are the same; and what the packet says of its tree's fields and depth. Assumes nothing.
+-- Trees that stand for one packet, each over its own source, are the same; and what the packet says of its tree's fields and
+-- depth. Assumes nothing.
 use mathlib.Core.Path.{_≡_, refl, sym, ap, _∙_}
 use mathlib.Core.Bool.{false}
 use mathlib.Core.List.{List}
@@ -60,7 +61,8 @@ module _ {s s' : List ℕ} where
   mutual
     unfolding Allowed AllAllowed
 
-    pub same-tree : (P : Packet) {k a b k' a' b' : ℕ} {f f' g g' : Forest} → Allowed P → StandsFor s P k a b f → StandsFor s' P k' a' b' f' → Same s s' g g'
+    pub same-tree : (P : Packet) {k a b k' a' b' : ℕ} {f f' g g' : Forest} → Allowed P → StandsFor s P k a b f
+        → StandsFor s' P k' a' b' f' → Same s s' g g'
         → Same s s' (node k a b f g) (node k' a' b' f' g')
     same-tree (message address A) h (is-message r x) (is-message r' x') g =
         let e = same-range r r' in
@@ -99,7 +101,8 @@ module _ {s : List ℕ} (low : length s < 256 ^ 4) where
   mutual
     unfolding Allowed AllAllowed FieldsFit
 
-    tree-fits : (P : Packet) {k a b : ℕ} {f : Forest} (g : Forest) → Allowed P → StandsFor s P k a b f → FieldsFit g → FieldsFit (node k a b f g)
+    tree-fits : (P : Packet) {k a b : ℕ} {f : Forest} (g : Forest) → Allowed P → StandsFor s P k a b f → FieldsFit g
+        → FieldsFit (node k a b f g)
     tree-fits (message address A) g h (is-message r x) w = (omega (arith, r .lies), omega (arith, r .lies), arguments-fit A (h .2) x, w)
     tree-fits (bundle seconds fractional Ps) g h (is-bundle x) w = (h .0, h .1, forest-fits Ps (h .2) x, w)
 

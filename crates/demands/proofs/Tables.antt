@@ -37,7 +37,8 @@ record SameRecord (s t s' t' : List ℕ) (i : ℕ) : Type 0 where
   first : SameField (kindAt t i) s (aAt t i) (bAt t i) s' (aAt t' i)
 
 module _ {s s' : List ℕ} (t t' : List ℕ) where
-  same-records : (lo hi : ℕ) {F F' : Forest} → Same s s' F F' → Spans t lo hi F → Spans t' lo hi F' → (i : ℕ) → lo ≤ i → i < hi → SameRecord s t s' t' i
+  same-records : (lo hi : ℕ) {F F' : Forest} → Same s s' F F' → Spans t lo hi F → Spans t' lo hi F' → (i : ℕ) → lo ≤ i → i < hi
+      → SameRecord s t s' t' i
   unfolding Spans
   same-records lo hi words.Same.none x y i l h = absurd (omega (arith, x))
   same-records lo hi (both {f = f} {f' = f'} e u v) x y i l h =

@@ -21,7 +21,8 @@ use Rattle.demands.proofs.Trip.{round-trip}
 
 module _ (t : List ℕ) (count : ℕ) (source out : List ℕ) {e : Encoded} {out' : List ℕ} (enc : Encodes plain t count source out (record { answer = e; out = out' })) where
   -- with room, the answer is the packet's length
-  all-written : {kind a b : ℕ} {inside : Forest} → Playable t count source kind a b inside → length (packetOf source kind a b inside) ≤ length out
+  all-written : {kind a b : ℕ} {inside : Forest} → Playable t count source kind a b inside
+      → length (packetOf source kind a b inside) ≤ length out
       → e ≡ Written (length (packetOf source kind a b inside))
   all-written {kind} {a} {b} {inside} p h =
       ap (λ (o : Outcome). o .answer) (outcome-is (p .formed) enc) ∙ written-all source out kind a b inside (p .shallow) (p .fits) h

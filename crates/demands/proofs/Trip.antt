@@ -40,7 +40,8 @@ record Back (t : List ℕ) (count : ℕ) (source l table : List ℕ) : Type 0 wh
   same : SameTable source t l (after udp 64 l table) count
 
 module _ {t : List ℕ} {count : ℕ} {source : List ℕ} {k a b : ℕ} {inside : Forest} (w : IsTree t count source k a b inside) where
-  read-back : (l table : List ℕ) → length l ≤ 65535 → count ≤ length table / recordSize → (S : Spelled source k a b inside l) → AcceptedAs (S .packet) l
+  read-back : (l table : List ℕ) → length l ≤ 65535 → count ≤ length table / recordSize → (S : Spelled source k a b inside l)
+      → AcceptedAs (S .packet) l
       → Back t count source l table
   read-back l table low room S A =
       let F = node k a b inside nil in

@@ -108,7 +108,8 @@ module _ {s : List ℕ} {base : ℕ} {rest : Arguments} {x y ts more : List ℕ}
       }
 
 module _ (s : List ℕ) (base : ℕ) where
-  args-read : (A : Arguments) {d : List ℕ} → ArgumentsSpell A d → ArgumentsAllowed A → (ts more : List ℕ) (p : ℕ) (frame : Forest) (below : List Forest)
+  args-read : (A : Arguments) {d : List ℕ} → ArgumentsSpell A d → ArgumentsAllowed A
+      → (ts more : List ℕ) (p : ℕ) (frame : Forest) (below : List Forest)
       → p % 4 ≡ 0 → At s (base + p) d → length d < 256 ^ 4 → ArgsRead s base A d ts more p frame below
   unfolding ArgumentsAllowed tagsOf
   args-read end no-argument h ts more p frame below z at low =
@@ -129,7 +130,8 @@ module _ (s : List ℕ) (base : ℕ) where
     pub stands : ArgumentsAre s A forest
     pub read : readArgs base (tagsOf A) d p nil [] ≡ args forest (length d)
 
-  pub arguments-read : (A : Arguments) {d : List ℕ} → ArgumentsSpell A d → ArgumentsAllowed A → (p : ℕ) → p % 4 ≡ 0 → At s (base + p) d → length d < 256 ^ 4
+  pub arguments-read : (A : Arguments) {d : List ℕ} → ArgumentsSpell A d → ArgumentsAllowed A → (p : ℕ) → p % 4 ≡ 0
+      → At s (base + p) d → length d < 256 ^ 4
       → Argued A d p
   unfolding readArgs
   arguments-read A {d} w h p z at low =

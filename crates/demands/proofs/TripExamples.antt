@@ -1,5 +1,5 @@
--- Examples, computed, that meet the hypotheses of `round-trip` and `osc10-written`: document 01's P3, and a bundle with a message that has a text and an array.
--- Assumes nothing.
+-- Examples, computed, that meet the hypotheses of `round-trip` and `osc10-written`: document 01's P3, and a bundle with a message
+-- that has a text and an array. Assumes nothing.
 use mathlib.Core.Path.{refl, sym}
 use mathlib.Core.Bool.{Bool, true, _&&_}
 use mathlib.Core.List.{List, [], _∷_, append-nil}
@@ -38,8 +38,10 @@ small-bytes (x ∷ l) t (suc i) = small-bytes l (and-yes (leb x 255) (small l) t
 
 -- ---- a round trip, with what `encode` does by its contract
 
-plays : {t : List ℕ} {count : ℕ} {source : List ℕ} {k a b : ℕ} {inside : Forest} → Playable t count source k a b inside → (out table : List ℕ)
-    → length (packetOf source k a b inside) ≤ length out → count ≤ length table / recordSize → PlaysBack t count source out (encoded plain source out k a b inside) table
+plays : {t : List ℕ} {count : ℕ} {source : List ℕ} {k a b : ℕ} {inside : Forest} → Playable t count source k a b inside
+    → (out table : List ℕ)
+    → length (packetOf source k a b inside) ≤ length out → count ≤ length table / recordSize
+    → PlaysBack t count source out (encoded plain source out k a b inside) table
 plays w out table h n = round-trip _ _ _ _ _ _ _ w out h _ (formed _ _ _ _ (w .formed) refl) table n
 
 -- ---- P3

@@ -91,11 +91,13 @@ module _ (base : ℕ) where
     starts-message : getD l 0 0 ≡ 47 → packet base l p ≡ after used (messageOf base (base + p) n (drop used l) (p + used))
     starts-message e = packet-text l p h ∙ rw (← t, eq-eqb (getD l 0 0) 47 e)
 
-    starts-bundle : getD l 0 0 ≡ 35 → take n l ≡ bundleWord → packet base l p ≡ after used (bundleOf (λ m q. elements base m q) (drop used l) (p + used))
+    starts-bundle : getD l 0 0 ≡ 35 → take n l ≡ bundleWord
+        → packet base l p ≡ after used (bundleOf (λ m q. elements base m q) (drop used l) (p + used))
     starts-bundle e b = packet-text l p h ∙ rw (← t, e, b)
 
   -- type tags and data
-  types-read : (offset n : ℕ) (A : Arguments) {t : List ℕ} (d : List ℕ) {F : Forest} → OscString (44 ∷ tagsOf A) t → ArgumentsAllowed A → (p : ℕ) → p % 4 ≡ 0
+  types-read : (offset n : ℕ) (A : Arguments) {t : List ℕ} (d : List ℕ) {F : Forest} → OscString (44 ∷ tagsOf A) t
+      → ArgumentsAllowed A → (p : ℕ) → p % 4 ≡ 0
       → readArgs base (tagsOf A) d (p + length t) nil [] ≡ args F (length d)
       → messageOf base offset n (t ++ d) p ≡ one 47 offset n F (length t + length d)
   unfolding messageOf
@@ -104,7 +106,8 @@ module _ (base : ℕ) where
 
   -- a time tag and elements
   bundle-read : (seconds fractional : ℕ) (es : List ℕ) (p : ℕ) → seconds < 256 ^ 4 → fractional < 256 ^ 4 → {F : Forest} {n : ℕ}
-      → elements base es (p + 8) ≡ upto F n → bundleOf (λ m q. elements base m q) (int32 seconds ++ (int32 fractional ++ es)) p ≡ one 35 seconds fractional F (8 + n)
+      → elements base es (p + 8) ≡ upto F n
+      → bundleOf (λ m q. elements base m q) (int32 seconds ++ (int32 fractional ++ es)) p ≡ one 35 seconds fractional F (8 + n)
   unfolding bundleOf
   bundle-read x y es p hx hy e =
       let m = int32 x ++ (int32 y ++ es) in
@@ -146,8 +149,10 @@ record ElementsRead (s : List ℕ) (base : ℕ) (Ps : Packets) (l : List ℕ) (p
 
 module _ (s : List ℕ) (base : ℕ) where
   -- a message, by its arguments
-  message-read : (address : List ℕ) (A : Arguments) {a t d : List ℕ} (p : ℕ) → OscString address a → OscString (44 ∷ tagsOf A) t → getD address 0 0 ≡ 47 → IsText address
-      → ArgumentsAllowed A → p % 4 ≡ 0 → At s (base + p) (a ++ (t ++ d)) → Argued s base A d (p + length a + length t) → PacketRead s base (message address A) (a ++ (t ++ d)) p
+  message-read : (address : List ℕ) (A : Arguments) {a t d : List ℕ} (p : ℕ) → OscString address a → OscString (44 ∷ tagsOf A) t
+      → getD address 0 0 ≡ 47 → IsText address
+      → ArgumentsAllowed A → p % 4 ≡ 0 → At s (base + p) (a ++ (t ++ d)) → Argued s base A d (p + length a + length t)
+      → PacketRead s base (message address A) (a ++ (t ++ d)) p
   message-read address A {a} {t} {d} p w v led valid h z at F =
       let n : length (a ++ (t ++ d)) ≡ length a + (length t + length d) = simp length-append in
       let q : (p + length a) % 4 ≡ 0 = omega (arith, w .multiple) in
@@ -164,8 +169,10 @@ module _ (s : List ℕ) (base : ℕ) where
       }
 
   -- a bundle, by its elements
-  bundled : (seconds fractional : ℕ) {Ps : Packets} {w es : List ℕ} (p : ℕ) → OscString bundleWord w → seconds < 256 ^ 4 → fractional < 256 ^ 4 → p % 4 ≡ 0
-      → ElementsRead s base Ps es (p + 8 + 8) → PacketRead s base (bundle seconds fractional Ps) (w ++ (int32 seconds ++ (int32 fractional ++ es))) p
+  bundled : (seconds fractional : ℕ) {Ps : Packets} {w es : List ℕ} (p : ℕ) → OscString bundleWord w → seconds < 256 ^ 4
+      → fractional < 256 ^ 4 → p % 4 ≡ 0
+      → ElementsRead s base Ps es (p + 8 + 8)
+      → PacketRead s base (bundle seconds fractional Ps) (w ++ (int32 seconds ++ (int32 fractional ++ es))) p
   bundled x y {Ps} {w} {es} p v hx hy z F =
       let m = int32 x ++ (int32 y ++ es) in
       let e : length w ≡ 8 = bundle-eight v in
@@ -188,7 +195,8 @@ module _ (s : List ℕ) (base : ℕ) where
   no-elements p = record { forest = nil; read = refl; stands = no-packet }
 
   -- elements, by the first and the others
-  one-more : {P : Packet} {Ps : Packets} {c es : List ℕ} (p : ℕ) → length c < 256 ^ 4 → PacketRead s base P c (p + 4) → ElementsRead s base Ps es (p + (4 + length c))
+  one-more : {P : Packet} {Ps : Packets} {c es : List ℕ} (p : ℕ) → length c < 256 ^ 4 → PacketRead s base P c (p + 4)
+      → ElementsRead s base Ps es (p + (4 + length c))
       → ElementsRead s base (also P Ps) (int32 (length c) ++ (c ++ es)) p
   one-more {P} {Ps} {c} {es} p h F G =
       let n : length (int32 (length c) ++ (c ++ es)) ≡ 4 + length c + length es = simp (length-append, length-bytes) (omega arith) in
@@ -199,7 +207,8 @@ module _ (s : List ℕ) (base : ℕ) where
       }
 
   -- where elements stand
-  at-elements : (x y : ℕ) (w es : List ℕ) (p : ℕ) → length w ≡ 8 → At s (base + p) (w ++ (int32 x ++ (int32 y ++ es))) → At s (base + (p + 8 + 8)) es
+  at-elements : (x y : ℕ) (w es : List ℕ) (p : ℕ) → length w ≡ 8 → At s (base + p) (w ++ (int32 x ++ (int32 y ++ es)))
+      → At s (base + (p + 8 + 8)) es
   at-elements x y w es p e at =
       let h = at-next base (p + length w + length (int32 x)) (int32 y) es (at-next base (p + length w) (int32 x) _ (at-next base p w _ at)) in
       let q : p + 8 + 4 + 4 ≡ p + 8 + 8 = omega arith in
@@ -217,7 +226,8 @@ module _ (s : List ℕ) (base : ℕ) where
   mutual
     unfolding Allowed AllAllowed
 
-    pub packet-read : (P : Packet) {l : List ℕ} → Spells P l → Allowed P → (p : ℕ) → p % 4 ≡ 0 → At s (base + p) l → length l < 256 ^ 4 → PacketRead s base P l p
+    pub packet-read : (P : Packet) {l : List ℕ} → Spells P l → Allowed P → (p : ℕ) → p % 4 ≡ 0 → At s (base + p) l
+        → length l < 256 ^ 4 → PacketRead s base P l p
     packet-read (message address A) (as-message {a = a} {t = t} {d = d} w v r) h p z at low =
         let n = length-append a (t ++ d) in
         let m = length-append t d in
@@ -230,7 +240,8 @@ module _ (s : List ℕ) (base : ℕ) where
         let m : length (int32 x ++ (int32 y ++ es)) ≡ 8 + length es = simp (length-append, length-bytes) (omega arith) in
         bundled x y p v (h .0) (h .1) z (elements-read Ps r (h .2) (p + 8 + 8) (omega arith) (at-elements x y w es p e at) (omega arith))
 
-    elements-read : (Ps : Packets) {l : List ℕ} → ElementsSpell Ps l → AllAllowed Ps → (p : ℕ) → p % 4 ≡ 0 → At s (base + p) l → length l < 256 ^ 4 → ElementsRead s base Ps l p
+    elements-read : (Ps : Packets) {l : List ℕ} → ElementsSpell Ps l → AllAllowed Ps → (p : ℕ) → p % 4 ≡ 0 → At s (base + p) l
+        → length l < 256 ^ 4 → ElementsRead s base Ps l p
     elements-read none no-element h p z at low = no-elements p
     elements-read (also P Ps) (one-element {content = c} {es = es} f w r) h p z at low =
         let n : length (int32 (length c) ++ (c ++ es)) ≡ 4 + length c + length es = simp (length-append, length-bytes) (omega arith) in

@@ -83,7 +83,8 @@ module _ (s : List ℕ) (base : ℕ) where
       let back : At s (q + length n) (content ++ replicate (w .additional) 0) = at-back n _ (rw (w .spelled) at h) in
       at-front content _ (rw e at back)
 
-  pub atom-read : {v : Atom} {bs : List ℕ} → AtomSpells v bs → AtomAllowed v → (more : List ℕ) (p : ℕ) → p % 4 ≡ 0 → At s (base + p) bs → length bs < 256 ^ 4
+  pub atom-read : {v : Atom} {bs : List ℕ} → AtomSpells v bs → AtomAllowed v → (more : List ℕ) (p : ℕ) → p % 4 ≡ 0
+      → At s (base + p) bs → length bs < 256 ^ 4
       → AtomRead s base v bs (bs ++ more) p
   unfolding argOf
   atom-read (as-word {x = x}) h more p z at low =

@@ -36,7 +36,8 @@ pub record Playable (t : List ℕ) (count : ℕ) (source : List ℕ) (kind a b :
   pub shallow : depth (node kind a b inside nil) ≤ 64
   pub fits : length (packetOf source kind a b inside) ≤ 65535
 
--- what is played back: `encode` with room answers a multiple of four; `decode_udp` of what it wrote, depth 64 and room given, answers the same count with nothing left, and the same table
+-- what is played back: `encode` with room answers a multiple of four; `decode_udp` of what it wrote, depth 64 and room given,
+-- answers the same count with nothing left, and the same table
 pub record PlaysBack (t : List ℕ) (count : ℕ) (source out : List ℕ) (r : Outcome) (table : List ℕ) : Type 0 where
   pub n : ℕ
   pub written : r .answer ≡ Written n

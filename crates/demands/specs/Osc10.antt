@@ -1,6 +1,7 @@
 -- What the OSC 1.0 specification allows, in its own terms: packets as a syntax, the rules on them, and the bytes that spell them.
--- Nothing here speaks of the decoder or the encoder. The type tags are document 01's, so without S; text is UTF-8 (RFC 3629) where OSC 1.0 says
--- ASCII. OSC 1.0 also asks that an enclosed bundle's time tag is not before the enclosing one's: no rule here, so more is allowed. Assumes nothing.
+-- Nothing here speaks of the decoder or the encoder. The type tags are document 01's, so without S; text is UTF-8 (RFC 3629)
+-- where OSC 1.0 says ASCII. OSC 1.0 also asks that an enclosed bundle's time tag is not before the enclosing one's: no rule
+-- here, so more is allowed. Assumes nothing.
 use mathlib.Core.Path.{_≡_}
 use mathlib.Core.Bool.{true}
 use mathlib.Core.List.{List, [], _∷_, _++_}
@@ -15,7 +16,8 @@ use Rattle.demands.specs.Words.{Bytes, NoNul}
 
 -- ---- the syntax
 
--- an argument that is no array, by what its type tag stands for: 32 bits, 64 bits as two halves, no data, an OSC-string, an OSC-blob, a character
+-- an argument that is no array, by what its type tag stands for: 32 bits, 64 bits as two halves, no data, an OSC-string, an
+-- OSC-blob, a character
 pub data Atom : Type 0 where
   word : (tag x : ℕ) → Atom
   long : (tag high low : ℕ) → Atom
@@ -100,14 +102,16 @@ unfoldable mutual
 abbrev pub int32 : ℕ → List ℕ
 int32 x = bytes 4 x
 
--- OSC-string: the characters, "followed by a null, followed by 0-3 additional null characters to make the total number of bits a multiple of 32"
+-- OSC-string: the characters, "followed by a null, followed by 0-3 additional null characters to make the total number of bits a
+-- multiple of 32"
 pub record OscString (text bs : List ℕ) : Type 0 where
   pub additional : ℕ
   pub few : additional ≤ 3
   pub spelled : bs ≡ text ++ (0 ∷ replicate additional 0)
   pub multiple : length bs % 4 ≡ 0
 
--- OSC-blob: "an int32 size count, followed by that many 8-bit bytes of arbitrary binary data, followed by 0-3 additional zero bytes to make the total number of bits a multiple of 32"
+-- OSC-blob: "an int32 size count, followed by that many 8-bit bytes of arbitrary binary data, followed by 0-3 additional zero
+-- bytes to make the total number of bits a multiple of 32"
 pub record OscBlob (content bs : List ℕ) : Type 0 where
   pub additional : ℕ
   pub few : additional ≤ 3

@@ -1,4 +1,5 @@
--- The order's demand 2, "what OSC 1.0 and RFC 3629 define is proved from them": what is claimed of the decoder and the encoder. Assumes nothing.
+-- The order's demand 2, "what OSC 1.0 and RFC 3629 define is proved from them": what is claimed of the decoder and the encoder.
+-- Assumes nothing.
 use mathlib.Core.Path.{_≡_}
 use mathlib.Core.List.{List}
 use Prim.Native.Nat.{ℕ, _≤_}
@@ -13,7 +14,8 @@ use Rattle.encoder.specs.declared.Encoded.the-variants as encoder
 use Rattle.demands.specs.Words.{Bytes, Clean}
 use Rattle.demands.specs.Osc10.{Packet, Allowed, deep, Spells, StandsFor}
 
--- bytes are accepted as a packet: nothing is left over, the tree stands for the packet, and with room for its records `decode_udp` answers their count
+-- bytes are accepted as a packet: nothing is left over, the tree stands for the packet, and with room for its records
+-- `decode_udp` answers their count
 pub record AcceptedAs (packet : Packet) (l : List ℕ) : Type 0 where
   pub kind : ℕ
   pub a : ℕ
@@ -34,7 +36,8 @@ pub record Spelled (source : List ℕ) (kind a b : ℕ) (inside : Forest) (l : L
   pub spells : Spells packet l
   pub stands : StandsFor source packet kind a b inside
 
--- whatever `encode` writes for a table with '/'-led addresses and no NUL in text or address is a packet that OSC 1.0 allows, and the one that the table's tree is
+-- whatever `encode` writes for a table with '/'-led addresses and no NUL in text or address is a packet that OSC 1.0 allows, and
+-- the one that the table's tree is
 abbrev pub Osc10Written : Type 0
 Osc10Written =
     (t : List ℕ) (count : ℕ) (source : List ℕ) (kind a b : ℕ) (inside : Forest) → Bytes t → Bytes source → IsTree t count source kind a b inside

@@ -36,7 +36,8 @@ Clean source (node kind a b inside rest) = CleanNode source kind a b × Clean so
 abbrev pub ranged : ℕ → Bool
 ranged kind = among kind (47 ∷ 98 ∷ 115 ∷ [])
 
--- the field a of a node over one source and over another: equal as bytes where it is a range's offset ("only their offsets may differ"), else equal
+-- the field a of a node over one source and over another: equal as bytes where it is a range's offset ("only their offsets may
+-- differ"), else equal
 abbrev pub SameField : ℕ → List ℕ → ℕ → ℕ → List ℕ → ℕ → Type 0
 SameField kind source a b source' a' = cond (ranged kind) (part source a b ≡ part source' a' b) (a ≡ a')
 

@@ -53,7 +53,8 @@ number-parts n m s at h =
     ∙ from-is (take m (drop (at + n) s)) (from 0 (take n (drop at s)))
     ∙ ap (λ (k : ℕ). from 0 (take n (drop at s)) * 256 ^ k + from 0 (take m (drop (at + n) s))) l
 
-pub number-more : (n : ℕ) (s : List ℕ) (at : ℕ) → at + n < length s → number (n + 1) (drop at s) ≡ number n (drop at s) * 256 + getD s (at + n) 0
+pub number-more : (n : ℕ) (s : List ℕ) (at : ℕ) → at + n < length s
+    → number (n + 1) (drop at s) ≡ number n (drop at s) * 256 + getD s (at + n) 0
 unfolding number
 number-more n s at h =
     let one : number 1 (drop (at + n) s) ≡ getD s (at + n) 0 = rw (drop-cons s (at + n) 0) (omega arith) in

@@ -60,20 +60,23 @@ pub wrote-lent : {bs o₀ o cs p : List ℕ} (k : ℕ) → Wrote bs o₀ o → l
     → Wrote (bs ++ cs) o₀ (putMid k (length o - k) o p)
 wrote-lent {bs} {o₀} {o} {cs} {p} k w e v = rw given-back (wrote-part bs o₀ o w k cs p e (rw lent at v))
 
-pub same-length : {cs p : List ℕ} (o : List ℕ) (k : ℕ) → Wrote cs (midOf k (length o - k) o) p → length (putMid k (length o - k) o p) ≡ length o
+pub same-length : {cs p : List ℕ} (o : List ℕ) (k : ℕ) → Wrote cs (midOf k (length o - k) o) p
+    → length (putMid k (length o - k) o p) ≡ length o
 same-length {cs} {p} o k v = same-len-mid k (length o - k) o p (wrote-length cs (midOf k (length o - k) o) p v)
 
 -- ---- writing over a part of what was written
 
 -- nothing before place k changes by a writer that is lent the part from k on
-pub wrote-at : {cs p : List ℕ} (o : List ℕ) (k : ℕ) → k ≤ length o → Wrote cs (midOf k (length o - k) o) p → Wrote (take k o ++ cs) o (putMid k (length o - k) o p)
+pub wrote-at : {cs p : List ℕ} (o : List ℕ) (k : ℕ) → k ≤ length o → Wrote cs (midOf k (length o - k) o) p
+    → Wrote (take k o ++ cs) o (putMid k (length o - k) o p)
 wrote-at o k h w =
     let e : length (take k o) ≡ k = length-take-le k o h in
     let none : Wrote (take k o) o o = record { room = omega arith; left = rw (e, take-append-drop) } in
     wrote-lent k none e w
 
 -- what is written after bs stands after it in the end
-pub wrote-next : {bs o₀ o p : List ℕ} (cs : List ℕ) (k : ℕ) → Wrote bs o₀ o → length bs ≡ k → Wrote (take k o ++ cs) o p → Wrote (bs ++ cs) o₀ p
+pub wrote-next : {bs o₀ o p : List ℕ} (cs : List ℕ) (k : ℕ) → Wrote bs o₀ o → length bs ≡ k → Wrote (take k o ++ cs) o p
+    → Wrote (bs ++ cs) o₀ p
 wrote-next {bs} {o₀} {o} {p} cs k w e v =
     let later : drop (length bs + length cs) o ≡ drop (length bs + length cs) o₀
     = sym (drop-drop (length cs) (length bs) o) ∙ ap (drop (length cs)) (drop-wrote bs o₀ o w) ∙ drop-drop (length cs) (length bs) o₀ in

@@ -54,12 +54,14 @@ write-small bs out =
     (λ h. by-le (λ (o : Outcome). Small (o .answer)) (length bs) (length out) (λ k. h) (λ k. tt))
     (λ h. tt)
 
-encoded-small : (frame : ℕ → List ℕ → List ℕ) (source out : List ℕ) (kind a b : ℕ) (inside : Forest) → Small (encoded frame source out kind a b inside .answer)
+encoded-small : (frame : ℕ → List ℕ → List ℕ) (source out : List ℕ) (kind a b : ℕ) (inside : Forest)
+    → Small (encoded frame source out kind a b inside .answer)
 unfolding encoded
 encoded-small frame source out kind a b inside =
     by-le (λ (o : Outcome). Small (o .answer)) (depth (node kind a b inside nil)) 64 (λ h. write-small (frame kind (packetOf source kind a b inside)) out) (λ h. tt)
 
-encodes-small : {frame : ℕ → List ℕ → List ℕ} {table : List ℕ} {count : ℕ} {source out : List ℕ} {r : Outcome} → Encodes frame table count source out r → Small (r .answer)
+encodes-small : {frame : ℕ → List ℕ → List ℕ} {table : List ℕ} {count : ℕ} {source out : List ℕ} {r : Outcome}
+    → Encodes frame table count source out r → Small (r .answer)
 encodes-small (malformed n e) = subst (λ (o : Outcome). Small (o .answer)) (sym e) tt
 encodes-small {frame} {table} {count} {source} {out} (formed kind a b inside tree e) =
     subst (λ (o : Outcome). Small (o .answer)) (sym e) (encoded-small frame source out kind a b inside)
@@ -83,7 +85,8 @@ pub told-apart : (frame : ℕ → List ℕ → List ℕ) (table : List ℕ) (cou
 told-apart frame table count source out₀ told out t = subst (EncodedParts (t .answer)) (sym (t .number)) (encoded-apart (t .answer) (encodes-small (t .outcome)))
 
 -- of `osc_encode_string`
-pub string-told-apart : (text out₀ : List ℕ) (told : ℕ) (out : List ℕ) → (t : Tells (λ o. o ≡ stringOutcome text out₀) told out) → EncodedParts (t .answer) told
+pub string-told-apart : (text out₀ : List ℕ) (told : ℕ) (out : List ℕ) → (t : Tells (λ o. o ≡ stringOutcome text out₀) told out)
+    → EncodedParts (t .answer) told
 string-told-apart text out₀ told out t =
     subst (EncodedParts (t .answer)) (sym (t .number))
     (encoded-apart (t .answer) (subst (λ (o : Outcome). Small (o .answer)) (sym (t .outcome)) (string-small text out₀)))

@@ -15,7 +15,8 @@ module _ (capacity limit : ℕ) where
   limited-fits n waiting h w = h
   limited-fits n (refusal k) h w = tt
 
-  fits : (rule : List ℕ → Whole) → ((msg : List ℕ) → WholeIn (length msg) (rule msg)) → (msg : List ℕ) → Fits (length msg) (decoded rule capacity limit msg)
+  fits : (rule : List ℕ → Whole) → ((msg : List ℕ) → WholeIn (length msg) (rule msg)) → (msg : List ℕ)
+      → Fits (length msg) (decoded rule capacity limit msg)
   fits rule counts msg =
       by-decoded (Fits (length msg)) rule capacity limit msg (λ g. tt) (λ g. tt) (λ g k. limited-fits (length msg) (rule msg) k (counts msg))
 

@@ -18,7 +18,8 @@ pub encode-told-only : (table : List ℕ) (count : ℕ) (source out₀ : List �
 encode-told-only table count source out₀ = tells-only _ (encode-only table count source out₀)
 
 pub encode-tcp-told-only : (table : List ℕ) (count : ℕ) (source out₀ : List ℕ) (r s : ℕ) (out out′ : List ℕ)
-    → Tells (Encodes prefixed table count source out₀) r out → Tells (Encodes prefixed table count source out₀) s out′ → (r ≡ s) × (out ≡ out′)
+    → Tells (Encodes prefixed table count source out₀) r out → Tells (Encodes prefixed table count source out₀) s out′
+    → (r ≡ s) × (out ≡ out′)
 encode-tcp-told-only table count source out₀ = tells-only _ (encode-tcp-only table count source out₀)
 
 pub encode-string-told-only : (text out₀ : List ℕ) (r s : ℕ) (out out′ : List ℕ) → Tells (λ o. o ≡ stringOutcome text out₀) r out

@@ -27,7 +27,8 @@ one-passed l i p h e =
     (omega arith, omega (arith, p .1, k))
 
 -- at a special byte, and at the end, all are counted: f bytes of l, and i of the rest
-pub all-passed : (l : List ℕ) (f i : ℕ) → Passed f l → Passed i (take (length l - f) (drop f l)) → plain (drop i (take (length l - f) (drop f l))) ≡ 0
+pub all-passed : (l : List ℕ) (f i : ℕ) → Passed f l → Passed i (take (length l - f) (drop f l))
+    → plain (drop i (take (length l - f) (drop f l))) ≡ 0
     → (f + i ≤ length l) × (f + i ≡ plain l)
 all-passed l f i p q z =
     let q' : Passed i (drop f l) = rw tail at q in
@@ -99,7 +100,8 @@ pub nul-after : (l : List ℕ) → untilNul l ≡ plain l + untilNul (drop (plai
 nul-after [] = refl
 nul-after (b ∷ l) = nul-by b l (eqb b 0) (ltb 0x7F b) refl refl (nul-after l)
 
-utf8-by : (b : ℕ) (l : List ℕ) (m : ℕ) (s t : Bool) → eqb b 0 ≡ s → ltb 0x7F b ≡ t → utf8 (take (plain l + m) l) ≡ utf8 (take m (drop (plain l) l))
+utf8-by : (b : ℕ) (l : List ℕ) (m : ℕ) (s t : Bool) → eqb b 0 ≡ s → ltb 0x7F b ≡ t
+    → utf8 (take (plain l + m) l) ≡ utf8 (take m (drop (plain l) l))
     → utf8 (take (plain (b ∷ l) + m) (b ∷ l)) ≡ utf8 (take m (drop (plain (b ∷ l)) (b ∷ l)))
 utf8-by b l m true t e f h = rw (e, zero-add)
 utf8-by b l m false true e f h = rw (e, f, zero-add)

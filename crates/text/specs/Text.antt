@@ -18,7 +18,8 @@ abbrev pub untilNul : List ℕ → ℕ
 untilNul [] = 0
 untilNul (b ∷ l) = cond (eqb b 0) 0 (suc (untilNul l))
 
--- how many bytes lie between p and the first multiple of 4 that is n bytes or more after it ("then padding until the position is a multiple of 4")
+-- how many bytes lie between p and the first multiple of 4 that is n bytes or more after it ("then padding until the position is
+-- a multiple of 4")
 abbrev pub reach : ℕ → ℕ → ℕ
 reach p n = padded (p + n) - p
 

@@ -11,7 +11,8 @@ unfolding snoc size
 size-snoc nil k a b g = omega arith
 size-snoc (node k′ a′ b′ f′ rest) k a b g = omega (arith, size-snoc rest k a b g)
 
-pub records-snoc : (i : ℕ) (f : Forest) (k a b : ℕ) (g : Forest) → recordsOf i (snoc f k a b g) ≡ recordsOf i f ++ recordsOf (i + size f) (node k a b g nil)
+pub records-snoc : (i : ℕ) (f : Forest) (k a b : ℕ) (g : Forest)
+    → recordsOf i (snoc f k a b g) ≡ recordsOf i f ++ recordsOf (i + size f) (node k a b g nil)
 unfolding recordsOf snoc size
 records-snoc i nil k a b g = let e : i + 0 ≡ i = omega arith in rw e
 records-snoc i (node k′ a′ b′ f′ rest) k a b g =

@@ -46,7 +46,8 @@ record-written kind end a b w₁ w₂ w₃ w₄ =
     (wrote-lent 12 (wrote-lent 8 (wrote-lent 4 w₁ refl w₂) (simp length-bytes) w₃) (simp (length-append, length-bytes)) w₄)
 
 -- the three bytes after a byte, from the number of all four
-pub zeros-read : (t : List ℕ) (i : ℕ) → ((j : ℕ) → getD t j 0 < 256) → startOf i + 4 ≤ length t → number 4 (drop (startOf i) t) % 0x100_0000 ≡ zerosAt t i
+pub zeros-read : (t : List ℕ) (i : ℕ) → ((j : ℕ) → getD t j 0 < 256) → startOf i + 4 ≤ length t
+    → number 4 (drop (startOf i) t) % 0x100_0000 ≡ zerosAt t i
 unfolding zerosAt
 zeros-read t i b h =
     let p : number 4 (drop (startOf i) t) ≡ number 1 (drop (startOf i) t) * 256 ^ 3 + number 3 (drop (startOf i + 1) t)

@@ -1,5 +1,5 @@
--- `decoder::decode_tcp_vec` meets its contract. An answer of packets leaves room for their records, and only then the second reading writes.
--- Assumes nothing.
+-- `decoder::decode_tcp_vec` meets its contract. An answer of packets leaves room for their records, and only then the second
+-- reading writes. Assumes nothing.
 use Rattle.decoder.proofs.Answers.{packets-fit, vec-room}
 use Rattle.decoder.specs.Limits.{decoded}
 use Rattle.decoder.specs.Framing.{tcpVec}

@@ -1,5 +1,5 @@
--- `leaf_vectors::run` meets its contract. The invariant: each line takes a byte at least, so its number is at most the position, which is at most one past the end.
--- Assumes nothing.
+-- `leaf_vectors::run` meets its contract. The invariant: each line takes a byte at least, so its number is at most the position,
+-- which is at most one past the end. Assumes nothing.
 use borrow.Author.Needs.{needs}
 use Prim.Native.Nat.{_≤_, _+_, _-_}
 use lib.ListN.{length}

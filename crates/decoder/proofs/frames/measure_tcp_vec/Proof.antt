@@ -1,5 +1,5 @@
--- `decoder::frames::measure_tcp_vec` meets its contract. The invariant: the whole total is what is counted so far, and the total of what is left.
--- Assumes nothing.
+-- `decoder::frames::measure_tcp_vec` meets its contract. The invariant: the whole total is what is counted so far, and the total
+-- of what is left. Assumes nothing.
 use Rattle.decoder.proofs.FrameExtents.{Totalling, empty-list, totalling-start, totalling-tree, totalling-deep, totalling-waits, totalling-refused, totalling-end}
 use Rattle.number.proofs.Parts.{tail}
 use native.Mathlib.Omega.{arith}

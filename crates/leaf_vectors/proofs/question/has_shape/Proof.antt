@@ -1,5 +1,5 @@
--- `leaf_vectors::question::has_shape` meets its contract. The invariant: `n` is at most one more than the six words that a question has at most.
--- Assumes nothing.
+-- `leaf_vectors::question::has_shape` meets its contract. The invariant: `n` is at most one more than the six words that a
+-- question has at most. Assumes nothing.
 use borrow.Author.Needs.{needs}
 use Prim.Native.Nat.{_≤_, _-_}
 use Rattle.leaf_vectors.proofs.question.has_shape.Statement.{statement}

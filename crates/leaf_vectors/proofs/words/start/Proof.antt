@@ -1,5 +1,5 @@
--- `leaf_vectors::words::start` meets its contract. The invariant: the position is at most the length; the measure is the words that are left.
--- Assumes nothing.
+-- `leaf_vectors::words::start` meets its contract. The invariant: the position is at most the length; the measure is the words
+-- that are left. Assumes nothing.
 use borrow.Author.Needs.{needs}
 use Prim.Native.Nat.{_≤_}
 use lib.ListN.{length}
