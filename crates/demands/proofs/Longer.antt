@@ -51,7 +51,9 @@ unfolding tcp frameOf
 tcp-longer msg more =
     by-le (λ x. Longer (first (length msg) x) (tcp (msg ++ more))) 4 (length msg)
     (λ h. by-le (λ x. Longer (first (length msg) x) (tcp (msg ++ more))) (number 4 msg) (length msg)
-    (λ k. rw (tcp, frameOf, number-longer more 4 msg h, le-leb 4 (length (msg ++ more)) (omega (arith, length-append msg more)), le-leb (number 4 msg) (length (msg ++ more)) (omega (arith, length-append msg more)), drop-append-le 4 msg more h)
+    (λ k. let four = le-leb 4 (length (msg ++ more)) (omega (arith, length-append msg more)) in
+    let within = le-leb (number 4 msg) (length (msg ++ more)) (omega (arith, length-append msg more)) in
+    rw (tcp, frameOf, number-longer more 4 msg h, four, within, drop-append-le 4 msg more h)
     (first-longer (length msg) (length (msg ++ more)) (packet-grows 0 more (drop 4 msg) 4)))
     (λ k. none-yet))
     (λ h. no-tree)

@@ -64,7 +64,9 @@ module _ (more : List ℕ) where
       (λ h. by-le (λ t. KeptText t (textOf (l ++ more) p)) (reach p (n + 1)) (length l)
       (λ k. by-test (λ t. KeptText t (textOf (l ++ more) p)) (utf8 (take n l))
       (λ u. let j : n < length l = ltb-true n (length l) h in
-      rw (textOf, nul-longer l j, lt-ltb n (length (l ++ more)) (omega (arith, length-append l more)), le-leb (reach p (n + 1)) (length (l ++ more)) (omega (arith, length-append l more)), take-append-le n l more (omega arith), u))
+      let nul = lt-ltb n (length (l ++ more)) (omega (arith, length-append l more)) in
+      let padding = le-leb (reach p (n + 1)) (length (l ++ more)) (omega (arith, length-append l more)) in
+      rw (textOf, nul-longer l j, nul, padding, take-append-le n l more (omega arith), u))
       (λ u. tt))
       (λ k. tt))
       (λ h. tt)
@@ -120,7 +122,9 @@ module _ (more : List ℕ) where
       by-arg (Refused k) y e s = tt
       by-arg (Given a b used) y e s =
           let f = snoc frame tag a b nil in
-          rw (s, drop-append-le used l more (given-within class base l p e)) (later-longer used (go (drop used l) (p + used) f below) (go (drop used l ++ more) (p + used) f below) (h (drop used l) (p + used) f below))
+          rw (s, drop-append-le used l more (given-within class base l p e))
+          (later-longer used (go (drop used l) (p + used) f below) (go (drop used l ++ more) (p + used) f below)
+          (h (drop used l) (p + used) f below))
 
   read-longer : (base : ℕ) (tags l : List ℕ) (p : ℕ) (frame : Forest) (below : List Forest)
       → KeptArgs (readArgs base tags l p frame below) (readArgs base tags (l ++ more) p frame below)

@@ -72,7 +72,9 @@ module _ (base : ℕ) (more : List ℕ) where
       by-le (λ o. Kept o (element base (l ++ more) p)) 4 (length l)
       (λ h. by-le (λ o. Kept o (element base (l ++ more) p)) (number 4 l) (length l - 4)
       (λ k. let k' : number 4 l ≤ length (drop 4 l) = omega (arith, length-drop 4 l) in
-      rw (element, elementOf, number-longer more 4 l h, le-leb 4 (length (l ++ more)) (omega (arith, length-append l more)), le-leb (number 4 l) (length (l ++ more) - 4) (omega (arith, length-append l more)), drop-append-le 4 l more h, take-append-le (number 4 l) (drop 4 l) more k')
+      let four = le-leb 4 (length (l ++ more)) (omega (arith, length-append l more)) in
+      let within = le-leb (number 4 l) (length (l ++ more) - 4) (omega (arith, length-append l more)) in
+      rw (element, elementOf, number-longer more 4 l h, four, within, drop-append-le 4 l more h, take-append-le (number 4 l) (drop 4 l) more k')
       (same-out (filling (number 4 l) (packet base (take (number 4 l) (drop 4 l)) (p + 4)))))
       (λ k. tt))
       (λ h. tt)
@@ -104,7 +106,10 @@ module _ (base : ℕ) (more : List ℕ) where
       by-le (λ o. Grows o (bundle base (l ++ more) p)) 8 (length l)
       (λ h. let h4 : 4 ≤ length l = omega arith in
       let h4' : 4 ≤ length (drop 4 l) = omega (arith, length-drop 4 l) in
-      rw (bundle, bundleOf, le-leb 8 (length (l ++ more)) (omega (arith, length-append l more)), number-longer more 4 l h4, drop-append-le 4 l more h4, number-longer more 4 (drop 4 l) h4', drop-append-le 8 l more h)
+      let eight = le-leb 8 (length (l ++ more)) (omega (arith, length-append l more)) in
+      let seconds = number-longer more 4 l h4 in
+      let fractional = number-longer more 4 (drop 4 l) h4' in
+      rw (bundle, bundleOf, eight, seconds, drop-append-le 4 l more h4, fractional, drop-append-le 8 l more h)
       (bundle-with-grows _ _ (elements base (drop 8 l) (p + 8)) (elements base (drop 8 l ++ more) (p + 8)) (elements-begin _ (drop 8 l) (p + 8) refl)))
       (λ h. was-refused)
 

@@ -145,8 +145,10 @@ pub data AtomSpells : Atom → List ℕ → Type 0 where
 -- "a contiguous sequence of the binary representations of each argument"; brackets have none
 pub data ArgumentsSpell : Arguments → List ℕ → Type 0 where
   no-argument : ArgumentsSpell end []
-  one-atom : {value : Atom} {rest : Arguments} {x y : List ℕ} → AtomSpells value x → ArgumentsSpell rest y → ArgumentsSpell (atom value rest) (x ++ y)
-  one-array : {within rest : Arguments} {x y : List ℕ} → ArgumentsSpell within x → ArgumentsSpell rest y → ArgumentsSpell (array within rest) (x ++ y)
+  one-atom : {value : Atom} {rest : Arguments} {x y : List ℕ} → AtomSpells value x → ArgumentsSpell rest y
+      → ArgumentsSpell (atom value rest) (x ++ y)
+  one-array : {within rest : Arguments} {x y : List ℕ} → ArgumentsSpell within x → ArgumentsSpell rest y
+      → ArgumentsSpell (array within rest) (x ++ y)
 
 -- "#bundle"
 abbrev pub bundleWord : List ℕ
@@ -188,7 +190,8 @@ pub data ArgumentsAre (source : List ℕ) : Arguments → Forest → Type 0 wher
   no-node : ArgumentsAre source end nil
   leaf : {value : Atom} {rest : Arguments} {a b : ℕ} {g : Forest} → FieldsAre source value a b → ArgumentsAre source rest g
       → ArgumentsAre source (atom value rest) (node (tagOf value) a b nil g)
-  branch : {within rest : Arguments} {f g : Forest} → ArgumentsAre source within f → ArgumentsAre source rest g → ArgumentsAre source (array within rest) (node 91 0 0 f g)
+  branch : {within rest : Arguments} {f g : Forest} → ArgumentsAre source within f → ArgumentsAre source rest g
+      → ArgumentsAre source (array within rest) (node 91 0 0 f g)
 
 -- a node stands for a packet, and a forest for a bundle's elements
 mutual

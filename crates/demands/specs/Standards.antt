@@ -23,7 +23,8 @@ pub record AcceptedAs (packet : Packet) (l : List ℕ) : Type 0 where
   pub inside : Forest
   pub stands : StandsFor l packet kind a b inside
   pub read : udp l ≡ trees (node kind a b inside nil) 0
-  pub decodes : (capacity : ℕ) → size (node kind a b inside nil) ≤ capacity → decoded udp capacity 64 l ≡ decoder.Packets (size (node kind a b inside nil)) 0
+  pub decodes : (capacity : ℕ) → size (node kind a b inside nil) ≤ capacity
+      → decoded udp capacity 64 l ≡ decoder.Packets (size (node kind a b inside nil)) 0
 
 -- every packet that OSC 1.0 allows, of at most 65,535 bytes and at most 64 bundles deep, is accepted as what it is
 abbrev pub Osc10Accepted : Type 0
@@ -41,5 +42,6 @@ pub record Spelled (source : List ℕ) (kind a b : ℕ) (inside : Forest) (l : L
 abbrev pub Osc10Written : Type 0
 Osc10Written =
     (t : List ℕ) (count : ℕ) (source : List ℕ) (kind a b : ℕ) (inside : Forest) → Bytes t → Bytes source → IsTree t count source kind a b inside
-    → Clean source (node kind a b inside nil) → (out : List ℕ) (r : Outcome) → Encodes plain t count source out r → (n : ℕ) → r .answer ≡ encoder.Written n
+    → Clean source (node kind a b inside nil) → (out : List ℕ) (r : Outcome) → Encodes plain t count source out r
+    → (n : ℕ) → r .answer ≡ encoder.Written n
     → Spelled source kind a b inside (take n (r .out))

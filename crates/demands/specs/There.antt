@@ -19,5 +19,6 @@ pub record CameBack (t : List ℕ) (count : ℕ) (source written : List ℕ) (r 
 -- for every table that demand 2 speaks of, with room in both buffers
 abbrev pub Returns : List ℕ → ℕ → List ℕ → List ℕ → List ℕ → Decoded → List ℕ → List ℕ → Type 0
 Returns t count source out back r out' back' =
-    (kind a b : ℕ) (inside : Forest) → Playable t count source kind a b inside → length (packetOf source kind a b inside) ≤ length out → count ≤ length back / recordSize
+    (kind a b : ℕ) (inside : Forest) → Playable t count source kind a b inside
+    → length (packetOf source kind a b inside) ≤ length out → count ≤ length back / recordSize
     → CameBack t count source (take (length (packetOf source kind a b inside)) out') r back'

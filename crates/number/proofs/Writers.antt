@@ -74,14 +74,17 @@ wrote-at o k h w =
     let none : Wrote (take k o) o o = record { room = omega arith; left = rw (e, take-append-drop) } in
     wrote-lent k none e w
 
--- what is written after bs stands after it in the end
-pub wrote-next : {bs o₀ o p : List ℕ} (cs : List ℕ) (k : ℕ) → Wrote bs o₀ o → length bs ≡ k → Wrote (take k o ++ cs) o p
-    → Wrote (bs ++ cs) o₀ p
-wrote-next {bs} {o₀} {o} {p} cs k w e v =
+-- what is written on after bs leaves the later bytes as they were before both
+pub wrote-on : {bs o₀ o p : List ℕ} (cs : List ℕ) → Wrote bs o₀ o → Wrote (bs ++ cs) o p → Wrote (bs ++ cs) o₀ p
+wrote-on {bs} {o₀} {o} cs w v =
     let later : drop (length bs + length cs) o ≡ drop (length bs + length cs) o₀
     = sym (drop-drop (length cs) (length bs) o) ∙ ap (drop (length cs)) (drop-wrote bs o₀ o w) ∙ drop-drop (length cs) (length bs) o₀ in
-    let v′ : Wrote (bs ++ cs) o p = rw (← e, take-wrote bs o₀ o w) at v in
-    record { room = rw (wrote-length bs o₀ o w) at (v′ .room); left = v′ .left ∙ rw (length-append, later) }
+    record { room = rw (wrote-length bs o₀ o w) at (v .room); left = v .left ∙ rw (length-append, later) }
+
+-- the same of a writer that leaves what stands before place k
+pub wrote-next : {bs o₀ o p : List ℕ} (cs : List ℕ) (k : ℕ) → Wrote bs o₀ o → length bs ≡ k → Wrote (take k o ++ cs) o p
+    → Wrote (bs ++ cs) o₀ p
+wrote-next {bs} {o₀} {o} cs k w e v = wrote-on cs w (rw (← e, take-wrote bs o₀ o w) at v)
 
 -- of what was written the part `was` is written over
 pub wrote-over : {o₀ o p : List ℕ} (hs was bs cs : List ℕ) (k : ℕ) → Wrote (hs ++ (was ++ bs)) o₀ o → length hs ≡ k → length was ≡ length cs
