@@ -39,6 +39,7 @@ turn Closes go l p zero = Refused NotOpen
 turn Closes go l p (suc n) = go l p n
 turn (Leaf class) go l p n = passed (λ m q. go m q n) l p (usedOf (argOf class 0 l p))
 
+-- the tags and their data, which stands at position p, while n arrays are open
 unfoldable pub scan : List ℕ → List ℕ → ℕ → ℕ → Scanned
 scan [] l p n = Used 0
 scan (tag ∷ tags) l p n = turn (sortOf tag) (λ m q k. scan tags m q k) l p n
@@ -55,6 +56,8 @@ before Closes (Whole n c) = Whole (suc n) c
 before (Leaf class) (Cut n c) = Cut (suc n) c
 before (Leaf class) (Whole n c) = Whole n (suc c)
 
+-- what the tags keep, from the last to the first: `Whole` where they close every array that they open, else `Cut` after the last '['
+-- that stays open
 unfoldable pub back : List ℕ → Back
 back [] = Whole 0 0
 back (tag ∷ tags) = before (sortOf tag) (back tags)
