@@ -32,10 +32,10 @@ module _ (base : ℕ) (l : List ℕ) (p : ℕ) where
 
 -- ---- elements by the first one
 
-pub joined-trees : (k a b : ℕ) (f : Forest) (n : ℕ) (g : Elements) → treesIn (joined k a b f n g) ≡ node k a b f (treesIn g)
+joined-trees : (k a b : ℕ) (f : Forest) (n : ℕ) (g : Elements) → treesIn (joined k a b f n g) ≡ node k a b f (treesIn g)
 joined-trees k a b f n (upto g u) = refl
 
-pub joined-used : (k a b : ℕ) (f : Forest) (n : ℕ) (g : Elements) → usedBy (joined k a b f n g) ≡ 4 + n + usedBy g
+joined-used : (k a b : ℕ) (f : Forest) (n : ℕ) (g : Elements) → usedBy (joined k a b f n g) ≡ 4 + n + usedBy g
 joined-used k a b f n (upto g u) = refl
 
 module _ (base : ℕ) (m : List ℕ) (q : ℕ) where

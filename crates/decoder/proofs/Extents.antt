@@ -187,7 +187,7 @@ module _ (base : ℕ) (m : List ℕ) (q room : ℕ) where
           g
 
   -- an element that is too deep
-  pub turned-deep : {next : ℕ} → Deep next ≡ extent room (q + 4) (element base m q) → leb (depth (treesIn (elements base m q))) room ≡ false
+  turned-deep : {next : ℕ} → Deep next ≡ extent room (q + 4) (element base m q) → leb (depth (treesIn (elements base m q))) room ≡ false
   unfolding extent depth
   turned-deep {next} h = by-out (element base m q) refl h
     where
@@ -200,7 +200,7 @@ module _ (base : ℕ) (m : List ℕ) (q room : ℕ) where
           g
 
   -- an element that fails
-  pub turned-end : {k : Fault} → Refused k ≡ extent room (q + 4) (element base m q) → elements base m q ≡ upto nil 0
+  turned-end : {k : Fault} → Refused k ≡ extent room (q + 4) (element base m q) → elements base m q ≡ upto nil 0
   unfolding extent
   turned-end {k} h = by-out (element base m q) refl h
     where

@@ -209,7 +209,7 @@ module _ (base : ℕ) (l : List ℕ) (p : ℕ) where
           → Room (node 35 0 0 (treesIn k) nil) i T
       by-elements (upto f u) v = record { fits = v .fits; low = v .low }
 
-pub is-none : (p : ℕ) (o : Out) → Nothing ≡ filled p o → treeOf o ≡ nil
+is-none : (p : ℕ) (o : Out) → Nothing ≡ filled p o → treeOf o ≡ nil
 is-none p (fault k) e = refl
 is-none p (one k a b f u) e = let z : _≡_ {A = ℕ} 0 1 = cc in absurd (omega arith)
 

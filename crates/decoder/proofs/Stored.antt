@@ -18,7 +18,7 @@ pub wrote-stored : (i : ℕ) (f : Forest) {T T' : List ℕ} → Wrote (recordsOf
 unfolding stored
 wrote-stored i f {T} w = w .left ∙ ap (λ (k : ℕ). recordsOf i f ++ drop k T) (length-records i f)
 
-pub length-stored : (i : ℕ) (f : Forest) (T : List ℕ) → recordSize * size f ≤ length T → length (stored i f T) ≡ length T
+length-stored : (i : ℕ) (f : Forest) (T : List ℕ) → recordSize * size f ≤ length T → length (stored i f T) ≡ length T
 unfolding stored
 length-stored i f T h = simp (length-append, length-records, length-drop) (omega arith)
 

@@ -49,7 +49,7 @@ module _ (base offset n : ℕ) (l : List ℕ) (p : ℕ) where
   unfolding messageOf
   types-lack e = sym (ap (typesThen base offset n l p) e)
 
-  pub message-in : Within (length l) (messageOf base offset n l p)
+  message-in : Within (length l) (messageOf base offset n l p)
   message-in = by-text (textOf l p) refl
     where
       by-text : (t : Text) → t ≡ textOf l p → Within (length l) (messageOf base offset n l p)

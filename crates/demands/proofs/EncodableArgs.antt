@@ -58,7 +58,7 @@ module _ {s : List ℕ} {container : ℕ} where
   sound-node n r =
       record { obeys = (n .rules, n .range, n .may, n .in-sound .obeys, r .obeys); fits = (n .low .0, n .low .1, n .in-sound .fits, r .fits) }
 
-  pub sound-snoc : (F : Forest) {k a b : ℕ} {f : Forest} → NodeSound s container k a b f → Sound s container F
+  sound-snoc : (F : Forest) {k a b : ℕ} {f : Forest} → NodeSound s container k a b f → Sound s container F
       → Sound s container (snoc F k a b f)
   unfolding Obeys FieldsFit snoc
   sound-snoc nil n w = sound-node n w
@@ -67,7 +67,7 @@ module _ {s : List ℕ} {container : ℕ} where
       record { obeys = (w .obeys .0, w .obeys .1, w .obeys .2, w .obeys .3, r .obeys); fits = (w .fits .0, w .fits .1, w .fits .2, r .fits) }
 
 -- what may stand in an array may stand in a message
-pub in-message : {s : List ℕ} (F : Forest) → Sound s 91 F → Sound s 47 F
+in-message : {s : List ℕ} (F : Forest) → Sound s 91 F → Sound s 47 F
 unfolding Obeys FieldsFit allowed
 in-message nil w = record { obeys = tt; fits = tt }
 in-message (node k a b f rest) w =

@@ -17,7 +17,7 @@ use Rattle.demands.proofs.TripPackets.{PacketRead, packet-read}
 use Rattle.demands.proofs.SameTree.{tree-deep}
 
 -- a tree that is read whole is decoded where there is room
-pub decode-whole : (l : List ℕ) (capacity : ℕ) (F : Forest) → udp l ≡ trees F 0 → length l ≤ 65535 → depth F ≤ 64 → size F ≤ capacity
+decode-whole : (l : List ℕ) (capacity : ℕ) (F : Forest) → udp l ≡ trees F 0 → length l ≤ 65535 → depth F ≤ 64 → size F ≤ capacity
     → decoded udp capacity 64 l ≡ decoder.Packets (size F) 0
 unfolding decoded
 decode-whole l capacity F e n d c = rw (le-leb (length l) 65535 n, e, le-leb (depth F) 64 d, le-leb (size F) capacity c)

@@ -51,7 +51,7 @@ module _ (base : ℕ) (ts l : List ℕ) (p : ℕ) (frame : Forest) (below : List
   read-atom v h e = rw (atom-sort v h, ← e)
 
 -- data is a multiple of 4 bytes
-pub arguments-even : {A : Arguments} {d : List ℕ} → ArgumentsSpell A d → length d % 4 ≡ 0
+arguments-even : {A : Arguments} {d : List ℕ} → ArgumentsSpell A d → length d % 4 ≡ 0
 arguments-even no-argument = refl
 arguments-even (one-atom {x = x} {y = y} w r) = omega (arith, length-append x y, atom-even w, arguments-even r)
 arguments-even (one-array {x = x} {y = y} i r) = omega (arith, length-append x y, arguments-even i, arguments-even r)

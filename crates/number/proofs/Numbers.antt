@@ -100,7 +100,7 @@ bytes-from (y ∷ s) n x h =
     ∙ bytes-from s (suc n) (x * 256 + y) (λ i. h (suc i))
     ∙ rw (digits-div x {m = 256} {r = y} (h 0), digits-mod x {m = 256} {r = y} (h 0)) (append-snoc (bytes n x) y s)
 
-pub written-read : (s more : List ℕ) → ((i : ℕ) → getD s i 0 < 256) → bytes (length s) (number (length s) (s ++ more)) ≡ s
+written-read : (s more : List ℕ) → ((i : ℕ) → getD s i 0 < 256) → bytes (length s) (number (length s) (s ++ more)) ≡ s
 unfolding bytes number
 written-read s more h = rw (take-append-seam s more) (rw zero-add at (bytes-from s 0 0 h))
 
