@@ -5,6 +5,9 @@
 #include <string>
 #include <vector>
 
+// Where oscpack's own int32 is wider, as on aarch64, it cannot read a packet: the shim then does not compile and is not measured.
+static_assert(sizeof(osc::int32) == 4, "oscpack does not fit this processor");
+
 static uint64_t argument(const osc::ReceivedMessageArgument &x) {
     const void *data;
     osc::osc_bundle_element_size_t size;
