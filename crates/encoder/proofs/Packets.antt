@@ -217,9 +217,8 @@ module _ {source t : List ℕ} {g : Forest → List ℕ} {lo hi : ℕ} {o₀ o :
     pub element-gone : {p′ : List ℕ} → Wrote (bytes 4 n) (midOf k (length placed - k) placed) p′ → {end : ℕ} → end ≡ endAt t at
         → Going (Sound source) g (elementsOf source) t lo hi o₀ (putMid k (length placed - k) placed p′) end (k + 4 + n)
     element-gone v e =
-        let c = inside-filled .count in
-        let size = gap-filled (w .filled) (omega (arith, element-room, filled-length (w .filled))) (length-bytes 4 n) inside-filled v in
+        let size = gap-filled (w .filled) (omega (arith, element-room, filled-length (w .filled))) (length-bytes 4 _) inside-filled (rw (inside-filled .count) at v) in
         rw e
         (gone w h (elementOf (packetAt source t at (next w h .inside))) element-left
         (record { container = w .holds .container; obeys = obeyed .rest-obeys })
-        (rw (← c) size))
+        size)
