@@ -10,8 +10,7 @@ use Rattle.number.specs.Wrote.{Filled}
 use Rattle.number.proofs.Parts.{length-lent}
 use Rattle.number.proofs.Writers.{filled-length, filled-lent}
 use Rattle.types.specs.Tags.{sortOf}
-use Rattle.types.specs.Records.{kindAt, aAt, bAt, recordAt}
-use Rattle.types.specs.declared.record.Record.{Record}
+use Rattle.types.specs.Records.{kindAt, endAt, aAt, bAt}
 use Rattle.types.specs.declared.tags.Class.{Class}
 use Rattle.types.specs.declared.tags.Sort.{Sort}
 use Rattle.types.specs.declared.tags.Sort.the-variants.{Opens, Closes, Leaf}
@@ -22,18 +21,18 @@ use Rattle.encoder.proofs.Classed.{leaf-range, data-is}
 use Rattle.encoder.proofs.Rows.{Going, room-left, next, gone, ends}
 
 module _ {source t : List ℕ} {lo hi : ℕ} {o₀ o : List ℕ} {at k : ℕ} (w : Going (Sound source) (dataOf source) (dataOf source) t lo hi o₀ o at k) (h : at < hi)
-    {r : Record} (e : r ≡ recordAt t at) {sort : Sort} (s : sort ≡ sortOf (r .kind)) where
+    {end kind : ℕ} (e : end ≡ endAt t at) (e′ : kind ≡ kindAt t at) {sort : Sort} (s : sort ≡ sortOf kind) where
   obeyed : Parts source (w .holds .container) (kindAt t at) (aAt t at) (bAt t at) (next w h .inside) (next w h .rest)
   obeyed = cut-parts (next w h) source (w .holds .container) (w .holds .obeys)
 
   -- the bytes of the record
   abbrev datum : Sort → List ℕ
-  datum x = dataBy x source (r .a) (r .b) (dataOf source (next w h .inside))
+  datum x = dataBy x source (aAt t at) (bAt t at) (dataOf source (next w h .inside))
 
   data-left : dataOf source (w .rest) ≡ datum sort ++ dataOf source (next w h .rest)
   data-left =
       ap (dataOf source) (next w h .is)
-      ∙ rw e (data-is (kindAt t at) (aAt t at) (bAt t at) (next w h .inside) (next w h .rest) source sort (s ∙ ap (λ (x : Record). sortOf (x .kind)) e))
+      ∙ data-is (kindAt t at) (aAt t at) (bAt t at) (next w h .inside) (next w h .rest) source sort (s ∙ ap sortOf e′)
 
   data-room : (k + length (datum sort) ≤ length o₀) × (k + length (datum sort) ≤ 65535)
   data-room =
@@ -45,16 +44,16 @@ module _ {source t : List ℕ} {lo hi : ℕ} {o₀ o : List ℕ} {at k : ℕ} (w
   datum-fits q = rw (length-lent, ← q) (omega (arith, data-room, filled-length (w .filled)))
 
   datum-gone : {x : Sort} → sort ≡ x → {p : List ℕ} {n : ℕ} → Filled (datum x) (midOf k (length o - k) o) p n
-      → Going (Sound source) (dataOf source) (dataOf source) t lo hi o₀ (putMid k (length o - k) o p) (r .end) (k + n)
-  datum-gone {x} q f = rw (ap (λ (y : Record). y .end) e) (gone w h (datum x) (data-left ∙ rw q) (record { container = w .holds .container; obeys = obeyed .rest-obeys }) (filled-lent (w .filled) f))
+      → Going (Sound source) (dataOf source) (dataOf source) t lo hi o₀ (putMid k (length o - k) o p) end (k + n)
+  datum-gone {x} q f = rw e (gone w h (datum x) (data-left ∙ rw q) (record { container = w .holds .container; obeys = obeyed .rest-obeys }) (filled-lent (w .filled) f))
 
   -- a closing bracket has no data
-  pub closes-gone : sort ≡ Closes → Going (Sound source) (dataOf source) (dataOf source) t lo hi o₀ o (r .end) k
-  closes-gone q = rw (ap (λ (y : Record). y .end) e) (gone w h [] (data-left ∙ rw q) (record { container = w .holds .container; obeys = obeyed .rest-obeys }) (rw append-nil (w .filled)))
+  pub closes-gone : sort ≡ Closes → Going (Sound source) (dataOf source) (dataOf source) t lo hi o₀ o end k
+  closes-gone q = rw e (gone w h [] (data-left ∙ rw q) (record { container = w .holds .container; obeys = obeyed .rest-obeys }) (rw append-nil (w .filled)))
 
   -- an array: what it contains is written
   module _ (q : sort ≡ Opens) where
-    pub data-inside : Room (Sound source) (dataOf source) t (at + 1) (r .end) (length (midOf k (length o - k) o))
+    pub data-inside : Room (Sound source) (dataOf source) t (at + 1) end (length (midOf k (length o - k) o))
     data-inside =
         record {
           forest = next w h .inside;
@@ -65,27 +64,27 @@ module _ {source t : List ℕ} {lo hi : ℕ} {o₀ o : List ℕ} {at k : ℕ} (w
           table = omega (arith, w .table, ends w h e);
         }
 
-    module _ {p : List ℕ} {n : ℕ} (f : Fills (dataOf source) t (at + 1) (r .end) (midOf k (length o - k) o) p n) where
+    module _ {p : List ℕ} {n : ℕ} (f : Fills (dataOf source) t (at + 1) end (midOf k (length o - k) o) p n) where
       within : Filled (dataOf source (next w h .inside)) (midOf k (length o - k) o) p n
       within = f (next w h .inside) (rw e (next w h .in-spans))
 
       pub array-after : k + n ≤ 65535
       array-after = omega (arith, within .count, rw q at data-room)
 
-      pub array-gone : Going (Sound source) (dataOf source) (dataOf source) t lo hi o₀ (putMid k (length o - k) o p) (r .end) (k + n)
+      pub array-gone : Going (Sound source) (dataOf source) (dataOf source) t lo hi o₀ (putMid k (length o - k) o p) end (k + n)
       array-gone = datum-gone q within
 
   -- an argument that is no array
-  module _ {class : Class} (q : sort ≡ Leaf class) where
-    pub leaf-asked : (ranged class ≡ true → r .a + r .b ≤ length source) × (length (argumentOf class source (r .a) (r .b)) ≤ length (midOf k (length o - k) o))
+  module _ {class : Class} (q : sort ≡ Leaf class) {a b : ℕ} (u : a ≡ aAt t at) (v : b ≡ bAt t at) where
+    pub leaf-asked : (ranged class ≡ true → a + b ≤ length source) × (length (argumentOf class source a b) ≤ length (midOf k (length o - k) o))
     leaf-asked = (
-      rw e (leaf-range source (kindAt t at) (aAt t at) (bAt t at) class (obeyed .range) (sym (s ∙ ap (λ (x : Record). sortOf (x .kind)) e) ∙ q)),
-      datum-fits q,
+      rw (u, v) (leaf-range source (kindAt t at) (aAt t at) (bAt t at) class (obeyed .range) (sym (s ∙ ap sortOf e′) ∙ q)),
+      rw (u, v) (datum-fits q),
     )
 
-    module _ {p : List ℕ} {n : ℕ} (f : Filled (argumentOf class source (r .a) (r .b)) (midOf k (length o - k) o) p n) where
+    module _ {p : List ℕ} {n : ℕ} (f : Filled (argumentOf class source a b) (midOf k (length o - k) o) p n) where
       pub leaf-after : k + n ≤ 65535
-      leaf-after = omega (arith, f .count, rw q at data-room)
+      leaf-after = omega (arith, rw (u, v) at (f .count), rw q at data-room)
 
-      pub leaf-gone : Going (Sound source) (dataOf source) (dataOf source) t lo hi o₀ (putMid k (length o - k) o p) (r .end) (k + n)
-      leaf-gone = datum-gone q f
+      pub leaf-gone : Going (Sound source) (dataOf source) (dataOf source) t lo hi o₀ (putMid k (length o - k) o p) end (k + n)
+      leaf-gone = datum-gone q (rw (u, v) at f)

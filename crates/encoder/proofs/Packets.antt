@@ -11,8 +11,7 @@ use Rattle.number.proofs.Numbers.{length-bytes}
 use Rattle.number.proofs.Parts.{length-lent}
 use Rattle.number.proofs.Writers.{wrote-none, filled-set, filled-length, filled-lent, same-length}
 use Rattle.types.specs.Forest.{Forest}
-use Rattle.types.specs.Records.{recordSize, kindAt, endAt, aAt, bAt, recordAt}
-use Rattle.types.specs.declared.record.Record.{Record}
+use Rattle.types.specs.Records.{recordSize, kindAt, endAt, aAt, bAt}
 use Rattle.table.specs.Formed.{part}
 use Rattle.table.specs.Tree.{Spans}
 use Rattle.table.proofs.Spanned.{Parts, cut-parts, spans-size}
@@ -76,34 +75,35 @@ module _ {source t : List ℕ} {at : ℕ} (o : List ℕ) (q : Ready source t at 
 
 -- ---- a message
 
-module _ {source t : List ℕ} {at : ℕ} (o : List ℕ) (y : kindAt t at ≡ 47) (q : Ready source t at (length o)) {r : Record} (e : r ≡ recordAt t at) where
-  message-bytes : (F : Forest) → packetAt source t at F ≡ oscString (part source (r .a) (r .b)) ++ (tagText F ++ dataOf source F)
+module _ {source t : List ℕ} {at : ℕ} (o : List ℕ) (y : kindAt t at ≡ 47) (q : Ready source t at (length o))
+    {end a b : ℕ} (e : end ≡ endAt t at) (u : a ≡ aAt t at) (v : b ≡ bAt t at) where
+  message-bytes : (F : Forest) → packetAt source t at F ≡ oscString (part source a b) ++ (tagText F ++ dataOf source F)
   unfolding messageOf
-  message-bytes F = rw e (message-is source (kindAt t at) (aAt t at) (bAt t at) F y)
+  message-bytes F = rw (u, v) (message-is source (kindAt t at) (aAt t at) (bAt t at) F y)
 
-  message-room : (length (oscString (part source (r .a) (r .b))) + length (tagText (q .room .forest)) + length (dataOf source (q .room .forest)) ≤ length o)
-      × (length (oscString (part source (r .a) (r .b))) + length (tagText (q .room .forest)) + length (dataOf source (q .room .forest)) ≤ 65535)
+  message-room : (length (oscString (part source a b)) + length (tagText (q .room .forest)) + length (dataOf source (q .room .forest)) ≤ length o)
+      × (length (oscString (part source a b)) + length (tagText (q .room .forest)) + length (dataOf source (q .room .forest)) ≤ 65535)
   message-room =
       let l = simp length-append at (ap length (message-bytes (q .room .forest))) in
       (omega (arith, q .room .fits), omega (arith, q .room .few))
 
-  inside-spans : Spans t (at + 1) (r .end) (q .room .forest)
+  inside-spans : Spans t (at + 1) end (q .room .forest)
   inside-spans = rw e (q .room .spans)
 
-  table-room : recordSize * r .end ≤ length t
+  table-room : recordSize * end ≤ length t
   table-room = rw e (q .room .table)
 
-  pub address-asked : r .a + r .b ≤ length source
-  address-asked = rw e (address-range source (kindAt t at) (aAt t at) (bAt t at) (q .range) y)
+  pub address-asked : a + b ≤ length source
+  address-asked = rw (u, v) (address-range source (kindAt t at) (aAt t at) (bAt t at) (q .range) y)
 
-  pub address-fits : length (oscString (part source (r .a) (r .b))) ≤ length o
+  pub address-fits : length (oscString (part source a b)) ≤ length o
   address-fits = omega (arith, message-room)
 
-  module _ {o₁ : List ℕ} {k : ℕ} (f₁ : Filled (oscString (part source (r .a) (r .b))) o o₁ k) where
+  module _ {o₁ : List ℕ} {k : ℕ} (f₁ : Filled (oscString (part source a b)) o o₁ k) where
     pub address-room : (k ≤ length o₁) × (k ≤ 65535)
     address-room = (omega (arith, f₁ .count, message-room, filled-length f₁), omega (arith, f₁ .count, message-room))
 
-    pub text-asked : Room Any tagText t (at + 1) (r .end) (length (midOf k (length o₁ - k) o₁))
+    pub text-asked : Room Any tagText t (at + 1) end (length (midOf k (length o₁ - k) o₁))
     text-asked =
         record {
           forest = q .room .forest;
@@ -114,12 +114,12 @@ module _ {source t : List ℕ} {at : ℕ} (o : List ℕ) (y : kindAt t at ≡ 47
           table = table-room;
         }
 
-    module _ {p : List ℕ} {m : ℕ} (f₂ : Fills tagText t (at + 1) (r .end) (midOf k (length o₁ - k) o₁) p m) where
+    module _ {p : List ℕ} {m : ℕ} (f₂ : Fills tagText t (at + 1) end (midOf k (length o₁ - k) o₁) p m) where
       -- the output with address and tags
       abbrev headed : List ℕ
       headed = putMid k (length o₁ - k) o₁ p
 
-      headed-filled : Filled (oscString (part source (r .a) (r .b)) ++ tagText (q .room .forest)) o headed (k + m)
+      headed-filled : Filled (oscString (part source a b) ++ tagText (q .room .forest)) o headed (k + m)
       headed-filled = filled-lent f₁ (f₂ (q .room .forest) inside-spans)
 
       pub head-room : (k + m ≤ length headed) × (k + m ≤ 65535)
@@ -127,7 +127,7 @@ module _ {source t : List ℕ} {at : ℕ} (o : List ℕ) (y : kindAt t at ≡ 47
           let l = simp length-append at (headed-filled .count) in
           (omega (arith, message-room, filled-length headed-filled), omega (arith, message-room))
 
-      pub data-asked : Room (Sound source) (dataOf source) t (at + 1) (r .end) (length (midOf (k + m) (length headed - (k + m)) headed))
+      pub data-asked : Room (Sound source) (dataOf source) t (at + 1) end (length (midOf (k + m) (length headed - (k + m)) headed))
       data-asked =
           let l = simp length-append at (headed-filled .count) in
           record {
@@ -139,7 +139,7 @@ module _ {source t : List ℕ} {at : ℕ} (o : List ℕ) (y : kindAt t at ≡ 47
             table = table-room;
           }
 
-      module _ {p′ : List ℕ} {d : ℕ} (f₃ : Fills (dataOf source) t (at + 1) (r .end) (midOf (k + m) (length headed - (k + m)) headed) p′ d) where
+      module _ {p′ : List ℕ} {d : ℕ} (f₃ : Fills (dataOf source) t (at + 1) end (midOf (k + m) (length headed - (k + m)) headed) p′ d) where
         pub message-end : k + m + d ≤ 65535
         message-end =
             let l = simp length-append at (headed-filled .count) in
@@ -148,27 +148,28 @@ module _ {source t : List ℕ} {at : ℕ} (o : List ℕ) (y : kindAt t at ≡ 47
 
         pub message-filled : Fills (packetAt source t at) t (at + 1) (endAt t at) o (putMid (k + m) (length headed - (k + m)) headed p′) (k + m + d)
         message-filled F s =
-            let s′ : Spans t (at + 1) (r .end) F = rw e s in
+            let s′ : Spans t (at + 1) end F = rw e s in
             rw (message-bytes F) (simp append-assoc at (filled-lent (filled-lent f₁ (f₂ F s′)) (f₃ F s′)))
 
 -- ---- a bundle
 
-module _ {source t : List ℕ} {at : ℕ} (o : List ℕ) (n : kindAt t at ≡ 47 → ⊥) (q : Ready source t at (length o)) {r : Record} (e : r ≡ recordAt t at) where
-  bundle-bytes : (F : Forest) → packetAt source t at F ≡ bundleOf (r .a) (r .b) [] ++ elementsOf source F
-  bundle-bytes F = rw e (bundle-is source (kindAt t at) (aAt t at) (bAt t at) F n)
+module _ {source t : List ℕ} {at : ℕ} (o : List ℕ) (n : kindAt t at ≡ 47 → ⊥) (q : Ready source t at (length o))
+    {end a b : ℕ} (e : end ≡ endAt t at) (u : a ≡ aAt t at) (v : b ≡ bAt t at) where
+  bundle-bytes : (F : Forest) → packetAt source t at F ≡ bundleOf a b [] ++ elementsOf source F
+  bundle-bytes F = rw (u, v) (bundle-is source (kindAt t at) (aAt t at) (bAt t at) F n)
 
   pub head-asked : 16 ≤ length o
   head-asked =
       omega (arith, q .room .fits, simp (length-append, length-bundle) at (ap length (bundle-bytes (q .room .forest))))
 
-  module _ {o₁ : List ℕ} {k : ℕ} (f : Filled (bundleOf (r .a) (r .b) []) o o₁ k) where
-    pub bundle-begun : Going (Sound source) (packetAt source t at) (elementsOf source) t (at + 1) (r .end) o₁ o₁ (at + 1) k
+  module _ {o₁ : List ℕ} {k : ℕ} (f : Filled (bundleOf a b []) o o₁ k) where
+    pub bundle-begun : Going (Sound source) (packetAt source t at) (elementsOf source) t (at + 1) end o₁ o₁ (at + 1) k
     bundle-begun =
-        let room : Room (Sound source) (packetAt source t at) t (at + 1) (r .end) (length o₁) = rw (e, filled-length f) (q .room) in
-        begun room (bundleOf (r .a) (r .b) []) (bundle-bytes (room .forest)) (written-again f)
+        let room : Room (Sound source) (packetAt source t at) t (at + 1) end (length o₁) = rw (e, filled-length f) (q .room) in
+        begun room (bundleOf a b []) (bundle-bytes (room .forest)) (written-again f)
 
-    pub bundle-ended : {o₂ : List ℕ} {next n : ℕ} → Going (Sound source) (packetAt source t at) (elementsOf source) t (at + 1) (r .end) o₁ o₂ next n
-        → r .end ≤ next → Fills (packetAt source t at) t (at + 1) (endAt t at) o o₂ n
+    pub bundle-ended : {o₂ : List ℕ} {next n : ℕ} → Going (Sound source) (packetAt source t at) (elementsOf source) t (at + 1) end o₁ o₂ next n
+        → end ≤ next → Fills (packetAt source t at) t (at + 1) (endAt t at) o o₂ n
     bundle-ended w h F s =
         let b = ended w (elements-none source) h F (rw e s) in
         rw (bundle-bytes F) (written-from (elementsOf source F) f (rw (bundle-bytes F) at b))
@@ -213,12 +214,11 @@ module _ {source t : List ℕ} {g : Forest → List ℕ} {lo hi : ℕ} {o₀ o :
     packet-after =
         (omega (arith, element-room, inside-filled .count, same-length o (k + 4) (inside-filled .wrote)), omega (arith, element-room, inside-filled .count))
 
-    pub element-gone : {p′ : List ℕ} → Wrote (bytes 4 n) (midOf k (length placed - k) placed) p′ → {r : Record} → r ≡ recordAt t at
-        → Going (Sound source) g (elementsOf source) t lo hi o₀ (putMid k (length placed - k) placed p′) (r .end) (k + 4 + n)
+    pub element-gone : {p′ : List ℕ} → Wrote (bytes 4 n) (midOf k (length placed - k) placed) p′ → {end : ℕ} → end ≡ endAt t at
+        → Going (Sound source) g (elementsOf source) t lo hi o₀ (putMid k (length placed - k) placed p′) end (k + 4 + n)
     element-gone v e =
-        let c = inside-filled .count in
-        let size = gap-filled (w .filled) (omega (arith, element-room, filled-length (w .filled))) (length-bytes 4 n) inside-filled v in
-        rw (ap (λ (x : Record). x .end) e)
+        let size = gap-filled (w .filled) (omega (arith, element-room, filled-length (w .filled))) (length-bytes 4 _) inside-filled (rw (inside-filled .count) at v) in
+        rw e
         (gone w h (elementOf (packetAt source t at (next w h .inside))) element-left
         (record { container = w .holds .container; obeys = obeyed .rest-obeys })
-        (rw (← c) size))
+        size)

@@ -9,8 +9,7 @@ use Rattle.number.specs.Wrote.{Filled}
 use Rattle.number.proofs.Parts.{length-lent}
 use Rattle.number.proofs.Writers.{wrote-none, filled-length, filled-set, filled-lent, same-length}
 use Rattle.types.specs.Forest.{Forest, nil}
-use Rattle.types.specs.Records.{recordSize, kindAt, endAt, aAt, bAt, recordAt}
-use Rattle.types.specs.declared.record.Record.{Record}
+use Rattle.types.specs.Records.{recordSize, kindAt, endAt, aAt, bAt}
 use Rattle.table.specs.Tree.{Spans}
 use Rattle.table.proofs.Spanned.{Cut, cut, no-more, spans-unique}
 use Rattle.encoder.specs.Osc.{tagsOf}
@@ -93,7 +92,7 @@ module _ {P : Forest → Type 0} {g f : Forest → List ℕ} {t : List ℕ} {lo 
       }
 
   -- the record that is read at `at` ends after it, and in the row
-  pub ends : at < hi → {r : Record} → r ≡ recordAt t at → (at < r .end) × (r .end ≤ hi)
+  pub ends : at < hi → {end : ℕ} → end ≡ endAt t at → (at < end) × (end ≤ hi)
   ends h e = rw e (next h .on, next h .within)
 
 -- ---- a turn of the tags' loop
@@ -114,34 +113,34 @@ module _ {t : List ℕ} {lo hi : ℕ} {o₀ o : List ℕ} {at k : ℕ} (w : Goin
   array-length : kindAt t at ≡ 91 → 2 + length (tagsOf (next w h .inside)) ≤ length (tagsOf (w .rest))
   array-length y = omega (arith, simp length-append at (ap length (array-is y)))
 
-  module _ {r : Record} (e : r ≡ recordAt t at) where
-    pub tags-leaf-gone : (r .kind ≡ 91 → ⊥) → Going Any tagsOf tagsOf t lo hi o₀ (set o k (r .kind)) (r .end) (k + 1)
-    tags-leaf-gone n = rw e (gone w h (kindAt t at ∷ []) (leaf-is (rw e at n)) tt (filled-set (kindAt t at) (w .filled) (omega (arith, tag-room))))
+  module _ {kind end : ℕ} (e : kind ≡ kindAt t at) (e′ : end ≡ endAt t at) where
+    pub tags-leaf-gone : (kind ≡ 91 → ⊥) → Going Any tagsOf tagsOf t lo hi o₀ (set o k kind) end (k + 1)
+    tags-leaf-gone n = rw (e, e′) (gone w h (kindAt t at ∷ []) (leaf-is (rw e at n)) tt (filled-set (kindAt t at) (w .filled) (omega (arith, tag-room))))
 
     -- the output with the opening bracket
     abbrev opened : List ℕ
-    opened = set o k (r .kind)
+    opened = set o k kind
 
     opened-length : length opened ≡ length o₀
     opened-length = simp length-set (filled-length (w .filled))
 
     -- what an array contains has room after it
-    pub tags-inside : r .kind ≡ 91 → Room Any tagsOf t (at + 1) (r .end) (length (midOf (k + 1) (length opened - (k + 1)) opened))
+    pub tags-inside : kind ≡ 91 → Room Any tagsOf t (at + 1) end (length (midOf (k + 1) (length opened - (k + 1)) opened))
     tags-inside y =
         let m = array-length (rw e at y) in
         record {
           forest = next w h .inside;
-          spans = rw e (next w h .in-spans);
+          spans = rw e′ (next w h .in-spans);
           holds = tt;
           fits = rw length-lent (omega (arith, room-left w, opened-length));
           few = omega (arith, room-left w);
-          table = omega (arith, w .table, ends w h e);
+          table = omega (arith, w .table, ends w h e′);
         }
 
     -- and then there is room for the closing bracket
-    module _ (y : r .kind ≡ 91) {p : List ℕ} {n : ℕ} (f : Fills tagsOf t (at + 1) (r .end) (midOf (k + 1) (length opened - (k + 1)) opened) p n) where
+    module _ (y : kind ≡ 91) {p : List ℕ} {n : ℕ} (f : Fills tagsOf t (at + 1) end (midOf (k + 1) (length opened - (k + 1)) opened) p n) where
       inside-filled : Filled (tagsOf (next w h .inside)) (midOf (k + 1) (length opened - (k + 1)) opened) p n
-      inside-filled = f (next w h .inside) (rw e (next w h .in-spans))
+      inside-filled = f (next w h .inside) (rw e′ (next w h .in-spans))
 
       pub close-room : (k + 1 + n + 1 ≤ length (putMid (k + 1) (length opened - (k + 1)) opened p)) × (k + 1 + n + 1 ≤ 65535)
       close-room =
@@ -149,10 +148,10 @@ module _ {t : List ℕ} {lo hi : ℕ} {o₀ o : List ℕ} {at k : ℕ} (w : Goin
           let c = inside-filled .count in
           (omega (arith, room-left w, opened-length, same-length opened (k + 1) (inside-filled .wrote)), omega (arith, room-left w))
 
-      pub tags-array-gone : Going Any tagsOf tagsOf t lo hi o₀ (set (putMid (k + 1) (length opened - (k + 1)) opened p) (k + 1 + n) 93) (r .end) (k + 1 + n + 1)
+      pub tags-array-gone : Going Any tagsOf tagsOf t lo hi o₀ (set (putMid (k + 1) (length opened - (k + 1)) opened p) (k + 1 + n) 93) end (k + 1 + n + 1)
       tags-array-gone =
           let l = same-length opened (k + 1) (inside-filled .wrote) in
-          let f₁ = filled-set (r .kind) (w .filled) (omega (arith, tag-room)) in
+          let f₁ = filled-set kind (w .filled) (omega (arith, tag-room)) in
           let f₂ = filled-set 93 (filled-lent f₁ inside-filled) (omega (arith, close-room, l, opened-length)) in
-          let q : tagsOf (w .rest) ≡ (r .kind ∷ (tagsOf (next w h .inside) ++ (93 ∷ []))) ++ tagsOf (next w h .rest) = rw e (array-is (rw e at y)) in
-          rw (ap (λ (x : Record). x .end) e) (gone w h (r .kind ∷ (tagsOf (next w h .inside) ++ (93 ∷ []))) q tt (simp append-assoc at f₂))
+          let q : tagsOf (w .rest) ≡ (kind ∷ (tagsOf (next w h .inside) ++ (93 ∷ []))) ++ tagsOf (next w h .rest) = rw e (array-is (rw e at y)) in
+          rw e′ (gone w h (kind ∷ (tagsOf (next w h .inside) ++ (93 ∷ []))) q tt (simp append-assoc at f₂))

@@ -1,7 +1,10 @@
 // The writers (encoder.rs, `encode_message` and what it calls): each fills the first bytes of the slice that it is lent, and
 // answers how many these are.
 use number::put_u32;
-use types::record::read_record;
+use types::record::a_at;
+use types::record::b_at;
+use types::record::end_at;
+use types::record::kind_at;
 use types::tags::Class;
 use types::tags::Sort;
 use types::tags::sort_of;
@@ -28,17 +31,28 @@ fn write(bytes: &[u8], out: &mut [u8])
     }
 }
 
-// Writes n zero bytes.
+// Writes n zero bytes, at most 4: a loop would be compiled to a call.
 fn write_zeros(n: usize, out: &mut [u8]) -> usize
-    requires { ⌜ n ≤ length (now out) ⌝ }
+    requires { ⌜ (n ≤ 4) × (n ≤ length (now out)) ⌝ }
     ensures { λ r. ⌜ Filled (replicate n 0) (now (out .entry)) (now (out .exit)) r ⌝ }
 {
-    let mut i: usize = 0;
-    while i < n {
-        out[i] = 0;
-        i += 1;
+    if n == 0 {
+        return 0;
     }
-    n
+    out[0] = 0;
+    if n == 1 {
+        return 1;
+    }
+    out[1] = 0;
+    if n == 2 {
+        return 2;
+    }
+    out[2] = 0;
+    if n == 3 {
+        return 3;
+    }
+    out[3] = 0;
+    4
 }
 
 // Writes a text and its 1 to 4 NULs.
@@ -119,11 +133,11 @@ fn encode_arg_types(table: &[u8], lo: usize, hi: usize, out: &mut [u8]) -> usize
     let mut at = lo;
     let mut written: usize = 0;
     while at < hi {
-        let record = read_record(table, at);
-        let end = record.end as usize;
-        out[written] = record.kind;
+        let kind = kind_at(table, at);
+        let end = end_at(table, at) as usize;
+        out[written] = kind;
         written += 1;
-        if record.kind == b'[' {
+        if kind == b'[' {
             written += encode_arg_types(table, at + 1, end, &mut out[written..]);
             out[written] = b']';
             written += 1;
@@ -141,15 +155,16 @@ fn encode_arg_data(table: &[u8], lo: usize, hi: usize, source: &[u8], out: &mut 
     let mut at = lo;
     let mut written: usize = 0;
     while at < hi {
-        let record = read_record(table, at);
-        let end = record.end as usize;
-        match sort_of(record.kind) {
+        let end = end_at(table, at) as usize;
+        match sort_of(kind_at(table, at)) {
             Sort::Opens => {
                 written += encode_arg_data(table, at + 1, end, source, &mut out[written..]);
             }
             Sort::Closes => {}
             Sort::Leaf(class) => {
-                written += encode_leaf_data(class, record.a, record.b, source, &mut out[written..]);
+                let a = a_at(table, at);
+                let b = b_at(table, at);
+                written += encode_leaf_data(class, a, b, source, &mut out[written..]);
             }
         }
         at = end;
@@ -173,9 +188,8 @@ fn encode_message(table: &[u8], at: usize, source: &[u8], out: &mut [u8]) -> usi
     requires { ⌜ Ready (now source) (now table) at (length (now out)) ⌝ }
     ensures { λ r. ⌜ Fills (packetAt (now (source .entry)) (now (table .entry)) at) (now (table .entry)) (at + 1) (endAt (now (table .entry)) at) (now (out .entry)) (now (out .exit)) r ⌝ }
 {
-    let record = read_record(table, at);
-    let end = record.end as usize;
-    let address = encode_leaf_data(Class::Text, record.a, record.b, source, out);
+    let end = end_at(table, at) as usize;
+    let address = encode_leaf_data(Class::Text, a_at(table, at), b_at(table, at), source, out);
     let head = address + encode_type_tags(table, at + 1, end, &mut out[address..]);
     head + encode_arg_data(table, at + 1, end, source, &mut out[head..])
 }
@@ -195,17 +209,15 @@ fn encode_bundle(table: &[u8], at: usize, source: &[u8], out: &mut [u8]) -> usiz
     requires { ⌜ Ready (now source) (now table) at (length (now out)) ⌝ }
     ensures { λ r. ⌜ Fills (packetAt (now (source .entry)) (now (table .entry)) at) (now (table .entry)) (at + 1) (endAt (now (table .entry)) at) (now (out .entry)) (now (out .exit)) r ⌝ }
 {
-    let record = read_record(table, at);
-    let end = record.end as usize;
-    let mut written = encode_bundle_head(record.a, record.b, out);
+    let end = end_at(table, at) as usize;
+    let mut written = encode_bundle_head(a_at(table, at), b_at(table, at), out);
     let mut next = at + 1;
     while next < end {
-        let element = read_record(table, next);
         let start = written + 4;
         let length = encode_packet(table, next, source, &mut out[start..]);
         put_u32(&mut out[written..], length as u32);
         written = start + length;
-        next = element.end as usize;
+        next = end_at(table, next) as usize;
     }
     written
 }
@@ -215,8 +227,7 @@ pub fn encode_packet(table: &[u8], at: usize, source: &[u8], out: &mut [u8]) -> 
     requires { ⌜ Ready (now source) (now table) at (length (now out)) ⌝ }
     ensures { λ r. ⌜ Fills (packetAt (now (source .entry)) (now (table .entry)) at) (now (table .entry)) (at + 1) (endAt (now (table .entry)) at) (now (out .entry)) (now (out .exit)) r ⌝ }
 {
-    let record = read_record(table, at);
-    if record.kind == b'/' {
+    if kind_at(table, at) == b'/' {
         return encode_message(table, at, source, out);
     }
     encode_bundle(table, at, source, out)

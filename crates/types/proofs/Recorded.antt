@@ -56,9 +56,9 @@ zeros-read t i b h =
     omega arith
 
 -- a record, field by field
-pub record-read : (t : List ℕ) (i : ℕ) {z e a b : ℕ} → z ≡ zerosAt t i → e ≡ endAt t i → a ≡ aAt t i → b ≡ bAt t i
-    → _≡_ {A = Record} (record { kind = kindAt t i; zeros = z; end = e; a = a; b = b }) (recordAt t i)
-record-read t i p q r s = rw (p, q, r, s)
+pub record-read : (t : List ℕ) (i : ℕ) {k z e a b : ℕ} → k ≡ kindAt t i → z ≡ zerosAt t i → e ≡ endAt t i → a ≡ aAt t i → b ≡ bAt t i
+    → _≡_ {A = Record} (record { kind = k; zeros = z; end = e; a = a; b = b }) (recordAt t i)
+record-read t i o p q r s = rw (o, p, q, r, s)
 
 pub length-records : (i : ℕ) (f : Forest) → length (recordsOf i f) ≡ recordSize * size f
 unfolding recordsOf size

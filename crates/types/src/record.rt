@@ -6,7 +6,7 @@ ghost use mathlib.Core.List.{[], _∷_};
 ghost use Prim.Native.Nat.{_+_, _*_, _/_, _≤_, _<_};
 ghost use lib.ListN.{length};
 ghost use Rattle.number.specs.Wrote.{Wrote};
-ghost use Rattle.types.specs.Records.{recordSize, recordOf, recordAt};
+ghost use Rattle.types.specs.Records.{recordSize, recordOf, kindAt, zerosAt, endAt, aAt, bAt, recordAt};
 
 // The bytes of a record.
 pub const RECORD_SIZE: usize = 16;
@@ -49,17 +49,58 @@ pub fn put_record(table: &mut [u8], kind: u8, end: u32, a: u32, b: u32)
     put_u32(&mut table[12..], b);
 }
 
+// The kind of record `index`.
+//
+// One field is read where only that is wanted: its bytes are then loaded together, where it is used.
+pub fn kind_at(table: &[u8], index: usize) -> u8
+    requires { ⌜ index < length (now table) / recordSize ⌝ }
+    ensures { λ r. ⌜ r ≡ kindAt (now (table .entry)) index ⌝ }
+{
+    table[RECORD_SIZE * index]
+}
+
+// The number of the three bytes after the kind.
+pub fn zeros_at(table: &[u8], index: usize) -> u32
+    requires { ⌜ index < length (now table) / recordSize ⌝ }
+    ensures { λ r. ⌜ r ≡ zerosAt (now (table .entry)) index ⌝ }
+{
+    be_u32(table, RECORD_SIZE * index) % 0x100_0000
+}
+
+// The end of record `index`.
+pub fn end_at(table: &[u8], index: usize) -> u32
+    requires { ⌜ index < length (now table) / recordSize ⌝ }
+    ensures { λ r. ⌜ r ≡ endAt (now (table .entry)) index ⌝ }
+{
+    be_u32(table, RECORD_SIZE * index + 4)
+}
+
+// The field a of record `index`.
+pub fn a_at(table: &[u8], index: usize) -> u32
+    requires { ⌜ index < length (now table) / recordSize ⌝ }
+    ensures { λ r. ⌜ r ≡ aAt (now (table .entry)) index ⌝ }
+{
+    be_u32(table, RECORD_SIZE * index + 8)
+}
+
+// The field b of record `index`.
+pub fn b_at(table: &[u8], index: usize) -> u32
+    requires { ⌜ index < length (now table) / recordSize ⌝ }
+    ensures { λ r. ⌜ r ≡ bAt (now (table .entry)) index ⌝ }
+{
+    be_u32(table, RECORD_SIZE * index + 12)
+}
+
 // Reads record `index`.
 pub fn read_record(table: &[u8], index: usize) -> Record
     requires { ⌜ index < length (now table) / recordSize ⌝ }
     ensures { λ r. ⌜ r ≡ recordAt (now (table .entry)) index ⌝ }
 {
-    let at = RECORD_SIZE * index;
     Record {
-        kind: table[at],
-        zeros: be_u32(table, at) % 0x100_0000,
-        end: be_u32(table, at + 4),
-        a: be_u32(table, at + 8),
-        b: be_u32(table, at + 12),
+        kind: kind_at(table, index),
+        zeros: zeros_at(table, index),
+        end: end_at(table, index),
+        a: a_at(table, index),
+        b: b_at(table, index),
     }
 }

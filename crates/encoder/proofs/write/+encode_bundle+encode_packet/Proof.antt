@@ -1,19 +1,21 @@
 -- `encoder::write::encode_bundle` and `encode_packet` meet their contracts: of a bundle's elements, what is written and what is left.
 -- The number of records falls, and a packet stands above the bundle at the same record. Assumes nothing.
-use mathlib.Core.Path.{sym, ap, _∙_}
+use mathlib.Core.Path.{sym, _∙_}
 use Prim.Native.Nat.{_+_, _-_, _*_}
 use native.Mathlib.Omega.{arith}
 use borrow.Author.Needs.{needs}
 use Rattle.number.proofs.Parts.{length-lent}
 use Rattle.number.proofs.Writers.{filled-length}
 use Rattle.types.specs.Records.{endAt}
-use Rattle.types.specs.declared.record.Record.{Record}
 use Rattle.encoder.specs.Osc.{elementsOf}
 use Rattle.encoder.specs.Writers.{Sound, packetAt}
 use Rattle.encoder.proofs.Rows.{Going, next, ends}
 use Rattle.encoder.proofs.Packets.{before-end, head-asked, bundle-begun, bundle-ended, element-room, packet-asked, packet-after, element-gone}
 use Prim.Native.Nat.{ℕ, _<_}
-use Rattle.types.proofs.record.read_record.Reads as read-record-reads
+use Rattle.types.proofs.record.kind_at.Reads as kind-at-reads
+use Rattle.types.proofs.record.end_at.Reads as end-at-reads
+use Rattle.types.proofs.record.a_at.Reads as a-at-reads
+use Rattle.types.proofs.record.b_at.Reads as b-at-reads
 use Rattle.number.proofs.put_u32.Reads as put-u32-reads
 use Rattle.encoder.proofs.write.encode_message.Reads as encode-message-reads
 use Rattle.encoder.proofs.write.encode_bundle_head.Reads as encode-bundle-head-reads
@@ -67,8 +69,12 @@ encode-bundle-μ-loop table at source out₀ end written₀ next₀ out written 
 pub +encode-bundle+encode-packet-spec : {M : Type 1} → statement M
 +encode-bundle+encode-packet-spec =
     close μ-encode-bundle μ-encode-packet (λ t. encode-bundle-lts.spec (
-      read-record-reads.Asked,
-      read-record-reads.Learnt,
+      end-at-reads.Asked,
+      end-at-reads.Learnt,
+      a-at-reads.Asked,
+      a-at-reads.Learnt,
+      b-at-reads.Asked,
+      b-at-reads.Learnt,
       encode-bundle-head-reads.Asked,
       encode-bundle-head-reads.Learnt,
       encode-packet-below t,
@@ -80,31 +86,33 @@ pub +encode-bundle+encode-packet-spec : {M : Type 1} → statement M
     encode-bundle.Post
     encode-bundle-Inv-loop
     encode-bundle-μ-loop
-    (λ c κs. before-end (c .before .before .before .args .out .now) (c .before .before .before .pre .1 .1) .1)
+    (λ c κs. let s = c .before .before .before in before-end (s .args .out .now) (s .pre .1 .1) .1)
     (λ c. omega arith)
-    (λ c κs. head-asked (c .before .before .before .before .before .before .args .out .now) (c .before .before .before .before .before .before .pre .1 .0) (c .before .before .before .before .before .before .pre .1 .1) (c .before .before .read-record .ensures))
-    (λ c. omega (arith, before-end (c .before .before .before .before .before .before .before .before .before .args .out .now) (c .before .before .before .before .before .before .before .before .before .pre .1 .1)))
-    (λ c. bundle-begun (c .before .before .before .before .before .before .before .before .before .args .out .now) (c .before .before .before .before .before .before .before .before .before .pre .1 .0) (c .before .before .before .before .before .before .before .before .before .pre .1 .1) (c .before .before .before .before .before .read-record .ensures) (c .before .before .encode-bundle-head .ensures))
-    (λ c κs. omega (arith, c .before .loop .inv .table))
-    (λ c. omega (arith, element-room (c .before .before .loop .inv) (c .before .loop-test .taken)))
-    (λ c. omega (arith, element-room (c .before .before .loop .inv) (c .before .loop-test .taken)))
-    (λ c. omega (arith, element-room (c .before .before .loop .inv) (c .before .loop-test .taken)))
+    (λ c κs. let s = c .before .before .before .before in before-end (s .args .out .now) (s .pre .1 .1) .1)
+    (λ c κs. let s = c .before .before .before .before .before in before-end (s .args .out .now) (s .pre .1 .1) .1)
+    (λ c κs. let s = c .before .before .before .before .before .before .before in head-asked (s .args .out .now) (s .pre .1 .0) (s .pre .1 .1) (c .before .before .before .end-at .ensures) (c .before .before .a-at .ensures) (c .before .b-at .ensures))
+    (λ c. let s = c .before .before .before .before .before .before .before .before .before .before in omega (arith, before-end (s .args .out .now) (s .pre .1 .1)))
+    (λ c. let s = c .before .before .before .before .before .before .before .before .before .before in bundle-begun (s .args .out .now) (s .pre .1 .0) (s .pre .1 .1) (c .before .before .before .before .before .before .end-at .ensures) (c .before .before .before .before .before .a-at .ensures) (c .before .before .before .before .b-at .ensures) (c .before .before .encode-bundle-head .ensures))
+    (λ c. omega (arith, element-room (c .before .loop .inv) (c .loop-test .taken)))
+    (λ c. omega (arith, element-room (c .before .loop .inv) (c .loop-test .taken)))
+    (λ c. omega (arith, element-room (c .before .loop .inv) (c .loop-test .taken)))
     (λ c. omega arith)
-    (λ c κs. (omega (arith, c .before .before .before .loop .inv .passed, next (c .before .before .before .loop .inv) (c .before .before .loop-test .taken) .on, next (c .before .before .before .loop .inv) (c .before .before .loop-test .taken) .within, ap (λ (x : Record). x .end) (c .before .before .before .before .before .before .before .before .before .read-record .ensures), c .before .before .before .before .before .before .before .before .before .before .before .before .before .pre .0), packet-asked (c .before .before .before .loop .inv) (c .before .before .loop-test .taken)))
-    (λ c. omega (arith, packet-after (c .before .before .before .before .before .before .loop .inv) (c .before .before .before .before .before .loop-test .taken) (c .before .before .encode-packet .ensures)))
-    (λ c. omega (arith, packet-after (c .before .before .before .before .before .before .loop .inv) (c .before .before .before .before .before .loop-test .taken) (c .before .before .encode-packet .ensures)))
+    (λ c κs. (omega (arith, c .before .before .loop .inv .passed, next (c .before .before .loop .inv) (c .before .loop-test .taken) .on, next (c .before .before .loop .inv) (c .before .loop-test .taken) .within, c .before .before .before .before .before .before .before .before .before .end-at .ensures, c .before .before .before .before .before .before .before .before .before .before .before .before .before .pre .0), packet-asked (c .before .before .loop .inv) (c .before .loop-test .taken)))
+    (λ c. omega (arith, packet-after (c .before .before .before .before .before .loop .inv) (c .before .before .before .before .loop-test .taken) (c .before .before .encode-packet .ensures)))
+    (λ c. omega (arith, packet-after (c .before .before .before .before .before .loop .inv) (c .before .before .before .before .loop-test .taken) (c .before .before .encode-packet .ensures)))
     (λ c. omega arith)
-    (λ c. omega (arith, packet-after (c .before .before .before .before .before .before .before .loop .inv) (c .before .before .before .before .before .before .loop-test .taken) (c .before .before .before .encode-packet .ensures)))
-    (λ c κs. rw length-lent (omega (arith, packet-after (c .before .before .before .before .before .before .before .loop .inv) (c .before .before .before .before .before .before .loop-test .taken) (c .before .before .before .encode-packet .ensures))))
-    (λ c. omega (arith, packet-after (c .before .before .before .before .before .before .before .before .before .before .loop .inv) (c .before .before .before .before .before .before .before .before .before .loop-test .taken) (c .before .before .before .before .before .before .encode-packet .ensures)))
+    (λ c. omega (arith, packet-after (c .before .before .before .before .before .before .loop .inv) (c .before .before .before .before .before .loop-test .taken) (c .before .before .before .encode-packet .ensures)))
+    (λ c κs. rw length-lent (omega (arith, packet-after (c .before .before .before .before .before .before .loop .inv) (c .before .before .before .before .before .loop-test .taken) (c .before .before .before .encode-packet .ensures))))
+    (λ c. omega (arith, packet-after (c .before .before .before .before .before .before .before .before .before .loop .inv) (c .before .before .before .before .before .before .before .before .loop-test .taken) (c .before .before .before .before .before .before .encode-packet .ensures)))
+    (λ c κs. omega (arith, c .before .before .before .before .before .before .before .before .before .loop .inv .table))
     (λ c. omega arith)
-    (λ c. omega (arith, ends (c .before .before .before .before .before .before .before .before .before .before .before .loop .inv) (c .before .before .before .before .before .before .before .before .before .before .loop-test .taken) (c .before .before .before .before .before .before .before .before .before .read-record2 .ensures)))
-    (λ c. element-gone (c .before .before .before .before .before .before .before .before .before .before .before .loop .inv) (c .before .before .before .before .before .before .before .before .before .before .loop-test .taken) (c .before .before .before .before .before .before .before .encode-packet .ensures) (c .before .before .before .put-u32 .ensures) (c .before .before .before .before .before .before .before .before .before .read-record2 .ensures))
+    (λ c. omega (arith, ends (c .before .before .before .before .before .before .before .before .before .before .loop .inv) (c .before .before .before .before .before .before .before .before .before .loop-test .taken) (c .end-at2 .ensures)))
+    (λ c. element-gone (c .before .before .before .before .before .before .before .before .before .before .loop .inv) (c .before .before .before .before .before .before .before .before .before .loop-test .taken) (c .before .before .before .before .before .before .before .encode-packet .ensures) (c .before .before .before .put-u32 .ensures) (c .end-at2 .ensures))
     (λ c. filled-length (c .before .loop .inv .filled) ∙ filled-length (c .before .before .before .before .encode-bundle-head .ensures))
-    (λ c. bundle-ended (c .before .before .before .before .before .before .before .before .before .before .before .args .out .now) (c .before .before .before .before .before .before .before .before .before .before .before .pre .1 .0) (c .before .before .before .before .before .before .before .before .before .before .before .pre .1 .1) (c .before .before .before .before .before .before .before .read-record .ensures) (c .before .before .before .before .encode-bundle-head .ensures) (c .before .loop .inv) (c .loop-test .left)))
+    (λ c. let s = c .before .before .before .before .before .before .before .before .before .before .before .before in bundle-ended (s .args .out .now) (s .pre .1 .0) (s .pre .1 .1) (c .before .before .before .before .before .before .before .before .end-at .ensures) (c .before .before .before .before .before .before .before .a-at .ensures) (c .before .before .before .before .before .before .b-at .ensures) (c .before .before .before .before .encode-bundle-head .ensures) (c .before .loop .inv) (c .loop-test .left)))
     λ t. encode-packet-lts.spec (
-      read-record-reads.Asked,
-      read-record-reads.Learnt,
+      kind-at-reads.Asked,
+      kind-at-reads.Learnt,
       encode-message-reads.Asked,
       encode-message-reads.Learnt,
       encode-bundle-below t,
@@ -113,9 +121,9 @@ pub +encode-bundle+encode-packet-spec : {M : Type 1} → statement M
     (encode-packet-at t)
     encode-packet.Post
     (λ c κs. before-end (c .before .before .before .args .out .now) (c .before .before .before .pre .1) .1)
-    (λ c κs. (sym (ap (λ (x : Record). x .kind) (c .before .before .before .read-record .ensures)) ∙ c .before .if1 .taken, c .before .before .before .before .before .before .before .pre .1))
+    (λ c κs. (sym (c .before .before .kind-at .ensures) ∙ (c .before .if1 .taken), c .before .before .before .before .before .before .pre .1))
     (λ c. search needs)
     (λ c. c .before .before .encode-message .ensures)
-    (λ c κs. (omega (arith, c .before .before .before .before .before .before .before .pre .0), ((λ y. c .before .if1 .left (ap (λ (x : Record). x .kind) (c .before .before .before .read-record .ensures) ∙ y)), c .before .before .before .before .before .before .before .pre .1)))
+    (λ c κs. (omega (arith, c .before .before .before .before .before .before .pre .0), ((λ y. (c .before .if1 .left) ((c .before .before .kind-at .ensures) ∙ y)), c .before .before .before .before .before .before .pre .1)))
     (λ c. search needs)
     (λ c. c .before .before .encode-bundle .ensures)

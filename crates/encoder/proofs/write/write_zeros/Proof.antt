@@ -1,55 +1,84 @@
--- `encoder::write::write_zeros` meets its contract. After i turns i zeros are written.
+-- `encoder::write::write_zeros` meets its contract. Before each test as many zeros are written as n was compared with.
 -- Assumes nothing.
 use mathlib.Core.Path.{_≡_, refl}
-use Prim.Native.Nat.{ℕ, _≤_, _-_}
+use mathlib.Core.List.{List}
+use Prim.Native.Nat.{ℕ, zero, suc, _+_, _≤_}
 use native.Mathlib.Omega.{arith}
-use lib.ListN.{length, replicate, length-set, replicate-append-replicate}
+use native.Mathlib.Numerals.{add-one}
+use lib.ListN.{length, set, replicate, length-set, replicate-append-replicate}
 use Rattle.number.specs.Wrote.{Filled}
 use Rattle.number.proofs.Writers.{wrote-none, filled-set}
+use borrow.Author.Needs.{needs}
 use Rattle.encoder.proofs.write.write_zeros.Statement.{statement}
 use Rattle.encoder.proofs.write.write_zeros.Tie as tie
 
-abbrev Inv-loop : tie.InvT-loop
-Inv-loop n out₀ i₀ out i = (i ≤ n) × Filled (replicate i 0) out₀ out i × (length out ≡ length out₀)
+-- the slice with zeros over its first bytes
+abbrev zeroed : ℕ → List ℕ → List ℕ
+zeroed zero o = o
+zeroed (suc i) o = set (zeroed i o) i 0
 
-abbrev μ-loop : tie.MeasureT-loop
-μ-loop n out₀ i₀ out i = n - i
+zeroed-filled : (i : ℕ) (o : List ℕ) → i ≤ length o → Filled (replicate i 0) o (zeroed i o) i
+zeroed-filled zero o h = record { count = refl; wrote = wrote-none o }
+zeroed-filled (suc i) o h =
+    let f : Filled (replicate (i + 1) 0) o (zeroed (suc i) o) (i + 1)
+    = rw (← replicate-append-replicate {A = ℕ} i 1 0) (filled-set 0 (zeroed-filled i o (omega arith)) (omega arith)) in
+    rw add-one at f
 
-loop-holds : tie.Need-loop-holds Inv-loop μ-loop
-loop-holds c = (omega arith, record { count = refl; wrote = wrote-none _ }, refl)
+returns : tie.Need-returns
+returns c = rw (c .if1 .taken) (zeroed-filled 0 (c .before .args .out .now) (omega arith))
 
-slice-write-out : tie.Need-slice-write-out Inv-loop μ-loop
-slice-write-out c = omega arith
+slice-write-out : tie.Need-slice-write-out
+slice-write-out c = search needs
 
-add-i : tie.Need-add-i Inv-loop μ-loop
-add-i c = omega arith
+same-length : tie.Need-same-length
+same-length c = search needs
 
-loop-less : tie.Need-loop-less Inv-loop μ-loop
-loop-less c = omega arith
+returns-2 : tie.Need-returns-2
+returns-2 c = rw (c .if2 .taken) (zeroed-filled 1 (c .before .before .args .out .now) (omega arith))
 
-loop-again : tie.Need-loop-again Inv-loop μ-loop
-loop-again c = (
-  omega arith,
-  rw (← replicate-append-replicate {A = ℕ} (c .before .loop .i) 1 0) (filled-set 0 (c .before .loop .inv .1) (omega arith)),
-  simp length-set (c .before .loop .inv .2),
-)
+slice-write-out-2 : tie.Need-slice-write-out-2
+slice-write-out-2 c = simp length-set (omega arith)
 
-same-length : tie.Need-same-length Inv-loop μ-loop
-same-length c = c .before .loop .inv .2
+same-length-2 : tie.Need-same-length-2
+same-length-2 c = search needs
 
-returns : tie.Need-returns Inv-loop μ-loop
-returns c = let e : c .before .loop .i ≡ c .before .before .args .n = omega arith in rw (← e) (c .before .loop .inv .1)
+returns-3 : tie.Need-returns-3
+returns-3 c = rw (c .if3 .taken) (zeroed-filled 2 (c .before .before .before .args .out .now) (omega arith))
+
+slice-write-out-3 : tie.Need-slice-write-out-3
+slice-write-out-3 c = simp length-set (omega arith)
+
+same-length-3 : tie.Need-same-length-3
+same-length-3 c = search needs
+
+returns-4 : tie.Need-returns-4
+returns-4 c = rw (c .if4 .taken) (zeroed-filled 3 (c .before .before .before .before .args .out .now) (omega arith))
+
+slice-write-out-4 : tie.Need-slice-write-out-4
+slice-write-out-4 c = simp length-set (omega arith)
+
+same-length-4 : tie.Need-same-length-4
+same-length-4 c = search needs
+
+returns-5 : tie.Need-returns-5
+returns-5 c =
+    let e : c .before .before .before .before .args .n ≡ 4 = omega arith in
+    rw e (zeroed-filled 4 (c .before .before .before .before .args .out .now) (omega arith))
 
 pub write-zeros-spec : {M : Type 1} → statement M
 write-zeros-spec =
     tie.close
     (tie.spec
-    Inv-loop
-    μ-loop
-    loop-holds
+    returns
     slice-write-out
-    add-i
-    loop-less
-    loop-again
     same-length
-    returns)
+    returns-2
+    slice-write-out-2
+    same-length-2
+    returns-3
+    slice-write-out-3
+    same-length-3
+    returns-4
+    slice-write-out-4
+    same-length-4
+    returns-5)
