@@ -30,6 +30,7 @@ use Rattle.encoder.specs.Osc.{oscString, elementOf}
 use Rattle.encoder.specs.Outcome.{Outcome, refuse, write, plain, prefixed, encoded, Encodes, malformed, formed, stringOutcome}
 use Rattle.encoder.specs.Writers.{Fills, packetAt, Ready}
 use Rattle.encoder.specs.Measure.{sumTo, elementLength, Measured}
+use Rattle.encoder.specs.Survey.{Surveyed}
 use Rattle.encoder.specs.Prepare.{Sized, Prepares}
 use Rattle.encoder.specs.Prepare as prepare
 use Rattle.encoder.specs.declared.Encoded.the-variants.{Written}
@@ -124,6 +125,25 @@ module _ {source t : List ℕ} {n : ℕ} (z : Sized source t n) where
         written (elementOf (packetAt source t 0 F)) out (omega (arith, element-length)) (rw (← e) (filled-lent size (f F s)))
 
 -- ---- before a byte is written
+
+-- where the survey is sure, its length is the packet's
+module _ {t : List ℕ} {count : ℕ} {source : List ℕ} {n : ℕ} (w : Surveyed t count source n) where
+  pub survey-some : 4 ≤ n
+  survey-some = omega (arith, w .sized)
+
+  pub survey-ready : n ≤ 65539 → Prepares t count source (Length (n - 4))
+  unfolding Spans Obeys
+  survey-ready h =
+      prepare.ready (w .inside) (w .tree) (w .shallow) (n - 4) refl
+      (record {
+        inside = w .inside;
+        spans = w .tree .spans .3;
+        sound = record { container = kindAt t 0; obeys = w .tree .obeys .3 };
+        range = w .tree .obeys .1;
+        table = omega (arith, w .tree .fits, w .tree .spans .4);
+        exact = λ l. omega (arith, w .sized);
+        over = λ l. absurd (omega (arith, l));
+      })
 
 module _ (t : List ℕ) (count : ℕ) (source : List ℕ) {b : Bool} (d : Decides b (WellFormed t count source)) where
   pub bad-table : not b ≡ true → Prepares t count source (Refused BadTable)

@@ -5,6 +5,7 @@ pub mod Arguments
 pub mod Gaps
 pub mod Packets
 pub mod Sums
+pub mod Surveyed
 pub mod Answers
 pub mod Only
 pub mod Fours

@@ -43,7 +43,7 @@ sum-up g i n h = let e : i + (n - i) ≡ n = omega arith in rw e at (sum-on g i 
 
 -- ---- which kinds stand in a message, and which contain nothing
 
-is-or : (k j : ℕ) → (k ≡ j) ⊎ (k ≡ j → ⊥)
+pub is-or : (k j : ℕ) → (k ≡ j) ⊎ (k ≡ j → ⊥)
 is-or k j = go (eqb k j) refl
   where
     go : (x : Bool) → eqb k j ≡ x → (k ≡ j) ⊎ (k ≡ j → ⊥)
@@ -110,12 +110,12 @@ module _ (source : List ℕ) (container k a b : ℕ) (inside rest : Forest) (n :
   only-arrays m =
       leaf-empty source k inside (no-bundle container k n (p .may)) (no-message container k n (p .may)) (λ e. m (opens k e)) (p .in-obeys)
 
-  tags-one : length (tagsOf (node k a b inside rest)) ≡ tagLength (sortOf k) + length (tagsOf inside) + length (tagsOf rest)
+  pub tags-one : length (tagsOf (node k a b inside rest)) ≡ tagLength (sortOf k) + length (tagsOf inside) + length (tagsOf rest)
   tags-one =
       let e = tags-by (sortOf k) k (tagsOf inside) (λ m. ap tagsOf (only-arrays m) ∙ tags-none) in
       omega (arith, simp length-append at (ap length (tags-is k a b inside rest)))
 
-  data-one : length (dataOf source (node k a b inside rest)) ≡ dataLength (sortOf k) b + length (dataOf source inside) + length (dataOf source rest)
+  pub data-one : length (dataOf source (node k a b inside rest)) ≡ dataLength (sortOf k) b + length (dataOf source inside) + length (dataOf source rest)
   data-one =
       let e = data-by (sortOf k) source a b (dataOf source inside) (λ class. leaf-range source k a b class (p .range)) (λ m. ap (dataOf source) (only-arrays m) ∙ data-none source) in
       omega (arith, simp length-append at (ap length (data-is k a b inside rest source (sortOf k) refl)))

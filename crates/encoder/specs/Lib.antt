@@ -3,3 +3,4 @@ pub mod Outcome
 pub mod Writers
 pub mod Measure
 pub mod Prepare
+pub mod Survey

@@ -14,7 +14,7 @@ ghost use Rattle.encoder.specs.Measure.{argumentLength, dataLength, tagL
 const MOST: usize = 65_539;
 
 // The length of a text of n bytes with its NULs.
-fn string_length(n: usize) -> usize
+pub fn string_length(n: usize) -> usize
     requires { ⌜ n < 2 ^ 60 ⌝ }
     ensures { λ r. ⌜ r ≡ stringLength n ⌝ }
 {
@@ -30,7 +30,7 @@ fn blob_length(n: usize) -> usize
 }
 
 // The bytes of data of an argument that is no array.
-fn argument_length(class: Class, b: u32) -> usize
+pub fn argument_length(class: Class, b: u32) -> usize
     ensures { λ r. ⌜ (r ≡ argumentLength class b) × (r ≤ 2 ^ 32 + 8) ⌝ }
 {
     match class {

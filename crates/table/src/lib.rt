@@ -38,14 +38,14 @@ fn may_contain(container: u8, kind: u8) -> bool
 }
 
 // Whether a range lies in the source.
-fn lies_in(source: &[u8], offset: u32, length: u32) -> bool
+pub fn lies_in(source: &[u8], offset: u32, length: u32) -> bool
     ensures { λ r. ⌜ r ≡ inside (now (source .entry)) offset length ⌝ }
 {
     offset as usize + length as usize <= source.len()
 }
 
 // Whether a range lies in the source and is UTF-8 there.
-fn text_ok(source: &[u8], offset: u32, length: u32) -> bool
+pub fn text_ok(source: &[u8], offset: u32, length: u32) -> bool
     ensures { λ r. ⌜ r ≡ textOk (now (source .entry)) offset length ⌝ }
 {
     let from = offset as usize;

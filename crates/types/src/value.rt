@@ -211,7 +211,7 @@ pub fn value_of(kind: u8, a: u32, b: u32) -> OscType
 }
 
 // Whether the fields of an argument that is no array obey their class.
-fn leaf_rules(class: Class, a: u32, b: u32) -> bool
+pub fn leaf_rules(class: Class, a: u32, b: u32) -> bool
     ensures { λ r. ⌜ r ≡ leafRules class a b ⌝ }
 {
     match class {
