@@ -5,11 +5,11 @@ use mathlib.Core.List.{List, _++_, append-assoc}
 use Prim.Native.Nat.{ℕ, _+_, _-_, _≤_}
 use native.Mathlib.Omega.{arith}
 use lib.ListN.{length, take, drop, length-append, take-append-drop}
-use lib.Seq.{take-at, drop-at, drop-drop}
+use lib.Seq.{drop-drop}
 use borrow.Rule.Slice.PartMut.{midOf, putMid}
 use Rattle.number.specs.Wrote.{Wrote, Filled}
-use Rattle.number.proofs.Parts.{lent, given-back, length-part}
-use Rattle.number.proofs.Writers.{wrote-length, drop-wrote, filled-lent}
+use Rattle.number.proofs.Parts.{length-part}
+use Rattle.number.proofs.Writers.{wrote-length, drop-wrote, wrote-at, wrote-on, wrote-over, filled-lent}
 
 -- g bytes are passed over: they stand there as they were
 gap-left : {bs o₀ o : List ℕ} {k : ℕ} (g : ℕ) → Filled bs o₀ o k → k + g ≤ length o₀ → Filled (bs ++ take g (drop k o₀)) o₀ o (k + g)
@@ -25,14 +25,10 @@ gap-left {bs} {o₀} {o} {k} g f h =
 -- hs, which stand after bs, are written over by as many bytes
 written-over : (bs hs cs : List ℕ) {o₀ o ds p : List ℕ} (k : ℕ) → Wrote ((bs ++ hs) ++ cs) o₀ o → length bs ≡ k → length ds ≡ length hs
     → Wrote ds (midOf k (length o - k) o) p → Wrote (bs ++ (ds ++ cs)) o₀ (putMid k (length o - k) o p)
-written-over bs hs cs {o₀} {o} {ds} {p} k w e l v =
-    let r = drop (length ((bs ++ hs) ++ cs)) o₀ in
-    let eo : o ≡ bs ++ (hs ++ (cs ++ r)) = w .left ∙ simp append-assoc in
-    let tk : take k o ≡ bs = ap (take k) eo ∙ take-at bs _ k e in
-    let dk : drop k o ≡ hs ++ (cs ++ r) = ap (drop k) eo ∙ drop-at bs _ k e in
-    let pv : p ≡ ds ++ (cs ++ r) = (rw lent at v) .left ∙ rw (dk, drop-at hs (cs ++ r) (length ds) (sym l)) in
-    let n : length (bs ++ (ds ++ cs)) ≡ length ((bs ++ hs) ++ cs) = simp length-append (omega (arith, l)) in
-    rw given-back (record { room = rw n (w .room); left = rw (tk, pv, n) (simp append-assoc) })
+written-over bs hs cs {o₀} {o} {ds} k w e l v =
+    let u : Wrote (bs ++ (hs ++ cs)) o₀ o = rw append-assoc at w in
+    let h : k ≤ length o = omega (arith, u .room, length-append bs (hs ++ cs), wrote-length _ _ _ u) in
+    wrote-over bs hs cs ds k u e (sym l) (wrote-at o k h v)
 
 -- bs stand there; cs are written behind a gap of the length of ds, and then ds into it
 pub gap-filled : {bs o₀ o cs p ds q : List ℕ} {k g n : ℕ} → Filled bs o₀ o k → k + g ≤ length o₀ → length ds ≡ g
@@ -61,13 +57,4 @@ written-again {bs} {o₀} {o} {k} f =
 
 -- and what is written after it leaves the later bytes as they were before both
 pub written-from : {bs o₀ o₁ o : List ℕ} {k n : ℕ} (cs : List ℕ) → Filled bs o₀ o₁ k → Filled (bs ++ cs) o₁ o n → Filled (bs ++ cs) o₀ o n
-written-from {bs} {o₀} {o₁} {o} {k} {n} cs f g =
-    let d : drop (length bs + length cs) o₁ ≡ drop (length bs + length cs) o₀
-    = sym (drop-drop (length cs) (length bs) o₁) ∙ ap (drop (length cs)) (drop-wrote bs o₀ o₁ (f .wrote)) ∙ drop-drop (length cs) (length bs) o₀ in
-    record {
-      count = g .count;
-      wrote = record {
-        room = rw (← wrote-length bs o₀ o₁ (f .wrote)) (g .wrote .room);
-        left = g .wrote .left ∙ ap (λ (x : List ℕ). (bs ++ cs) ++ x) (rw length-append d);
-      };
-    }
+written-from cs f g = record { count = g .count; wrote = wrote-on cs (f .wrote) (g .wrote) }

@@ -103,9 +103,9 @@ found-more {t} {source} {container} {at} {hi} {inside} {rest} p s f =
       spans = (refl, refl, refl, s .found .spans, f .spans);
       obeys = (s .rules, s .range, s .may, s .found .obeys, f .obeys);
       zeros = λ i l h. ⊎-elim
-        (λ (q : i < endAt t at). ⊎-elim (λ (m : at < i). s .found .zeros i (omega arith) q) (λ (m : i ≤ at). let e : at ≡ i = omega arith in rw e at (p .zeros)) (lt-or-le at i))
-        (λ (q : endAt t at ≤ i). f .zeros i q h)
-        (lt-or-le i (endAt t at));
+          (λ (q : i < endAt t at). ⊎-elim (λ (m : at < i). s .found .zeros i (omega arith) q) (λ (m : i ≤ at). let e : at ≡ i = omega arith in rw e at (p .zeros)) (lt-or-le at i))
+          (λ (q : endAt t at ≤ i). f .zeros i q h)
+          (lt-or-le i (endAt t at));
     }
 
 -- arguments may stand in an array as in a message
@@ -196,9 +196,9 @@ module _ {t source : List ℕ} {lo hi at n m : ℕ} (b : Behind t source lo hi a
   behind-more x y p a l h =
       record {
         before = λ tags content w.
-          let e : n + x + tags ≡ n + (x + tags) = omega arith in
-          let f : m + y + content ≡ m + (y + content) = omega arith in
-          rw (e, f) (b .before (x + tags) (y + content) (arguments-more p a w));
+            let e : n + x + tags ≡ n + (x + tags) = omega arith in
+            let f : m + y + content ≡ m + (y + content) = omega arith in
+            rw (e, f) (b .before (x + tags) (y + content) (arguments-more p a w));
         passed = omega (arith, b .passed, p .on);
         within = p .within;
         few = omega (arith, b .few, b .passed, p .on);

@@ -132,10 +132,9 @@ pub +survey-argument+survey-arguments-spec : {M : Type 1} → statement M
     -- returns-5
     (λ c.
     let r = c .before .before .before .before in
-    let k = r .before .before .before .before in
-    (
+    let k = r .before .before .before .before in (
       (λ h. argument-array _ _ _ (k .kind-at .ensures) (k .before .before .before .end-at .ensures) (k .before .before .a-at .ensures) (k .before .b-at .ensures) (r .before .before .before .sort-of .ensures)
-        (r .before .enum-told .given .1) (c .before .before .before .if2 .left) (c .before .before .if3 .left) (c .before .survey-arguments .ensures .0 h)),
+          (r .before .enum-told .given .1) (c .before .before .before .if2 .left) (c .before .before .if3 .left) (c .before .survey-arguments .ensures .0 h)),
       (
         omega (arith, c .before .survey-arguments .ensures, c .before .before .before .before .before .before .before .before .before .before .before .end-at .ensures, c .before .before .before .before .before .before .before .before .before .before .before .before .before .before .pre .1),
         omega (arith, c .before .survey-arguments .ensures),
@@ -145,11 +144,10 @@ pub +survey-argument+survey-arguments-spec : {M : Type 1} → statement M
     (λ c. ((λ h. absurd (omega (arith, h))), (omega arith, omega arith)))
     -- returns-7
     (λ c.
-    let k = c .before .before .before .before .before .before in
-    (
+    let k = c .before .before .before .before .before .before in (
       (λ h. let l = c .leaf-content .ensures .0 h in
-        rw (← l .1) at (argument-leaf _ _ _ (k .kind-at .ensures) (k .before .before .before .end-at .ensures) (k .before .before .a-at .ensures) (k .before .b-at .ensures) (c .before .before .before .before .before .sort-of .ensures)
-        (c .before .before .before .class .given .1) (c .before .if4 .left) (l .0))),
+          rw (← l .1) at (argument-leaf _ _ _ (k .kind-at .ensures) (k .before .before .before .end-at .ensures) (k .before .before .a-at .ensures) (k .before .b-at .ensures) (c .before .before .before .before .before .sort-of .ensures)
+          (c .before .before .before .class .given .1) (c .before .if4 .left) (l .0))),
       (
         omega (arith, c .before .before .before .before .before .before .before .before .before .end-at .ensures, c .before .before .before .before .before .before .before .before .before .before .before .before .pre .1),
         omega (arith, c .leaf-content .ensures .1),

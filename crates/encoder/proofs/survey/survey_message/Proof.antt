@@ -55,11 +55,10 @@ returns-2 c =
     let x = c .before .before .before in
     let w = x .before in
     let r = w .before .before .before in
-    let text = sym (r .text-ok .ensures) ∙ not-false _ (w .before .before .if1 .left) in
-    (
+    let text = sym (r .text-ok .ensures) ∙ not-false _ (w .before .before .if1 .left) in (
       (λ h.
-        message-found _ _ _ (r .before .a-at .ensures) (r .before .before .b-at .ensures) (w .before .end-at .ensures) text
-        (w .survey-arguments .ensures .0 (omega (arith, h))) (x .string-length .ensures) (c .before .string-length2 .ensures)),
+          message-found _ _ _ (r .before .a-at .ensures) (r .before .before .b-at .ensures) (w .before .end-at .ensures) text
+          (w .survey-arguments .ensures .0 (omega (arith, h))) (x .string-length .ensures) (c .before .string-length2 .ensures)),
       omega (arith, x .string-length .ensures, c .before .string-length2 .ensures, w .survey-arguments .ensures .1, w .before .end-at .ensures, c .before .before .before .before .before .before .before .before .before .before .before .before .pre),
     )
 
