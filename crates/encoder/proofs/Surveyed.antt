@@ -8,6 +8,7 @@ use native.Mathlib.Omega.{arith}
 use lib.Dec.{eqb, leb, ltb}
 use lib.ListN.{length, length-append}
 use borrow.Author.Tests.{eqb-true, ltb-true, leb-true, ne-eqb}
+use Rattle.number.proofs.Choices.{lt-or-le}
 use Rattle.number.proofs.Numbers.{length-bytes}
 use Rattle.number.proofs.Parts.{length-part}
 use Rattle.types.specs.Forest.{Forest, nil, node, depth}
@@ -21,7 +22,6 @@ use Rattle.types.specs.declared.tags.Sort.the-variants.{Opens, Leaf}
 use Rattle.table.specs.Formed.{part, inside, textOk, rangeOk, isPacket, allowed}
 use Rattle.table.specs.Tree.{Spans, Obeys}
 use Rattle.table.proofs.Spanned.{Parts, cut, no-more}
-use Rattle.table.proofs.Grown.{lt-or-le}
 use Rattle.encoder.specs.Osc.{oscString, elementsOf}
 use Rattle.encoder.specs.Writers.{stringLength}
 use Rattle.encoder.specs.Measure.{argumentLength}
