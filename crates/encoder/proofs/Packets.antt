@@ -10,6 +10,7 @@ use Rattle.number.specs.Wrote.{Wrote, Filled}
 use Rattle.number.proofs.Numbers.{length-bytes}
 use Rattle.number.proofs.Parts.{length-lent}
 use Rattle.number.proofs.Writers.{wrote-none, filled-set, filled-length, filled-lent, same-length}
+use Rattle.number.proofs.Gaps.{gap-filled, written-again, written-from}
 use Rattle.types.specs.Forest.{Forest}
 use Rattle.types.specs.Records.{recordSize, kindAt, endAt, aAt, bAt}
 use Rattle.table.specs.Formed.{part}
@@ -19,7 +20,6 @@ use Rattle.encoder.specs.Osc.{oscString, tagsOf, dataOf, messageOf, bund
 use Rattle.encoder.specs.Writers.{stringLength, tagText, Any, Sound, Room, Fills, packetAt, Ready}
 use Rattle.encoder.proofs.Lengths.{length-string, length-bundle}
 use Rattle.encoder.proofs.Classed.{address-range, message-is, bundle-is, elements-is, elements-none}
-use Rattle.encoder.proofs.Gaps.{gap-filled, written-again, written-from}
 use Rattle.encoder.proofs.Rows.{Going, begun, ended, room-left, next, gone}
 
 -- ---- the type tag text
