@@ -51,9 +51,9 @@ known-class : (source : List ℕ) (a b : ℕ) (class : Class) → leafOk source 
 known-class source a b class o e = false≢true (rw e at o)
 
 -- so its kind is no packet's
-no-packet : (source : List ℕ) (k a b : ℕ) (class : Class) → sortOf k ≡ Leaf class → leafOk source class a b ≡ true → isPacket k ≡ false
+leaf-no-packet : (source : List ℕ) (k a b : ℕ) (class : Class) → sortOf k ≡ Leaf class → leafOk source class a b ≡ true → isPacket k ≡ false
 unfolding sortOf classOf
-no-packet source k a b class s o =
+leaf-no-packet source k a b class s o =
     ⊎-elim
     (λ q. absurd (known-class source a b class o (let e : Leaf Unknown ≡ Leaf class = rw q at s in cc)))
     (λ n. ⊎-elim (λ q. absurd (known-class source a b class o (let e : Leaf Unknown ≡ Leaf class = rw q at s in cc))) (λ m. rw (ne-eqb k 35 n, ne-eqb k 47 m)) (is-or k 47))
@@ -65,11 +65,11 @@ module _ (source : List ℕ) (k a b : ℕ) (class : Class) (s : sortOf k ≡ Lea
 
   pub leaf-rules : ownRules k a b ≡ true
   unfolding ownRules
-  leaf-rules = rw (no-packet source k a b class s o, s) ruled
+  leaf-rules = rw (leaf-no-packet source k a b class s o, s) ruled
 
   pub leaf-may : allowed 47 k ≡ true
   unfolding allowed
-  leaf-may = rw (no-packet source k a b class s o)
+  leaf-may = rw (leaf-no-packet source k a b class s o)
 
   ranged : leafRange source class a b ≡ true
   ranged = rw ruled at o
