@@ -7,7 +7,7 @@ use number::be_u32;
 use text::Text;
 use types::record;
 ghost use mathlib.Core.Path.{_≡_};
-ghost use Prim.Native.Nat.{ℕ, _+_, _≤_};
+ghost use Prim.Native.Nat.{_+_, _≤_};
 ghost use lib.ListN.{length};
 ghost use Rattle.decoder.specs.Packet.{messageOf, packet};
 ghost use Rattle.decoder.specs.Limits.{stored};

@@ -17,8 +17,7 @@ use Rattle.decoder.specs.declared.Decoded.{Decoded}
 use Rattle.decoder.specs.declared.Decoded.the-variants.{Packets, Refused}
 use Rattle.demands.specs.Words.{Bytes}
 use Rattle.demands.specs.Demands.{after, RecordsHold, Encodable}
-use Rattle.number.proofs.Choices.{by-le}
-use Rattle.table.proofs.Grown.{lt-or-le}
+use Rattle.number.proofs.Choices.{by-le, lt-or-le}
 use Rattle.table.proofs.Theorem.{tree-formed, bytes-tree}
 use Rattle.demands.proofs.Placed.{At, at-all, at-drop}
 use Rattle.decoder.proofs.Chosen.{by-decoded, by-trees}

@@ -11,9 +11,9 @@ use Rattle.types.specs.Records.{startOf, kindAt, endAt, aAt, bAt}
 use Rattle.table.specs.Tree.{Spans, FieldsFit}
 use Rattle.demands.specs.Words.{Bytes, SameField, Same, both, SameTable}
 use Rattle.demands.specs.Words as words
+use Rattle.number.proofs.Choices.{lt-or-le}
 use Rattle.number.proofs.Numbers.{number-small}
 use Rattle.table.proofs.Spanned.{spans-size}
-use Rattle.table.proofs.Grown.{lt-or-le}
 use Rattle.number.proofs.Parts.{drop-small}
 use Rattle.demands.proofs.SameTree.{same-size}
 

@@ -14,6 +14,7 @@ use Rattle.refusal.specs.declared.Refusal.the-variants.{TooLong, Unreadable, To
 use Rattle.refusal.specs.declared.Fault.the-variants.{NotUtf8}
 use Rattle.number.specs.Number.{bytes}
 use Rattle.number.specs.Wrote.{Wrote, Filled}
+use Rattle.number.proofs.Choices.{lt-or-le}
 use Rattle.number.proofs.Numbers.{length-bytes}
 use Rattle.number.proofs.Writers.{filled-lent}
 use Rattle.utf8.specs.Utf8.{Octets, Decides}
@@ -24,7 +25,7 @@ use Rattle.types.specs.declared.record.Record.{Record}
 use Rattle.table.specs.Formed.{WellFormed}
 use Rattle.table.specs.Tree.{Spans, Obeys, IsTree, Row}
 use Rattle.table.proofs.Spanned.{spans-size, spans-unique}
-use Rattle.table.proofs.Grown.{tiles-le, lt-or-le}
+use Rattle.table.proofs.Grown.{tiles-le}
 use Rattle.table.proofs.Theorem.{formed-tree}
 use Rattle.encoder.specs.Osc.{oscString, elementOf}
 use Rattle.encoder.specs.Outcome.{Outcome, refuse, write, plain, prefixed, encoded, Encodes, malformed, formed, stringOutcome}

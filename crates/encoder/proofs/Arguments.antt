@@ -14,17 +14,13 @@ use Rattle.types.specs.Records.{kindAt, endAt, aAt, bAt}
 use Rattle.types.specs.declared.tags.Class.{Class}
 use Rattle.types.specs.declared.tags.Sort.{Sort}
 use Rattle.types.specs.declared.tags.Sort.the-variants.{Opens, Closes, Leaf}
-use Rattle.table.proofs.Spanned.{Parts, cut-parts}
 use Rattle.encoder.specs.Osc.{argumentOf, dataBy, dataOf}
 use Rattle.encoder.specs.Writers.{ranged, Sound, Room, Fills}
 use Rattle.encoder.proofs.Classed.{leaf-range, data-is}
-use Rattle.encoder.proofs.Rows.{Going, room-left, next, gone, ends}
+use Rattle.encoder.proofs.Rows.{Going, room-left, next, gone, ends, obeyed}
 
 module _ {source t : List ℕ} {lo hi : ℕ} {o₀ o : List ℕ} {at k : ℕ} (w : Going (Sound source) (dataOf source) (dataOf source) t lo hi o₀ o at k) (h : at < hi)
     {end kind : ℕ} (e : end ≡ endAt t at) (e′ : kind ≡ kindAt t at) {sort : Sort} (s : sort ≡ sortOf kind) where
-  obeyed : Parts source (w .holds .container) (kindAt t at) (aAt t at) (bAt t at) (next w h .inside) (next w h .rest)
-  obeyed = cut-parts (next w h) source (w .holds .container) (w .holds .obeys)
-
   -- the bytes of the record
   abbrev datum : Sort → List ℕ
   datum x = dataBy x source (aAt t at) (bAt t at) (dataOf source (next w h .inside))
@@ -45,11 +41,11 @@ module _ {source t : List ℕ} {lo hi : ℕ} {o₀ o : List ℕ} {at k : ℕ} (w
 
   datum-gone : {x : Sort} → sort ≡ x → {p : List ℕ} {n : ℕ} → Filled (datum x) (midOf k (length o - k) o) p n
       → Going (Sound source) (dataOf source) (dataOf source) t lo hi o₀ (putMid k (length o - k) o p) end (k + n)
-  datum-gone {x} q f = rw e (gone w h (datum x) (data-left ∙ rw q) (record { container = w .holds .container; obeys = obeyed .rest-obeys }) (filled-lent (w .filled) f))
+  datum-gone {x} q f = rw e (gone w h (datum x) (data-left ∙ rw q) (record { container = w .holds .container; obeys = obeyed w h .rest-obeys }) (filled-lent (w .filled) f))
 
   -- a closing bracket has no data
   pub closes-gone : sort ≡ Closes → Going (Sound source) (dataOf source) (dataOf source) t lo hi o₀ o end k
-  closes-gone q = rw e (gone w h [] (data-left ∙ rw q) (record { container = w .holds .container; obeys = obeyed .rest-obeys }) (rw append-nil (w .filled)))
+  closes-gone q = rw e (gone w h [] (data-left ∙ rw q) (record { container = w .holds .container; obeys = obeyed w h .rest-obeys }) (rw append-nil (w .filled)))
 
   -- an array: what it contains is written
   module _ (q : sort ≡ Opens) where
@@ -58,7 +54,7 @@ module _ {source t : List ℕ} {lo hi : ℕ} {o₀ o : List ℕ} {at k : ℕ} (w
         record {
           forest = next w h .inside;
           spans = rw e (next w h .in-spans);
-          holds = record { container = kindAt t at; obeys = obeyed .in-obeys };
+          holds = record { container = kindAt t at; obeys = obeyed w h .in-obeys };
           fits = datum-fits q;
           few = omega (arith, rw q at data-room);
           table = omega (arith, w .table, ends w h e);
@@ -78,7 +74,7 @@ module _ {source t : List ℕ} {lo hi : ℕ} {o₀ o : List ℕ} {at k : ℕ} (w
   module _ {class : Class} (q : sort ≡ Leaf class) {a b : ℕ} (u : a ≡ aAt t at) (v : b ≡ bAt t at) where
     pub leaf-asked : (ranged class ≡ true → a + b ≤ length source) × (length (argumentOf class source a b) ≤ length (midOf k (length o - k) o))
     leaf-asked = (
-      rw (u, v) (leaf-range source (kindAt t at) (aAt t at) (bAt t at) class (obeyed .range) (sym (s ∙ ap sortOf e′) ∙ q)),
+      rw (u, v) (leaf-range source (kindAt t at) (aAt t at) (bAt t at) class (obeyed w h .range) (sym (s ∙ ap sortOf e′) ∙ q)),
       rw (u, v) (datum-fits q),
     )
 

@@ -2,7 +2,6 @@ pub mod Lengths
 pub mod Classed
 pub mod Rows
 pub mod Arguments
-pub mod Gaps
 pub mod Packets
 pub mod Sums
 pub mod Surveyed

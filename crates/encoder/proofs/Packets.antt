@@ -10,17 +10,17 @@ use Rattle.number.specs.Wrote.{Wrote, Filled}
 use Rattle.number.proofs.Numbers.{length-bytes}
 use Rattle.number.proofs.Parts.{length-lent}
 use Rattle.number.proofs.Writers.{wrote-none, filled-set, filled-length, filled-lent, same-length}
+use Rattle.number.proofs.Gaps.{gap-filled, written-again, written-from}
 use Rattle.types.specs.Forest.{Forest}
 use Rattle.types.specs.Records.{recordSize, kindAt, endAt, aAt, bAt}
 use Rattle.table.specs.Formed.{part}
 use Rattle.table.specs.Tree.{Spans}
-use Rattle.table.proofs.Spanned.{Parts, cut-parts, spans-size}
+use Rattle.table.proofs.Spanned.{spans-size}
 use Rattle.encoder.specs.Osc.{oscString, tagsOf, dataOf, messageOf, bundleOf, elementOf, elementsOf}
 use Rattle.encoder.specs.Writers.{stringLength, tagText, Any, Sound, Room, Fills, packetAt, Ready}
 use Rattle.encoder.proofs.Lengths.{length-string, length-bundle}
 use Rattle.encoder.proofs.Classed.{address-range, message-is, bundle-is, elements-is, elements-none}
-use Rattle.encoder.proofs.Gaps.{gap-filled, written-again, written-from}
-use Rattle.encoder.proofs.Rows.{Going, begun, ended, room-left, next, gone}
+use Rattle.encoder.proofs.Rows.{Going, begun, ended, room-left, next, gone, obeyed}
 
 -- ---- the type tag text
 
@@ -100,9 +100,6 @@ module _ {source t : List ℕ} {at : ℕ} (o : List ℕ) (y : kindAt t at ≡ 47
   address-fits = omega (arith, message-room)
 
   module _ {o₁ : List ℕ} {k : ℕ} (f₁ : Filled (oscString (part source a b)) o o₁ k) where
-    pub address-room : (k ≤ length o₁) × (k ≤ 65535)
-    address-room = (omega (arith, f₁ .count, message-room, filled-length f₁), omega (arith, f₁ .count, message-room))
-
     pub text-asked : Room Any tagText t (at + 1) end (length (midOf k (length o₁ - k) o₁))
     text-asked =
         record {
@@ -177,9 +174,6 @@ module _ {source t : List ℕ} {at : ℕ} (o : List ℕ) (n : kindAt t at ≡ 47
 -- ---- an element of a bundle
 
 module _ {source t : List ℕ} {g : Forest → List ℕ} {lo hi : ℕ} {o₀ o : List ℕ} {at k : ℕ} (w : Going (Sound source) g (elementsOf source) t lo hi o₀ o at k) (h : at < hi) where
-  obeyed : Parts source (w .holds .container) (kindAt t at) (aAt t at) (bAt t at) (next w h .inside) (next w h .rest)
-  obeyed = cut-parts (next w h) source (w .holds .container) (w .holds .obeys)
-
   element-left : elementsOf source (w .rest) ≡ elementOf (packetAt source t at (next w h .inside)) ++ elementsOf source (next w h .rest)
   element-left = ap (elementsOf source) (next w h .is) ∙ elements-is (kindAt t at) (aAt t at) (bAt t at) (next w h .inside) (next w h .rest) source
 
@@ -194,12 +188,12 @@ module _ {source t : List ℕ} {g : Forest → List ℕ} {lo hi : ℕ} {o₀ o :
         room = record {
           forest = next w h .inside;
           spans = next w h .in-spans;
-          holds = record { container = kindAt t at; obeys = obeyed .in-obeys };
+          holds = record { container = kindAt t at; obeys = obeyed w h .in-obeys };
           fits = rw length-lent (omega (arith, element-room));
           few = omega (arith, element-room);
           table = omega (arith, w .table, next w h .within);
         };
-        range = obeyed .range;
+        range = obeyed w h .range;
       }
 
   module _ {p : List ℕ} {n : ℕ} (f : Fills (packetAt source t at) t (at + 1) (endAt t at) (midOf (k + 4) (length o - (k + 4)) o) p n) where
@@ -220,5 +214,5 @@ module _ {source t : List ℕ} {g : Forest → List ℕ} {lo hi : ℕ} {o₀ o :
         let size = gap-filled (w .filled) (omega (arith, element-room, filled-length (w .filled))) (length-bytes 4 _) inside-filled (rw (inside-filled .count) at v) in
         rw e
         (gone w h (elementOf (packetAt source t at (next w h .inside))) element-left
-        (record { container = w .holds .container; obeys = obeyed .rest-obeys })
+        (record { container = w .holds .container; obeys = obeyed w h .rest-obeys })
         size)

@@ -11,9 +11,9 @@ use Rattle.number.proofs.Writers.{wrote-none, filled-length, filled-set, filled
 use Rattle.types.specs.Forest.{Forest, nil}
 use Rattle.types.specs.Records.{recordSize, kindAt, endAt, aAt, bAt}
 use Rattle.table.specs.Tree.{Spans}
-use Rattle.table.proofs.Spanned.{Cut, cut, no-more, spans-unique}
+use Rattle.table.proofs.Spanned.{Cut, Parts, cut, cut-parts, no-more, spans-unique}
 use Rattle.encoder.specs.Osc.{tagsOf}
-use Rattle.encoder.specs.Writers.{Any, Room, Fills}
+use Rattle.encoder.specs.Writers.{Any, Sound, Room, Fills}
 use Rattle.encoder.proofs.Classed.{tags-array, tags-leaf, tags-some}
 
 -- of a row that is P, and of which g is to be written, k bytes stand in the output, and f of the records from `at` on is left
@@ -94,6 +94,11 @@ module _ {P : Forest → Type 0} {g f : Forest → List ℕ} {t : List ℕ} {lo 
   -- the record that is read at `at` ends after it, and in the row
   pub ends : at < hi → {end : ℕ} → end ≡ endAt t at → (at < end) × (end ≤ hi)
   ends h e = rw e (next h .on, next h .within)
+
+-- the first record that is left obeys its rules, and so do what it contains and what is left after it
+pub obeyed : {source t : List ℕ} {g f : Forest → List ℕ} {lo hi : ℕ} {o₀ o : List ℕ} {at k : ℕ} (w : Going (Sound source) g f t lo hi o₀ o at k) (h : at < hi)
+    → Parts source (w .holds .container) (kindAt t at) (aAt t at) (bAt t at) (next w h .inside) (next w h .rest)
+obeyed {source} w h = cut-parts (next w h) source (w .holds .container) (w .holds .obeys)
 
 -- ---- a turn of the tags' loop
 

@@ -1,30 +1,30 @@
 -- What the survey of a table has found, record by record. Assumes nothing.
 use mathlib.Core.Path.{_≡_, refl, sym, ap, _∙_}
-use mathlib.Core.Bool.{Bool, true, false, not, cond, true≢false, false≢true}
+use mathlib.Core.Bool.{true, false, cond, false≢true}
 use mathlib.Core.Logic.{⊎-elim}
-use mathlib.Core.List.{List, [], _∷_}
+use mathlib.Core.List.{List}
 use Prim.Native.Nat.{ℕ, _+_, _-_, _*_, _≤_, _<_}
 use native.Mathlib.Omega.{arith}
 use lib.Dec.{eqb, leb, ltb}
 use lib.ListN.{length, length-append}
-use borrow.Author.Tests.{eqb-true, ltb-true, leb-true, ne-eqb, eq-eqb, not-false}
+use borrow.Author.Tests.{eqb-true, ltb-true, leb-true, ne-eqb}
+use Rattle.number.proofs.Choices.{lt-or-le}
 use Rattle.number.proofs.Numbers.{length-bytes}
 use Rattle.number.proofs.Parts.{length-part}
-use Rattle.types.specs.Forest.{Forest, nil, node, level, depth}
-use Rattle.types.specs.Tags.{sortOf, classOf, among}
-use Rattle.types.specs.Value.{leafRules, argRules, ownRules}
+use Rattle.types.specs.Forest.{Forest, nil, node, depth}
+use Rattle.types.specs.Tags.{sortOf, classOf}
+use Rattle.types.specs.Value.{leafRules, ownRules}
 use Rattle.types.specs.Records.{recordSize, kindAt, zerosAt, endAt, aAt, bAt}
 use Rattle.types.specs.declared.tags.Class.{Class}
-use Rattle.types.specs.declared.tags.Class.the-variants.{Four, Eight, Bare, Text, Blob, Scalar, Unknown}
+use Rattle.types.specs.declared.tags.Class.the-variants.{Text, Blob, Unknown}
 use Rattle.types.specs.declared.tags.Sort.{Sort}
-use Rattle.types.specs.declared.tags.Sort.the-variants.{Opens, Closes, Leaf}
+use Rattle.types.specs.declared.tags.Sort.the-variants.{Opens, Leaf}
 use Rattle.table.specs.Formed.{part, inside, textOk, rangeOk, isPacket, allowed}
-use Rattle.table.specs.Tree.{Spans, Obeys, IsTree}
+use Rattle.table.specs.Tree.{Spans, Obeys}
 use Rattle.table.proofs.Spanned.{Parts, cut, no-more}
-use Rattle.table.proofs.Grown.{lt-or-le}
-use Rattle.encoder.specs.Osc.{oscString, tagsOf, dataOf, messageOf, elementsOf, packetOf}
-use Rattle.encoder.specs.Writers.{stringLength, packetAt}
-use Rattle.encoder.specs.Measure.{tagLength, argumentLength, dataLength}
+use Rattle.encoder.specs.Osc.{oscString, elementsOf}
+use Rattle.encoder.specs.Writers.{stringLength}
+use Rattle.encoder.specs.Measure.{argumentLength}
 use Rattle.encoder.specs.Survey.{placed, leafRange, leafOk, Found, Stands, Argument, Arguments, Message, Element, Elements, Surveyed}
 use Rattle.encoder.proofs.Lengths.{length-string, length-message, length-bundle}
 use Rattle.encoder.proofs.Classed.{then-only, opens-only, tags-none, data-none, elements-is, message-is, bundle-is}
@@ -51,9 +51,9 @@ known-class : (source : List ℕ) (a b : ℕ) (class : Class) → leafOk source 
 known-class source a b class o e = false≢true (rw e at o)
 
 -- so its kind is no packet's
-no-packet : (source : List ℕ) (k a b : ℕ) (class : Class) → sortOf k ≡ Leaf class → leafOk source class a b ≡ true → isPacket k ≡ false
+leaf-no-packet : (source : List ℕ) (k a b : ℕ) (class : Class) → sortOf k ≡ Leaf class → leafOk source class a b ≡ true → isPacket k ≡ false
 unfolding sortOf classOf
-no-packet source k a b class s o =
+leaf-no-packet source k a b class s o =
     ⊎-elim
     (λ q. absurd (known-class source a b class o (let e : Leaf Unknown ≡ Leaf class = rw q at s in cc)))
     (λ n. ⊎-elim (λ q. absurd (known-class source a b class o (let e : Leaf Unknown ≡ Leaf class = rw q at s in cc))) (λ m. rw (ne-eqb k 35 n, ne-eqb k 47 m)) (is-or k 47))
@@ -65,11 +65,11 @@ module _ (source : List ℕ) (k a b : ℕ) (class : Class) (s : sortOf k ≡ Lea
 
   pub leaf-rules : ownRules k a b ≡ true
   unfolding ownRules
-  leaf-rules = rw (no-packet source k a b class s o, s) ruled
+  leaf-rules = rw (leaf-no-packet source k a b class s o, s) ruled
 
   pub leaf-may : allowed 47 k ≡ true
   unfolding allowed
-  leaf-may = rw (no-packet source k a b class s o)
+  leaf-may = rw (leaf-no-packet source k a b class s o)
 
   ranged : leafRange source class a b ≡ true
   ranged = rw ruled at o

@@ -1,9 +1,10 @@
--- What holds of a choice by a test, and of two choices by one test. Assumes nothing.
+-- What holds of a choice by a test, and of two choices by one test; and two numbers compared. Assumes nothing.
 use mathlib.Core.Path.{_≡_, refl}
 use mathlib.Core.Bool.{Bool, true, false, cond}
+use mathlib.Core.Logic.{_⊎_, inl, inr}
 use Prim.Native.Nat.{ℕ, _<_, _≤_}
-use borrow.Author.Tests.{eqb-true, eqb-false, leb-true, leb-false}
-use lib.Dec.{eqb, leb}
+use borrow.Author.Tests.{eqb-true, eqb-false, leb-true, leb-false, ltb-true, ltb-false}
+use lib.Dec.{eqb, leb, ltb}
 
 -- what a test chooses between has a property if both have it, each where it is chosen
 pub by-test : {A : Type 0} (P : A → Type 0) (t : Bool) {x y : A} → (t ≡ true → P x) → (t ≡ false → P y) → P (cond t x y)
@@ -20,3 +21,11 @@ by-le P a b f g = by-test P (leb a b) (λ e. f (leb-true a b e)) (λ e. g (leb-f
 pub by-both : {A B : Type 0} (R : A → B → Type 0) (t : Bool) {x y : A} {x' y' : B} → R x x' → R y y' → R (cond t x y) (cond t x' y')
 by-both R true f g = f
 by-both R false f g = g
+
+-- the first of two numbers is less than the second, or not
+pub lt-or-le : (a b : ℕ) → (a < b) ⊎ (b ≤ a)
+lt-or-le a b = go (ltb a b) refl
+  where
+    go : (x : Bool) → ltb a b ≡ x → (a < b) ⊎ (b ≤ a)
+    go true e = inl (ltb-true a b e)
+    go false e = inr (ltb-false a b e)

@@ -3,4 +3,5 @@ pub mod Numbers
 pub mod Multiples
 pub mod Parts
 pub mod Writers
+pub mod Gaps
 pub mod Only

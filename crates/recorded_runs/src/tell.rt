@@ -1,5 +1,4 @@
 // What is said of the cases, on standard output.
-use crate::replay::Outcome;
 
 // The name of an operation.
 fn name(operation: u8) {

@@ -1,5 +1,4 @@
 // What the programs that run calls and compare share: a slice filled before a call, what stands in it after, and what is said.
-ghost use Prim.Native.Nat.{_≤_};
 ghost use mathlib.Core.Bool.{true};
 ghost use mathlib.Core.Path.{_≡_};
 ghost use lib.ListN.{length};

@@ -1,26 +1,18 @@
 -- From the records' rules to a tree that obeys them, and back. Assumes nothing.
 use mathlib.Core.Path.{_≡_, refl}
-use mathlib.Core.Bool.{Bool, true, false}
-use mathlib.Core.Logic.{_⊎_, inl, inr, ⊎-elim}
+use mathlib.Core.Bool.{true}
+use mathlib.Core.Logic.{⊎-elim}
 use mathlib.Core.List.{List}
 use Prim.Native.Nat.{ℕ, zero, suc, _+_, _-_, _≤_, _<_}
 use native.Mathlib.Nat.{eq-or-lt-of-le}
 use native.Mathlib.Omega.{arith}
-use lib.Dec.{ltb}
-use borrow.Author.Tests.{ltb-true, ltb-false}
+use Rattle.number.proofs.Choices.{lt-or-le}
 use Rattle.types.specs.Forest.{Forest, nil, node}
 use Rattle.types.specs.Records.{kindAt, endAt, aAt, bAt}
 use Rattle.types.specs.Value.{ownRules}
 use Rattle.table.specs.Formed.{rangeOk, allowed, Tiles, done, step, NodeOk, WellFormed}
 use Rattle.table.specs.Tree.{Spans, Obeys, IsTree}
 use Rattle.table.proofs.Spanned.{spans-size}
-
-pub lt-or-le : (a b : ℕ) → (a < b) ⊎ (b ≤ a)
-lt-or-le a b = go (ltb a b) refl
-  where
-    go : (x : Bool) → ltb a b ≡ x → (a < b) ⊎ (b ≤ a)
-    go true e = inl (ltb-true a b e)
-    go false e = inr (ltb-false a b e)
 
 pub tiles-le : {t : List ℕ} {container lo hi : ℕ} → Tiles t container lo hi → lo ≤ hi
 tiles-le done = omega arith

@@ -9,13 +9,13 @@ use native.Mathlib.Omega.{arith}
 use lib.ListN.{length, getD, drop}
 use lib.Seq.{drop-cons, drop-drop, drop-at, getD-drop}
 use Rattle.number.specs.Number.{number, bytes}
+use Rattle.number.proofs.Choices.{lt-or-le}
 use Rattle.number.proofs.Numbers.{length-bytes, read-written, number-bytes}
 use Rattle.types.specs.Forest.{Forest, nil, node, size}
 use Rattle.types.specs.Records.{startOf, recordOf, recordsOf, kindAt, zerosAt, endAt, aAt, bAt}
 use Rattle.types.proofs.Recorded.{length-record, length-records}
 use Rattle.table.specs.Tree.{Spans, FieldsFit}
 use Rattle.table.proofs.Spanned.{spans-size}
-use Rattle.table.proofs.Grown.{lt-or-le}
 
 -- a record before other bytes, field by field
 record-before : (k e a b : ℕ) (more : List ℕ) → recordOf k e a b ++ more ≡ k ∷ 0 ∷ 0 ∷ 0 ∷ (bytes 4 e ++ (bytes 4 a ++ (bytes 4 b ++ more)))

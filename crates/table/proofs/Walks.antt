@@ -1,6 +1,6 @@
 -- The walk along a container's children, and a record's tests: what each shows of the rules. Assumes nothing.
-use mathlib.Core.Path.{_≡_, refl, sym, subst, _∙_}
-use mathlib.Core.Bool.{Bool, true, false, true≢false, false≢true}
+use mathlib.Core.Path.{_≡_, sym, subst, _∙_}
+use mathlib.Core.Bool.{Bool, true, false, true≢false}
 use mathlib.Core.List.{List}
 use Prim.Native.Nat.{ℕ, _+_, _-_, _≤_, _<_}
 use native.Mathlib.Omega.{arith}
@@ -8,24 +8,13 @@ use lib.Dec.{eqb}
 use lib.ListN.{length}
 use borrow.Author.Tests.{eqb-true, eq-eqb, le-leb}
 use Rattle.utf8.specs.Utf8.{Octets, Decides}
+use Rattle.utf8.proofs.Decided.{no}
 use Rattle.utf8.proofs.Grammar.{octets, same-answer}
 use Rattle.types.specs.Records.{recordAt, kindAt, endAt}
 use Rattle.types.specs.Value.{ownRules}
 use Rattle.types.specs.declared.record.Record.{Record}
 use Rattle.table.specs.Formed.{part, textOk, rangeOk, allowed, Tiles, done, step, NodeOk}
 use Rattle.table.proofs.Grown.{tiles-le}
-
--- ---- answers
-
-pub yes : {A : Type 0} → A → Decides true A
-yes a = record { sound = λ e. a; complete = λ x. refl }
-
-pub no : {A : Type 0} → (A → ⊥) → Decides false A
-no n = record { sound = λ e. absurd (false≢true e); complete = λ x. absurd (n x) }
-
--- an answer that is false: the statement does not hold
-pub fails : {r : Bool} {A : Type 0} → Decides r A → r ≡ false → A → ⊥
-fails d e x = true≢false (sym (d .complete x) ∙ e)
 
 -- ---- the children of a container, from lo on
 

@@ -1,13 +1,11 @@
--- The first octet of a character says how many octets it has, and so where the rest of a text begins.
--- Assumes nothing.
-use mathlib.Core.Path.{_≡_, refl, sym, subst, _∙_, ap}
+-- The first octet of a character says how many octets it has, and a text holds its first character whole. Assumes nothing.
+use mathlib.Core.Path.{_≡_, refl, _∙_, ap}
 use mathlib.Core.Bool.{true}
 use mathlib.Core.List.{List, [], _∷_}
 use Prim.Native.Nat.{ℕ, suc, _≤_, _<_}
 use native.Mathlib.Omega.{arith}
 use borrow.Author.Tests.{lt-ltb, le-ltb}
-use lib.ListN.{length, getD, drop, length-append}
-use lib.Seq.{drop-at}
+use lib.ListN.{length, getD, length-append}
 use Rattle.utf8.specs.Utf8.{Range, In, chars, Among, here, there, Fit, end, next, Octets, none, char}
 use Rattle.utf8.specs.Derive.{utf8}
 use Rattle.utf8.specs.Lead.{lead}
@@ -54,18 +52,14 @@ pub char-length : {row : List Range} {c : List ℕ} → Among row chars → Fit 
 char-length m end = absurd (each m)
 char-length m (next {x = x} i f) = ap suc (fit-length f) ∙ each m x i
 
--- a text that is not empty holds its first character whole, and behind it a text
-first-char : {w : List ℕ} → Octets w → 0 < length w → (lead (getD w 0 0) ≤ length w) × Octets (drop (lead (getD w 0 0)) w)
+-- a text that is not empty holds its first character whole
+first-char : {w : List ℕ} → Octets w → 0 < length w → lead (getD w 0 0) ≤ length w
 first-char none h = absurd (omega arith)
 first-char (char m end o) h = absurd (each m)
 first-char (char {c = x ∷ c} {s = s} m (next i f) o) h =
     let e : length (x ∷ c) ≡ lead x = char-length m (next i f) in
-    (omega (arith, length-append (x ∷ c) s), subst Octets (sym (drop-at (x ∷ c) s (lead x) e)) o)
+    omega (arith, length-append (x ∷ c) s)
 
 -- the first character of a text lies within it
 pub lead-within : (w : List ℕ) → utf8 w ≡ true → 0 < length w → lead (getD w 0 0) ≤ length w
-lead-within w e h = first-char (octets w .sound e) h .0
-
--- what is left of a text without its first character is a text
-pub rest-is-utf8 : (w : List ℕ) → utf8 w ≡ true → 0 < length w → utf8 (drop (lead (getD w 0 0)) w) ≡ true
-rest-is-utf8 w e h = octets (drop (lead (getD w 0 0)) w) .complete (first-char (octets w .sound e) h .1)
+lead-within w e h = first-char (octets w .sound e) h
