@@ -1,10 +1,11 @@
 -- The scans of the first reading, which build no tree. They say what the code does, not what is right: proofs/Counts.antt shows
 -- that they answer as `argsOf` does. Assumes nothing.
+use mathlib.Core.Bool.{Bool, false, _||_}
 use mathlib.Core.List.{List, [], _∷_}
 use Prim.Native.Nat.{ℕ, zero, suc, _+_}
 use lib.ListN.{drop}
 use Rattle.refusal.specs.declared.Fault.the-variants.{NotOpen}
-use Rattle.types.specs.Tags.{sortOf}
+use Rattle.types.specs.Tags.{among, sortOf}
 use Rattle.types.specs.declared.tags.Sort.{Sort}
 use Rattle.types.specs.declared.tags.Sort.the-variants.{Opens, Closes, Leaf}
 use Rattle.arguments.specs.Argument.{argOf}
@@ -66,3 +67,12 @@ back (tag ∷ tags) = before (sortOf tag) (back tags)
 abbrev pub AllClosed : Back → Type 0
 AllClosed (Whole n c) = Unit {0}
 AllClosed (Cut n c) = ⊥
+
+-- a tag that opens or closes an array
+abbrev pub bracket : ℕ → Bool
+bracket tag = among tag (91 ∷ 93 ∷ [])
+
+-- one of the tags is a bracket
+abbrev pub brackets : List ℕ → Bool
+brackets [] = false
+brackets (tag ∷ tags) = bracket tag || brackets tags

@@ -9,7 +9,7 @@ ghost use mathlib.Core.Path.{_≡_};
 ghost use Prim.Native.Nat.{ℕ, _+_, _≤_};
 ghost use lib.ListN.{length};
 ghost use Rattle.arguments.specs.Argument.{having, argOf};
-ghost use Rattle.arguments.specs.Scans.{usedOf, scan, back};
+ghost use Rattle.arguments.specs.Scans.{usedOf, scan, back, bracket, brackets};
 
 // How many bytes of data tags take, or the fault.
 pub enum Scanned {
@@ -83,8 +83,33 @@ pub fn scan_args(tags: &[u8], input: &[u8], pos: usize) -> Scanned
     Scanned::Used(at - pos)
 }
 
+// Whether a tag opens or closes an array.
+fn is_bracket(tag: u8) -> bool
+    ensures { λ r. ⌜ r ≡ bracket tag ⌝ }
+{
+    match tag {
+        b'[' | b']' => true,
+        _ => false,
+    }
+}
+
+// Whether one of the tags is a bracket. With no early exit, a compiled step takes many of them.
+fn any_bracket(tags: &[u8]) -> bool
+    ensures { λ r. ⌜ r ≡ brackets (now (tags .entry)) ⌝ }
+{
+    let mut any = false;
+    let mut i = 0;
+    while i < tags.len() {
+        if is_bracket(tags[i]) {
+            any = true;
+        }
+        i += 1;
+    }
+    any
+}
+
 // Backward, tags only: where the last '[' stands that is never closed, and how many records follow.
-pub fn look_back(tags: &[u8]) -> Back
+fn walk_back(tags: &[u8]) -> Back
     ensures { λ r. ⌜ r ≡ back (now (tags .entry)) ⌝ }
 {
     let mut at = tags.len();
@@ -106,4 +131,17 @@ pub fn look_back(tags: &[u8]) -> Back
         }
     }
     Back::Whole { closed, count }
+}
+
+// The same. Where no tag is a bracket, each one is a record, and none is looked at by itself.
+pub fn look_back(tags: &[u8]) -> Back
+    ensures { λ r. ⌜ r ≡ back (now (tags .entry)) ⌝ }
+{
+    if any_bracket(tags) {
+        return walk_back(tags);
+    }
+    Back::Whole {
+        closed: 0,
+        count: tags.len(),
+    }
 }
