@@ -197,7 +197,13 @@ chmod 555 locked
 cp "$root/target/bin/osc_tool" "$examples/message.osc" .
 drop=
 [ "$(id -u)" -ne 0 ] || drop='setpriv --reuid=65534 --regid=65534 --clear-groups'
-said=$($drop ./osc_tool decode udp message.osc locked/table.bin 2>&1)
+# The script's folder may be closed to nobody, so the program is run without it: on another processor than x86-64, as the script runs it.
+by=
+if [ "$(uname -m)" != x86_64 ]; then
+    kit=$(cd "$(dirname "$(readlink -f "$(command -v rt)")")/.." && pwd -P)
+    by="$kit/on/$(uname -m)/toolchain/bin/qemu-x86_64 $kit/toolchain/lib/ld-linux-x86-64.so.2 --library-path $kit/toolchain/lib"
+fi
+said=$($drop $by ./osc_tool decode udp message.osc locked/table.bin 2>&1)
 [ "$said" = 'locked/table.bin: Permission denied' ]
 count $? "in a locked folder: said '$said'"
 gone locked/table.bin

@@ -8,6 +8,10 @@ fn main() {
     for watched in ["crates.txt", "crates"] {
         println!("cargo:rerun-if-changed={}", root.join(watched).display());
     }
+    let arch = std::env::var("CARGO_CFG_TARGET_ARCH").expect("cargo sets CARGO_CFG_TARGET_ARCH");
+    if arch != "x86_64" {
+        println!("cargo:warning=the Rattle kit makes libosc.a for x86-64 only: a link for {arch} will fail");
+    }
     let status = Command::new("rt").args(["staticlib", "osc"]).current_dir(&root).status();
     match status {
         Ok(status) if status.success() => {}
