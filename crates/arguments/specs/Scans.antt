@@ -68,11 +68,11 @@ abbrev pub AllClosed : Back → Type 0
 AllClosed (Whole n c) = Unit {0}
 AllClosed (Cut n c) = ⊥
 
--- a tag that opens or closes an array
+-- a tag that opens or closes an array (rule 3)
 abbrev pub bracket : ℕ → Bool
 bracket tag = among tag (91 ∷ 93 ∷ [])
 
--- one of the tags is a bracket
+-- one of the tags is a bracket: where none is, every tag is kept
 abbrev pub brackets : List ℕ → Bool
 brackets [] = false
 brackets (tag ∷ tags) = bracket tag || brackets tags

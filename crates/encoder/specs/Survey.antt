@@ -1,4 +1,5 @@
--- What one reading of a table finds, where it is sure: the tree of the records, that it obeys the rules, and how long it is. Assumes nothing.
+-- What one reading of a table finds, where it is sure: document 01, "The node table", "Refusal numbers" (9) and "How bytes are
+-- written". The words are those of Formed.antt and Tree.antt of `table`, and of Osc.antt here. Assumes nothing.
 use mathlib.Core.Path.{_≡_}
 use mathlib.Core.Bool.{Bool, true, false, cond}
 use mathlib.Core.List.{List}
@@ -17,7 +18,7 @@ use Rattle.encoder.specs.Osc.{tagsOf, dataOf, messageOf, elementsOf}
 use Rattle.encoder.specs.Writers.{packetAt}
 use Rattle.encoder.specs.Measure.{tagLength, dataLength}
 
--- record `at` has its three zeros, and ends after itself and no later than hi
+-- record `at` has its three zeros, and ends after itself and no later than hi ("The node table")
 abbrev pub placed : List ℕ → ℕ → ℕ → Bool
 placed t at hi = cond (eqb (zerosAt t at) 0) (cond (ltb at (endAt t at)) (leb (endAt t at) hi) false) false
 
@@ -31,24 +32,24 @@ leafRange source Blob a b = inside source a b
 leafRange source Scalar a b = true
 leafRange source Unknown a b = true
 
--- an argument that is no array obeys its own rules and its range's
+-- an argument that is no array obeys its own rules and its range's ("The node table", the rules for a well-formed table)
 abbrev pub leafOk : List ℕ → Class → ℕ → ℕ → Bool
 leafOk source class a b = cond (leafRules class a b) (leafRange source class a b) false
 
--- the records lo to hi - 1 are a forest that obeys the rules of a container, and have their zeros
+-- the records lo to hi - 1 are a forest that obeys the rules of a container, and have their zeros ("The node table")
 pub record Found (t source : List ℕ) (container lo hi : ℕ) (F : Forest) : Type 0 where
   pub spans : Spans t lo hi F
   pub obeys : Obeys source container F
   pub zeros : (i : ℕ) → lo ≤ i → i < hi → zerosAt t i ≡ 0
 
--- record `at` and what it contains may stand in a container
+-- record `at` and what it contains may stand in a container: what `Obeys` says of a forest's first node
 pub record Stands (t source : List ℕ) (container at : ℕ) (inside : Forest) : Type 0 where
   pub rules : ownRules (kindAt t at) (aAt t at) (bAt t at) ≡ true
   pub range : rangeOk source (kindAt t at) (aAt t at) (bAt t at) ≡ true
   pub may : allowed container (kindAt t at) ≡ true
   pub found : Found t source (kindAt t at) (at + 1) (endAt t at) inside
 
--- record `at` is an argument, with so many tags and so many bytes of data in it
+-- record `at` is an argument, with so many tags and so many bytes of data in it ("How bytes are written": arrays have brackets)
 pub record Argument (t source : List ℕ) (at tags content : ℕ) : Type 0 where
   pub inside : Forest
   pub stands : Stands t source 47 at inside
@@ -62,14 +63,14 @@ pub record Arguments (t source : List ℕ) (lo hi tags content : ℕ) : Type 0 w
   pub tagged : length (tagsOf forest) ≡ tags
   pub sized : length (dataOf source forest) ≡ content
 
--- record `at` is a message's, whose bytes are n
+-- record `at` is a message's, which is n bytes long as it is written
 pub record Message (t source : List ℕ) (at n : ℕ) : Type 0 where
   pub forest : Forest
   pub found : Found t source 47 (at + 1) (endAt t at) forest
   pub range : textOk source (aAt t at) (bAt t at) ≡ true
   pub sized : length (messageOf source (aAt t at) (bAt t at) forest) ≡ n
 
--- record `at` is a packet, whose bundles are nested no deeper than `levels`, and n bytes long as an element
+-- record `at` is a packet, whose bundles are nested no deeper than `levels`, and n bytes long as an element, its size counted
 pub record Element (t source : List ℕ) (at levels n : ℕ) : Type 0 where
   pub inside : Forest
   pub stands : Stands t source 35 at inside
@@ -83,7 +84,7 @@ pub record Elements (t source : List ℕ) (lo hi levels n : ℕ) : Type 0 where
   pub shallow : depth forest ≤ levels
   pub sized : length (elementsOf source forest) ≡ n
 
--- the table has a tree, which is not too deep, and n bytes long as an element
+-- the table has a tree, which is not too deep (refusal 9), and n bytes long as an element, its size counted
 pub record Surveyed (t : List ℕ) (count : ℕ) (source : List ℕ) (n : ℕ) : Type 0 where
   pub inside : Forest
   pub tree : IsTree t count source (kindAt t 0) (aAt t 0) (bAt t 0) inside
