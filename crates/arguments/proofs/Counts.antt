@@ -1,5 +1,4 @@
 -- The scans answer as `argsOf` does: the bytes used and the fault from the forward scan, the count of records from the backward one.
--- Assumes nothing.
 use mathlib.Core.Path.{_≡_, refl, ap, sym, _∙_, subst}
 use Prim.Native.Nat.{ℕ, zero, suc, _+_, _*_, _≤_}
 use mathlib.Core.List.{List, [], _∷_}
@@ -44,8 +43,10 @@ outcome-taken go goS tag l p frame (arg.Given a b used) h =
     let f = snoc frame tag a b nil in
     outcome-later used (go (drop used l) (p + used) f) ∙ ap (more used) (h (drop used l) (p + used) f)
 
-outcome-act : (s : Sort) (go : List ℕ → ℕ → Forest → List Forest → Args) (goS : List ℕ → ℕ → ℕ → Scanned) (base tag : ℕ) (l : List ℕ) (p : ℕ)
-    (frame : Forest) (below : List Forest) → ((m : List ℕ) (q : ℕ) (f : Forest) (b : List Forest) → outcome (go m q f b) ≡ goS m q (length b))
+outcome-act : (s : Sort) (go : List ℕ → ℕ → Forest → List Forest → Args) (goS : List ℕ → ℕ → ℕ → Scanned) (base tag : ℕ) (l : List ℕ)
+    (p : ℕ)
+    (frame : Forest) (below : List Forest)
+    → ((m : List ℕ) (q : ℕ) (f : Forest) (b : List Forest) → outcome (go m q f b) ≡ goS m q (length b))
     → outcome (act s go base tag l p frame below) ≡ turn s goS l p (length below)
 outcome-act Opens go goS base tag l p frame below h = h l p nil (frame ∷ below)
 outcome-act Closes go goS base tag l p frame [] h = refl
@@ -97,12 +98,14 @@ unfolding size
 total-leaf class (Cut n c) f b j x y = refl
 total-leaf class (Whole n c) f b j x y = omega (arith, size-snoc f j x y nil)
 
-counts-act : (s : Sort) (k : Back) (go : List ℕ → ℕ → Forest → List Forest → Args) (base tag : ℕ) (l : List ℕ) (p : ℕ) (frame : Forest) (below : List Forest)
+counts-act : (s : Sort) (k : Back) (go : List ℕ → ℕ → Forest → List Forest → Args) (base tag : ℕ) (l : List ℕ) (p : ℕ) (frame : Forest)
+    (below : List Forest)
     → ((m : List ℕ) (q : ℕ) (f : Forest) (b : List Forest) → Counts (total k f b) (go m q f b))
     → Counts (total (before s k) frame below) (act s go base tag l p frame below)
 counts-act Opens k go base tag l p frame below h = rw (total-opens k frame below) at (h l p nil (frame ∷ below))
 counts-act Closes k go base tag l p frame [] h = tt
-counts-act Closes k go base tag l p frame (outer ∷ below) h = rw (total-closes k frame outer below) at (h l p (snoc outer 91 0 0 frame) below)
+counts-act Closes k go base tag l p frame (outer ∷ below) h =
+    rw (total-closes k frame outer below) at (h l p (snoc outer 91 0 0 frame) below)
 counts-act (Leaf class) k go base tag l p frame below h = by-arg (argOf class base l p)
   where
     by-arg : (x : Arg) → Counts (total (before (Leaf class) k) frame below) (taken (λ m q f. go m q f below) tag l p frame x)
@@ -145,7 +148,8 @@ measured-refused {fault} base ts l p e = by-out (argsOf base ts l p) (e ∙ sym 
 pub measured-kept : {used : ℕ} (base : ℕ) (ts l : List ℕ) (p : ℕ) (k : Back) → Used used ≡ scan ts l p 0 → k ≡ back ts
     → measure.Kept (counted k) used ≡ measured (argsOf base ts l p)
 unfolding measured
-measured-kept {used} base ts l p k e b = by-out (argsOf base ts l p) (e ∙ sym (scan-law base ts l p nil [])) (rw (← b) at (args-counted base ts l p))
+measured-kept {used} base ts l p k e b =
+    by-out (argsOf base ts l p) (e ∙ sym (scan-law base ts l p nil [])) (rw (← b) at (args-counted base ts l p))
   where
     by-out : (o : Args) → Used used ≡ outcome o → Counts (counted k) o → measure.Kept (counted k) used ≡ measured o
     by-out (refused fault) s w = let z : _≡_ {A = ℕ} 0 1 = cc in absurd (omega arith)
@@ -183,7 +187,8 @@ used-later : (n : ℕ) (l : List ℕ) (o : Args) → n ≤ length l → UsedIn (
 used-later n l (refused fault) h w = tt
 used-later n l (args kept used) h w = omega (arith, length-drop n l)
 
-used-act : (s : Sort) (go : List ℕ → ℕ → Forest → List Forest → Args) (base tag : ℕ) (l : List ℕ) (p : ℕ) (frame : Forest) (below : List Forest)
+used-act : (s : Sort) (go : List ℕ → ℕ → Forest → List Forest → Args) (base tag : ℕ) (l : List ℕ) (p : ℕ) (frame : Forest)
+    (below : List Forest)
     → ((m : List ℕ) (q : ℕ) (f : Forest) (b : List Forest) → UsedIn (length m) (go m q f b))
     → UsedIn (length l) (act s go base tag l p frame below)
 used-act Opens go base tag l p frame below h = h l p nil (frame ∷ below)

@@ -1,5 +1,5 @@
 -- The second reading, turn by turn: the table holds the frames one after another, and between two of them the record of the open
--- array with its link. One argument's reading counts only by the bytes it uses. Assumes nothing.
+-- array with its link. One argument's reading counts only by the bytes it uses.
 use mathlib.Core.Path.{_≡_, refl, ap, sym, _∙_}
 use Prim.Native.Nat.{ℕ, zero, suc, _+_, _-_, _*_, _^_, _<_, _≤_}
 use mathlib.Core.List.{List, [], _∷_, _++_}
@@ -28,7 +28,8 @@ use Rattle.arguments.specs.declared.scan.Back.the-variants.{Whole, Cut}
 use Rattle.arguments.proofs.Within.{given-within}
 use Rattle.arguments.proofs.Counts.{Counts, counted, args-counted}
 use Rattle.arguments.proofs.Kept.{clash, Deep, deep-law}
-use Rattle.arguments.proofs.Frames.{held, link, layout, length-layout, layout-leaf, layout-open, front, behind, length-front, while-open, once-closed, link-there}
+use Rattle.arguments.proofs.Frames.{held, link, layout, length-layout, layout-leaf, layout-open, front, behind, length-front}
+use Rattle.arguments.proofs.Frames.{while-open, once-closed, link-there}
 
 -- the tags ts and the data m at q are left, which ends at E; n records of F are written to the table T that was T₀, the first with
 -- index i: those of a frame and of the frames that wait below it. The link to the open array is `top`
@@ -117,7 +118,8 @@ later-args u (args kept w) e = record { used = w; is = cc }
 
 -- ---- one turn
 
-module _ {base : ℕ} {F : Forest} {i E : ℕ} {T₀ T ts m : List ℕ} {q n top : ℕ} (w : Filling base F i E T₀ T ts m q n top) (h : 0 < length ts) where
+module _ {base : ℕ} {F : Forest} {i E : ℕ} {T₀ T ts m : List ℕ} {q n top : ℕ} (w : Filling base F i E T₀ T ts m q n top)
+    (h : 0 < length ts) where
   -- what the first tag does
   turned : {s : Sort} → s ≡ sortOf (getD ts 0 0)
       → act s (λ m q f b. readArgs base (drop 1 ts) m q f b) base (getD ts 0 0) m q (w .frame) (w .below) ≡ args F (w .used)
@@ -125,7 +127,8 @@ module _ {base : ℕ} {F : Forest} {i E : ℕ} {T₀ T ts m : List ℕ} {q n top
   turned {s} e = rw e (by-list ts h (w .reads))
     where
       by-list : (ts : List ℕ) → 0 < length ts → readArgs base ts m q (w .frame) (w .below) ≡ args F (w .used)
-          → act (sortOf (getD ts 0 0)) (λ m q f b. readArgs base (drop 1 ts) m q f b) base (getD ts 0 0) m q (w .frame) (w .below) ≡ args F (w .used)
+          → act (sortOf (getD ts 0 0)) (λ m q f b. readArgs base (drop 1 ts) m q f b) base (getD ts 0 0) m q (w .frame) (w .below) ≡ args
+          F (w .used)
       by-list [] h r = absurd (omega arith)
       by-list (t ∷ ts) h r = r
 

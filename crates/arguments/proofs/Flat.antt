@@ -1,4 +1,4 @@
--- Tags of which none is a bracket: each is one record. Assumes nothing.
+-- Tags of which none is a bracket: each is one record.
 use mathlib.Core.Path.{_≡_, refl, sym, ap, _∙_}
 use mathlib.Core.Bool.{Bool, true, false, _||_, true≢false}
 use mathlib.Core.List.{List, [], _∷_}

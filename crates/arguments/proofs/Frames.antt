@@ -1,5 +1,4 @@
 -- The table while arrays are open: an open array's record holds, in place of its end, the link to the open array below it.
--- Assumes nothing.
 use mathlib.Core.Path.{_≡_, ap, _∙_}
 use Prim.Native.Nat.{ℕ, _+_, _*_, _^_, _<_}
 use mathlib.Core.List.{List, [], _∷_, _++_, append-assoc, append-nil}
@@ -92,7 +91,8 @@ unfolding endAt
 link-there i frame f below {o₀} {o} w h =
     let D = drop (length (layout i frame (f ∷ below))) o₀ in
     let more = behind i frame f below ++ D in
-    let eo : o ≡ front i f below ++ (bytes 4 (link below) ++ more) = w .left ∙ ap (λ (l : List ℕ). l ++ D) (while-open i frame f below) ∙ simp append-assoc in
+    let eo : o ≡ front i f below ++ (bytes 4 (link below) ++ more) = w .left ∙ ap (λ (l : List ℕ). l ++ D) (while-open i frame f below)
+    ∙ simp append-assoc in
     ap (λ (l : List ℕ). number 4 (drop (recordSize * held f below + 4) l)) eo
     ∙ ap (number 4) (drop-at (front i f below) (bytes 4 (link below) ++ more) (recordSize * held f below + 4) (length-front i f below))
     ∙ read-written 4 (link below) more h

@@ -1,5 +1,5 @@
 -- Which tags are kept: an array that is never closed is the last frame, and no later tag reaches below it. So reading from the last
--- such '[' on, after the data before it, keeps the same. Assumes nothing.
+-- such '[' on, after the data before it, keeps the same.
 use mathlib.Core.Path.{_≡_, refl, ap, sym, _∙_, subst}
 use Prim.Native.Nat.{ℕ, zero, suc, _+_, _-_, _≤_}
 use mathlib.Core.List.{List, [], _∷_, _++_}
@@ -49,7 +49,8 @@ abbrev pub Deep : Back → ℕ → Type 0
 Deep (Whole n c) m = n ≤ m
 Deep (Cut n c) m = Unit {0}
 
-deep-act : (s : Sort) (k : Back) (go : List ℕ → ℕ → Forest → List Forest → Args) (base tag : ℕ) (l : List ℕ) (p : ℕ) (frame : Forest) (below : List Forest)
+deep-act : (s : Sort) (k : Back) (go : List ℕ → ℕ → Forest → List Forest → Args) (base tag : ℕ) (l : List ℕ) (p : ℕ) (frame : Forest)
+    (below : List Forest)
     → ((m : List ℕ) (q : ℕ) (f : Forest) (b : List Forest) → Accepted (go m q f b) → Deep k (length b))
     → Accepted (act s go base tag l p frame below) → Deep (before s k) (length below)
 deep-act Opens (Cut n c) go base tag l p frame below h w = tt
@@ -80,7 +81,8 @@ abbrev Closed : Back → ℕ → Type 0
 Closed (Whole n c) m = n ≤ m
 Closed (Cut n c) m = ⊥
 
-under-act : (s : Sort) (k : Back) (go : List ℕ → ℕ → Forest → List Forest → Args) (base tag : ℕ) (l : List ℕ) (p : ℕ) (frame : Forest) (A B : List Forest)
+under-act : (s : Sort) (k : Back) (go : List ℕ → ℕ → Forest → List Forest → Args) (base tag : ℕ) (l : List ℕ) (p : ℕ) (frame : Forest)
+    (A B : List Forest)
     → ((m : List ℕ) (q : ℕ) (f : Forest) (A : List Forest) → Closed k (length A) → go m q f (A ++ B) ≡ go m q f A)
     → Closed (before s k) (length A)
     → act s go base tag l p frame (A ++ B) ≡ act s go base tag l p frame A
@@ -129,20 +131,24 @@ keeps-later base u s o ts l p h w =
     }
 
 abbrev Cuts : ℕ → List ℕ → Type 0
-Cuts base ts = (l : List ℕ) (p : ℕ) (frame : Forest) (below : List Forest) (n c : ℕ) → back ts ≡ Cut n c → Accepted (readArgs base ts l p frame below)
+Cuts base ts =
+    (l : List ℕ) (p : ℕ) (frame : Forest) (below : List Forest) (n c : ℕ) → back ts ≡ Cut n c
+    → Accepted (readArgs base ts l p frame below)
     → Keeps base (scan (take n ts) l p (length below)) (readArgs base ts l p frame below) (drop n ts) l p
 
 cut-act : (s : Sort) (k : Back) (base tag : ℕ) (ts l : List ℕ) (p : ℕ) (frame : Forest) (below : List Forest) (n c : ℕ)
     → Cuts base ts → back ts ≡ k
     → before s k ≡ Cut (suc n) c → Accepted (act s (λ m q f b. readArgs base ts m q f b) base tag l p frame below)
-    → Keeps base (turn s (λ m q i. scan (take n ts) m q i) l p (length below)) (act s (λ m q f b. readArgs base ts m q f b) base tag l p frame below) (drop n ts) l p
+    → Keeps base (turn s (λ m q i. scan (take n ts) m q i) l p (length below))
+    (act s (λ m q f b. readArgs base ts m q f b) base tag l p frame below) (drop n ts) l p
 unfolding scan
 cut-act Opens (Cut m d) base tag ts l p frame below n c h e x w = h l p nil (frame ∷ below) n c (let z : m ≡ n = cc in e ∙ cc) w
 cut-act Opens (Whole zero d) base tag ts l p frame below n c h e x w =
     let z : n ≡ 0 = (let y : suc n ≡ 1 = cc in omega arith) in
     let q : p + 0 ≡ p = omega arith in
     let shut : Closed (back ts) 0 = subst (λ (k : Back). Closed k 0) (sym e) (omega arith) in
-    subst (λ (n : ℕ). Keeps base (scan (take n ts) l p (suc (length below))) (readArgs base ts l p nil (frame ∷ below)) (drop n ts) l p) (sym z)
+    subst (λ (n : ℕ). Keeps base (scan (take n ts) l p (suc (length below))) (readArgs base ts l p nil (frame ∷ below)) (drop n ts) l p)
+    (sym z)
     (record {
       lost = 0;
       inside = omega arith;
@@ -155,10 +161,12 @@ cut-act Closes (Whole m d) base tag ts l p frame below n c h e x w = absurd (cla
 cut-act Closes (Cut m d) base tag ts l p frame [] n c h e x w = absurd w
 cut-act Closes (Cut m d) base tag ts l p frame (f ∷ b) n c h e x w = h l p (snoc f 91 0 0 frame) b n c (let z : m ≡ n = cc in e ∙ cc) w
 cut-act (Leaf class) (Whole m d) base tag ts l p frame below n c h e x w = absurd (clash x)
-cut-act (Leaf class) (Cut m d) base tag ts l p frame below n c h e x w = rw (any-base class 0 base l p) (by-arg (argOf class base l p) refl w)
+cut-act (Leaf class) (Cut m d) base tag ts l p frame below n c h e x w =
+    rw (any-base class 0 base l p) (by-arg (argOf class base l p) refl w)
   where
     by-arg : (y : Arg) → y ≡ argOf class base l p → Accepted (taken (λ m q f. readArgs base ts m q f below) tag l p frame y)
-        → Keeps base (passed (λ m q. scan (take n ts) m q (length below)) l p (usedOf y)) (taken (λ m q f. readArgs base ts m q f below) tag l p frame y) (drop n ts) l p
+        → Keeps base (passed (λ m q. scan (take n ts) m q (length below)) l p (usedOf y))
+        (taken (λ m q f. readArgs base ts m q f below) tag l p frame y) (drop n ts) l p
     by-arg (arg.Refused fault) r v = absurd v
     by-arg (arg.Given a b used) r v =
         let f = snoc frame tag a b nil in
@@ -184,7 +192,8 @@ cut-few (t ∷ ts) n c e = first-le (sortOf t) (back ts) n c e (length ts) (λ j
 cut-law : (base : ℕ) (ts : List ℕ) → Cuts base ts
 unfolding readArgs back scan
 cut-law base [] l p frame below n c e w = absurd (clash e)
-cut-law base (t ∷ ts) l p frame below zero c e w = absurd (omega (arith, first-le (sortOf t) (back ts) 0 c e (length ts) (λ j d x. cut-few ts j d x)))
+cut-law base (t ∷ ts) l p frame below zero c e w =
+    absurd (omega (arith, first-le (sortOf t) (back ts) 0 c e (length ts) (λ j d x. cut-few ts j d x)))
 cut-law base (t ∷ ts) l p frame below (suc n) c e w = cut-act (sortOf t) (back ts) base t ts l p frame below n c (cut-law base ts) refl e w
 
 -- ---- as the second reading cites it

@@ -1,4 +1,4 @@
--- No second outcome satisfies the contract of a public function of this crate. Assumes nothing.
+-- No second outcome satisfies the contract of a public function of this crate.
 use mathlib.Core.Path.{_≡_}
 use mathlib.Core.List.{List}
 use Prim.Native.Nat.{ℕ}

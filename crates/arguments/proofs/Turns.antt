@@ -1,4 +1,4 @@
--- Each turn of the two scans: what one tag does. Assumes nothing.
+-- Each turn of the two scans: what one tag does.
 use mathlib.Core.Path.{_≡_, refl, ap, sym, _∙_, subst}
 use Prim.Native.Nat.{ℕ, zero, suc, _+_, _-_, _<_, _≤_}
 use mathlib.Core.List.{List, [], _∷_}
@@ -100,7 +100,8 @@ module _ {tags l : List ℕ} {pos : ℕ} {ts m : List ℕ} {at n : ℕ} (w : Sca
       rw (tail ts 1, tail m used)
       (record {
         whole =
-            w .whole ∙ ap (more (at - pos)) (scan-given ts m at n h e g) ∙ more-more (at - pos) used (scan (drop 1 ts) (drop used m) (at + used) n) ∙ rw sum;
+            w .whole ∙ ap (more (at - pos)) (scan-given ts m at n h e g)
+            ∙ more-more (at - pos) used (scan (drop 1 ts) (drop used m) (at + used) n) ∙ rw sum;
         ends = omega (arith, length-drop used m, w .ends);
         past = omega (arith, w .past);
         few = omega (arith, length-drop 1 ts, w .few);

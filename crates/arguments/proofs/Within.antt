@@ -1,5 +1,5 @@
 -- What is known of one argument's reading whatever its class: it lies in its part, its fields fit a record, and the offset base
--- changes neither how far it reads nor its fault. Assumes nothing.
+-- changes neither how far it reads nor its fault.
 use mathlib.Core.Path.{_≡_, refl, sym, subst}
 use mathlib.Core.Bool.{Bool, true, false, cond}
 use mathlib.Core.List.{List}

@@ -1,4 +1,4 @@
--- One argument's data by its tag: document 01, "How bytes are read", rule 4, and "The node table". Assumes nothing.
+-- One argument's data by its tag: document 01, "How bytes are read", rule 4, and "The node table".
 -- A rule reads at the front of l, which stands at position p of its frame; `base` is added to a position to give an offset.
 use mathlib.Core.Bool.{cond}
 use mathlib.Core.List.{List}

@@ -1,4 +1,4 @@
--- The arguments of a message by its tags: document 01, "How bytes are read", rules 2 and 3. Assumes nothing.
+-- The arguments of a message by its tags: document 01, "How bytes are read", rules 2 and 3.
 -- rosc's loop word for word: a frame that is filled, and the frames that wait below it.
 use mathlib.Core.List.{List, [], _∷_}
 use Prim.Native.Nat.{ℕ, _+_}

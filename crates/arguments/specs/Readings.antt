@@ -1,4 +1,4 @@
--- What the two readings of a message's arguments answer and leave, from what `argsOf` says. Assumes nothing.
+-- What the two readings of a message's arguments answer and leave, from what `argsOf` says.
 use Prim.Native.Nat.{ℕ, _+_, _*_, _≤_}
 use mathlib.Core.List.{List}
 use lib.ListN.{length}

@@ -1,5 +1,5 @@
 -- The scans of the first reading, which build no tree. They say what the code does, not what is right: proofs/Counts.antt shows
--- that they answer as `argsOf` does. Assumes nothing.
+-- that they answer as `argsOf` does.
 use mathlib.Core.Bool.{Bool, false, _||_}
 use mathlib.Core.List.{List, [], _∷_}
 use Prim.Native.Nat.{ℕ, zero, suc, _+_}

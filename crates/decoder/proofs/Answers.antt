@@ -1,4 +1,4 @@
--- What the decoders answer, from what the first reading gave, and that an answer of packets leaves room for their records. Assumes nothing.
+-- What the decoders answer, from what the first reading gave, and that an answer of packets leaves room for their records.
 use mathlib.Core.Path.{_≡_, refl, ap, sym, _∙_, subst}
 use mathlib.Core.List.{List}
 use Prim.Native.Nat.{ℕ, _+_, _-_, _/_, _<_, _≤_}
@@ -47,7 +47,8 @@ module _ (rule : List ℕ → Whole) (capacity limit : ℕ) (msg : List ℕ) whe
   pub decoded-is : {r : Total} {x : Decoded} → limit ≤ 64 → length msg ≤ 65535 → x ≡ answered capacity r
       → r ≡ totalOf limit (rule msg) → x ≡ decoded rule capacity limit msg
   unfolding decoded
-  decoded-is h g a e = a ∙ ap (answered capacity) e ∙ sym (limited-is capacity limit (rule msg)) ∙ rw (decoded, le-leb limit 64 h, le-leb (length msg) 65535 g)
+  decoded-is h g a e = a ∙ ap (answered capacity) e ∙ sym (limited-is capacity limit (rule msg))
+      ∙ rw (decoded, le-leb limit 64 h, le-leb (length msg) 65535 g)
 
 -- ---- the first reading of one packet, and of one frame
 
@@ -69,7 +70,8 @@ total-single : (n limit : ℕ) (o : Out) → ofExtent n (extent limit 0 o) ≡ t
 unfolding extent
 total-single n limit (fault k) = refl
 total-single n limit (one k a b f u) =
-    rw (one-tree k a b f, one-size k a b f, zero-add u) (by-both (λ (x : Extent) (y : Total). ofExtent n x ≡ y) (leb (level k (depth f)) limit) refl refl)
+    rw (one-tree k a b f, one-size k a b f, zero-add u)
+    (by-both (λ (x : Extent) (y : Total). ofExtent n x ≡ y) (leb (level k (depth f)) limit) refl refl)
 
 pub udp-total : {r : Extent} (limit : ℕ) (msg : List ℕ) → r ≡ extent limit 0 (packet 0 msg 0)
     → ofExtent (length msg) r ≡ totalOf limit (udp msg)
@@ -86,7 +88,8 @@ total-first : (n limit : ℕ) (x : Frame) → ofFrame n (frameExtent limit x) �
 total-first n limit wait = refl
 total-first n limit (stop k) = refl
 total-first n limit (tree k a b f u) =
-    rw (one-tree k a b f, one-size k a b f) (by-both (λ (x : FrameExtent) (y : Total). ofFrame n x ≡ y) (leb (level k (depth f)) limit) refl refl)
+    rw (one-tree k a b f, one-size k a b f)
+    (by-both (λ (x : FrameExtent) (y : Total). ofFrame n x ≡ y) (leb (level k (depth f)) limit) refl refl)
 
 pub tcp-total : {r : FrameExtent} (limit : ℕ) (msg : List ℕ) → r ≡ frameExtent limit (frameOf 0 msg)
     → ofFrame (length msg) r ≡ totalOf limit (tcp msg)

@@ -1,4 +1,4 @@
--- Elements of a bundle, one after another. Assumes nothing.
+-- Elements of a bundle, one after another.
 use mathlib.Core.Path.{_≡_, refl, ap, _∙_, subst}
 use mathlib.Core.List.{List}
 use Prim.Native.Nat.{ℕ, _+_, _-_, _<_, _≤_}

@@ -1,4 +1,4 @@
--- What holds of every answer of a decoder, each where it is chosen. Assumes nothing.
+-- What holds of every answer of a decoder, each where it is chosen.
 use mathlib.Core.List.{List}
 use Prim.Native.Nat.{ℕ, _<_, _≤_}
 use lib.ListN.{length}

@@ -1,5 +1,5 @@
 -- Document 01's "Proved examples", one statement over what the contracts cite, and the readings that are easily got wrong; where
--- nothing else is said, room and depth are ample. Assumes nothing.
+-- nothing else is said, room and depth are ample.
 use mathlib.Core.Path.{_≡_, refl}
 use mathlib.Core.List.{List, [], _∷_, _++_}
 use Prim.Native.Nat.{ℕ}
@@ -68,8 +68,25 @@ pub record Proved : Type 0 where
   pub p14 : Answers tcp (hex (0x00000009 ∷ 0x2F610000 ∷ [])) Waiting
 
 pub proved : Proved
-unfolding decoded size depth snoc number bytes classOf sortOf textOf argOf readArgs messageOf bundleOf packetOf elementOf elementsOf packetAt packet udp frameOf tcp framesAt frames tcpVec stored recordsOf recordOf
-proved = record { p1 = refl; p2 = refl; p3 = (refl, refl); p4 = (refl, refl); p5 = (refl, refl); p6 = (refl, refl); p7 = refl; p8 = refl; p9 = refl; p10 = refl; p11 = refl; p12 = (refl, refl); p13 = refl; p14 = refl }
+unfolding decoded size depth snoc number bytes classOf sortOf textOf argOf readArgs messageOf bundleOf packetOf elementOf elementsOf
+    packetAt packet udp frameOf tcp framesAt frames tcpVec stored recordsOf recordOf
+proved =
+    record {
+      p1 = refl;
+      p2 = refl;
+      p3 = (refl, refl);
+      p4 = (refl, refl);
+      p5 = (refl, refl);
+      p6 = (refl, refl);
+      p7 = refl;
+      p8 = refl;
+      p9 = refl;
+      p10 = refl;
+      p11 = refl;
+      p12 = (refl, refl);
+      p13 = refl;
+      p14 = refl;
+    }
 
 -- a bundle in a bundle, the inner one with a leftover
 abbrev nested : List ℕ
@@ -125,5 +142,34 @@ pub record Traps : Type 0 where
   pub t26 : decoded tcpVec 8 1 (hex (0x00000000 ∷ []) ++ (nested ++ hex (0x00000000 ∷ []))) ≡ Refused (Unreadable Empty)
 
 pub traps : Traps
-unfolding decoded size depth snoc number bytes classOf sortOf textOf argOf readArgs messageOf bundleOf packetOf elementOf elementsOf packetAt packet udp frameOf tcp framesAt frames tcpVec stored recordsOf recordOf
-traps = record { t1 = (refl, refl); t2 = refl; t3 = refl; t4 = refl; t5 = refl; t6 = (refl, refl); t7 = refl; t8 = refl; t9 = refl; t10 = refl; t11 = refl; t12 = refl; t13 = refl; t14 = refl; t15 = refl; t16 = refl; t17 = refl; t18 = refl; t19 = refl; t20 = (refl, refl); t21 = refl; t22 = refl; t23 = refl; t24 = refl; t25 = refl; t26 = refl }
+unfolding decoded size depth snoc number bytes classOf sortOf textOf argOf readArgs messageOf bundleOf packetOf elementOf elementsOf
+    packetAt packet udp frameOf tcp framesAt frames tcpVec stored recordsOf recordOf
+traps =
+    record {
+      t1 = (refl, refl);
+      t2 = refl;
+      t3 = refl;
+      t4 = refl;
+      t5 = refl;
+      t6 = (refl, refl);
+      t7 = refl;
+      t8 = refl;
+      t9 = refl;
+      t10 = refl;
+      t11 = refl;
+      t12 = refl;
+      t13 = refl;
+      t14 = refl;
+      t15 = refl;
+      t16 = refl;
+      t17 = refl;
+      t18 = refl;
+      t19 = refl;
+      t20 = (refl, refl);
+      t21 = refl;
+      t22 = refl;
+      t23 = refl;
+      t24 = refl;
+      t25 = refl;
+      t26 = refl;
+    }

@@ -1,4 +1,4 @@
--- What the first reading answers at each of its ways out. Assumes nothing.
+-- What the first reading answers at each of its ways out.
 use mathlib.Core.Path.{_≡_, refl, ap, sym, _∙_, subst}
 use mathlib.Core.Bool.{Bool, true, false, cond}
 use mathlib.Core.List.{List}
@@ -19,7 +19,8 @@ use Rattle.arguments.specs.Arguments.{Args, refused, args, argsOf}
 use Rattle.arguments.specs.Readings.{measured}
 use Rattle.arguments.specs.declared.Measured.{Measured}
 use Rattle.arguments.specs.declared.Measured.the-variants as measure
-use Rattle.decoder.specs.Packet.{Out, fault, one, Elements, upto, after, tagsIn, messageWith, messageOf, bundleWith, filling, packet, elements}
+use Rattle.decoder.specs.Packet.{Out, fault, one, Elements, upto, after, tagsIn, messageWith, messageOf, bundleWith, filling}
+use Rattle.decoder.specs.Packet.{packet, elements}
 use Rattle.decoder.specs.Heads.{startOf, sizeOf}
 use Rattle.decoder.specs.Readings.{bundle, element, extent, usedBy, treesIn}
 use Rattle.decoder.specs.declared.heads.Start.the-variants as start
@@ -28,7 +29,8 @@ use Rattle.decoder.specs.declared.measure.Extent.{Extent}
 use Rattle.decoder.specs.declared.measure.Extent.the-variants.{Tree, Deep, Refused}
 use Rattle.decoder.proofs.Within.{Within, types-found}
 use Rattle.decoder.proofs.Fronts.{started, packet-start, held, element-size}
-use Rattle.decoder.proofs.Bundles.{contents, bundle-long, ended, first-trees, first-rest, Stepped, stepped, Counted, counted-start, counted-on}
+use Rattle.decoder.proofs.Bundles.{contents, bundle-long, ended, first-trees, first-rest, Stepped, stepped, Counted, counted-start}
+use Rattle.decoder.proofs.Bundles.{counted-on}
 
 pub refused-is : {k : Fault} {o : Out} (room p : ℕ) → o ≡ fault k → Refused k ≡ extent room p o
 unfolding extent
@@ -122,7 +124,8 @@ tree-in room p m o w e = subst (ExtentIn p m) (sym e) (extent-in room p m o w)
 -- ---- bundles
 
 extent-bundle : (room p a b : ℕ) (k : Elements)
-    → extent room p (bundleWith a b k) ≡ cond (leb (depth (treesIn k) + 1) room) (Tree (1 + size (treesIn k)) (p + (8 + usedBy k))) (Deep (p + (8 + usedBy k)))
+    → extent room p (bundleWith a b k) ≡ cond (leb (depth (treesIn k) + 1) room) (Tree (1 + size (treesIn k)) (p + (8 + usedBy k)))
+    (Deep (p + (8 + usedBy k)))
 unfolding extent
 extent-bundle room p a b (upto f u) = refl
 
@@ -170,7 +173,8 @@ module _ (base : ℕ) (m : List ℕ) (q room : ℕ) where
       let g = elements base (drop (4 + n) m) (q + (4 + n)) in
       record {
         step = stepped base m q e;
-        deep = rw (first-rest base m q e) (ap (λ (x : Forest). leb (depth x) room) (first-trees base m q e) ∙ max-low (level k (depth f)) (depth (treesIn g)) room h);
+        deep = rw (first-rest base m q e)
+            (ap (λ (x : Forest). leb (depth x) room) (first-trees base m q e) ∙ max-low (level k (depth f)) (depth (treesIn g)) room h);
       }
 
   -- an element that is a tree

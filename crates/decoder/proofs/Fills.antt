@@ -1,4 +1,4 @@
--- What the second reading writes and answers at each of its ways out. Assumes nothing.
+-- What the second reading writes and answers at each of its ways out.
 use mathlib.Core.Path.{_≡_, refl, ap, sym, _∙_, subst}
 use mathlib.Core.List.{List, _++_}
 use Prim.Native.Nat.{ℕ, _+_, _-_, _*_, _≤_}
@@ -19,7 +19,8 @@ use Rattle.text.specs.declared.Text.the-variants.{Found}
 use Rattle.arguments.specs.Arguments.{Args, refused, args, argsOf}
 use Rattle.arguments.specs.Readings.{measured, keptOf}
 use Rattle.arguments.specs.declared.Measured.the-variants as measure
-use Rattle.decoder.specs.Packet.{Out, fault, one, Elements, upto, after, tagsIn, messageWith, messageOf, bundleWith, filling, packet, elements}
+use Rattle.decoder.specs.Packet.{Out, fault, one, Elements, upto, after, tagsIn, messageWith, messageOf, bundleWith, filling}
+use Rattle.decoder.specs.Packet.{packet, elements}
 use Rattle.decoder.specs.Limits.{stored}
 use Rattle.decoder.specs.Heads.{startOf, sizeOf}
 use Rattle.decoder.specs.Readings.{bundle, element, usedBy, treesIn, treeOf, filled, Room, Fills}
@@ -29,13 +30,16 @@ use Rattle.decoder.specs.Known.{Known}
 use Rattle.decoder.specs.declared.fill.Filled.{Filled}
 use Rattle.decoder.specs.declared.fill.Filled.the-variants.{Wrote, Nothing}
 use Rattle.decoder.proofs.Fronts.{started, packet-start, held, element-size}
-use Rattle.decoder.proofs.Bundles.{contents, bundle-long, ended, first-trees, first-rest, Stepped, stepped, Counted, counted-start, counted-on}
+use Rattle.decoder.proofs.Bundles.{contents, bundle-long, ended, first-trees, first-rest, Stepped, stepped, Counted, counted-start}
+use Rattle.decoder.proofs.Bundles.{counted-on}
 use Rattle.decoder.proofs.Within.{types-found}
-use Rattle.decoder.proofs.Stored.{wrote-stored, stored-nil, node-records, completed, length-completed, lent-stored, completed-turn, completed-node}
+use Rattle.decoder.proofs.Stored.{wrote-stored, stored-nil, node-records, completed, length-completed, lent-stored, completed-turn}
+use Rattle.decoder.proofs.Stored.{completed-node}
 
 -- nothing is written of what is refused
 pub fills-none : {k : Fault} {o : Out} {p i : ℕ} {T : List ℕ} → o ≡ fault k → Fills o p i T Nothing T
-fills-none {k} {o} {p} {i} {T} e = record { answered = sym (ap (filled p) e); table = sym (ap (λ (x : Out). stored i (treeOf x) T) e ∙ stored-nil i T) }
+fills-none {k} {o} {p} {i} {T} e =
+    record { answered = sym (ap (filled p) e); table = sym (ap (λ (x : Out). stored i (treeOf x) T) e ∙ stored-nil i T) }
 
 -- what is known to be accepted is not refused
 pub known-refused : {k : Fault} {o : Out} {count : ℕ} → Known o count → o ≡ fault k → ⊥
@@ -55,7 +59,8 @@ tree-after n (fault k) = refl
 tree-after n (one k a b f u) = refl
 
 fills-after : {p i : ℕ} {r : Filled} {T T' : List ℕ} (n : ℕ) (o : Out) → Fills o (p + n) i T r T' → Fills (after n o) p i T r T'
-fills-after {p} {i} {r} {T} n o w = record { answered = w .answered ∙ filled-after p n o; table = w .table ∙ ap (λ (f : Forest). stored i f T) (sym (tree-after n o)) }
+fills-after {p} {i} {r} {T} n o w =
+    record { answered = w .answered ∙ filled-after p n o; table = w .table ∙ ap (λ (f : Forest). stored i f T) (sym (tree-after n o)) }
 
 module _ (base : ℕ) (l rest : List ℕ) (p : ℕ) where
   module _ {n used : ℕ} (e : start.Message n used ≡ startOf l p) (s : rest ≡ drop used l) where
@@ -64,7 +69,8 @@ module _ (base : ℕ) (l rest : List ℕ) (p : ℕ) where
 
     pub message-room : {i : ℕ} {T : List ℕ} → Room (treeOf (packet base l p)) i T
         → Room (treeOf (messageOf base (base + p) n rest (p + used))) i T
-    message-room {i} {T} w = subst (λ (f : Forest). Room f i T) (ap treeOf message-packet ∙ tree-after used (messageOf base (base + p) n rest (p + used))) w
+    message-room {i} {T} w = subst (λ (f : Forest). Room f i T)
+        (ap treeOf message-packet ∙ tree-after used (messageOf base (base + p) n rest (p + used))) w
 
     pub packet-fills-message : {i : ℕ} {r : Filled} {T T' : List ℕ}
         → Fills (messageOf base (base + p) n rest (p + used)) (p + used) i T r T' → Fills (packet base l p) p i T r T'
@@ -130,7 +136,8 @@ abbrev pub dataOf : Args → ℕ
 dataOf (refused k) = 0
 dataOf (args kept used) = used
 
-module _ {m used : ℕ} {tags rest : List ℕ} (base offset n : ℕ) (l : List ℕ) (p : ℕ) (e : Found m used ≡ textOf l p) (t : tags ≡ tagsIn (take m l)) (s : rest ≡ drop used l) where
+module _ {m used : ℕ} {tags rest : List ℕ} (base offset n : ℕ) (l : List ℕ) (p : ℕ) (e : Found m used ≡ textOf l p)
+    (t : tags ≡ tagsIn (take m l)) (s : rest ≡ drop used l) where
   with-args : messageOf base offset n l p ≡ after used (messageWith offset n (argsOf base tags rest (p + used)))
   with-args = types-found base offset n l p e ∙ rw (t, s)
 
@@ -163,8 +170,10 @@ module _ {m used : ℕ} {tags rest : List ℕ} (base offset n : ℕ) (l : List �
         rw with-args (by-args (argsOf base tags rest (p + used)) g (wrote-lent recordSize w (length-record 47 (i + 1 + count) offset n) v))
       where
         by-args : (o : Args) → measure.Kept count taken ≡ measured o
-            → number.Wrote (recordOf 47 (i + 1 + count) offset n ++ recordsOf (i + 1) (keptOf o)) T (putMid recordSize (length T₁ - recordSize) T₁ P)
-            → Fills (after used (messageWith offset n o)) p i T (Wrote (1 + count) (p + used + taken)) (putMid recordSize (length T₁ - recordSize) T₁ P)
+            → number.Wrote (recordOf 47 (i + 1 + count) offset n ++ recordsOf (i + 1) (keptOf o)) T
+            (putMid recordSize (length T₁ - recordSize) T₁ P)
+            → Fills (after used (messageWith offset n o)) p i T (Wrote (1 + count) (p + used + taken))
+            (putMid recordSize (length T₁ - recordSize) T₁ P)
         by-args (refused j) g w = let z : _≡_ {A = ℕ} 0 1 = cc in absurd (omega arith)
         by-args (args f u) g w =
             let z : count ≡ size f = cc in
@@ -252,18 +261,24 @@ pub record Filling (base : ℕ) (l : List ℕ) (p i : ℕ) (T₀ T m : List ℕ)
 pub filling-start : (base : ℕ) (l : List ℕ) (p i : ℕ) (T : List ℕ) → Filling base l p i T T (take (length l - 8) (drop 8 l)) (p + 8) 1
 filling-start base l p i T = record { counted = counted-start base l p; some = omega arith; same = refl; left = rw (tail l 8) }
 
-module _ (base : ℕ) (l : List ℕ) (p i : ℕ) (T₀ T m : List ℕ) (q c : ℕ) (w : Filling base l p i T₀ T m q c) (r : Room (node 35 0 0 (treesIn (contents base l p)) nil) i T₀) where
+module _ (base : ℕ) (l : List ℕ) (p i : ℕ) (T₀ T m : List ℕ) (q c : ℕ) (w : Filling base l p i T₀ T m q c)
+    (r : Room (node 35 0 0 (treesIn (contents base l p)) nil) i T₀) where
   -- the table that is lent for the next element
   abbrev later : List ℕ
   later = midOf (recordSize * c) (length T - recordSize * c) T
 
   -- records that have their place fit
-  pub filling-fits : (recordSize * (c + size (treesIn (elements base m q))) ≤ length T) × (i + (c + size (treesIn (elements base m q))) ≤ 65535)
+  pub filling-fits : (recordSize * (c + size (treesIn (elements base m q))) ≤ length T) ×
+      (i + (c + size (treesIn (elements base m q))) ≤ 65535)
   unfolding size
   filling-fits = (omega (arith, r .fits), omega (arith, r .low))
 
   pub next-fits : Room (treeOf (element base m q)) (i + c) later
-  next-fits = record { fits = omega (arith, filling-fits, next-room base m q, length-lent T (recordSize * c)); low = omega (arith, filling-fits, next-room base m q) }
+  next-fits = record {
+    fits = omega (arith, filling-fits, next-room base m q, length-lent T (recordSize * c));
+    low = omega
+        (arith, filling-fits, next-room base m q);
+  }
 
   -- the next element was written
   pub filling-step : {n next : ℕ} {x : Filled} {Y : List ℕ} → Fills (element base m q) (q + 4) (i + c) later x Y → x ≡ Wrote n next
@@ -272,12 +287,14 @@ module _ (base : ℕ) (l : List ℕ) (p i : ℕ) (T₀ T m : List ℕ) (q c : �
 
   filling-one : {k a b u : ℕ} {g : Forest} {x : Filled} {Y : List ℕ} → element base m q ≡ one k a b g u
       → Fills (element base m q) (q + 4) (i + c) later x Y
-      → Filling base l p i T₀ (putMid (recordSize * c) (length T - recordSize * c) T Y) (take (length m - (q + 4 + u - q)) (drop (q + 4 + u - q) m)) (q + 4 + u) (c + (1 + size g))
+      → Filling base l p i T₀ (putMid (recordSize * c) (length T - recordSize * c) T Y)
+      (take (length m - (q + 4 + u - q)) (drop (q + 4 + u - q) m)) (q + 4 + u) (c + (1 + size g))
   filling-one {k} {a} {b} {u} {g} {x} {Y} e f =
       let N = node k a b g nil in
       let put : putMid (recordSize * c) (length T - recordSize * c) T Y ≡ completed T c (i + c) N
       = lent-stored T c (i + c) N (f .table ∙ ap (λ (o : Out). stored (i + c) (treeOf o) later) e) in
-      let fit : recordSize * (c + size N) ≤ length T = omega (arith, filling-fits, next-room base m q, ap (λ (o : Out). size (treeOf o)) e) in
+      let fit : recordSize * (c + size N) ≤ length T = omega
+      (arith, filling-fits, next-room base m q, ap (λ (o : Out). size (treeOf o)) e) in
       let sum : i + (c + (1 + size g)) ≡ i + c + (1 + size g) = omega arith in
       record {
         counted = counted-on base l p m q c (w .counted) (stepped base m q e);
@@ -290,11 +307,13 @@ module _ (base : ℕ) (l : List ℕ) (p i : ℕ) (T₀ T m : List ℕ) (q c : �
       }
 
   pub filling-on : {n next : ℕ} {x : Filled} {Y : List ℕ} → Fills (element base m q) (q + 4) (i + c) later x Y → x ≡ Wrote n next
-      → Filling base l p i T₀ (putMid (recordSize * c) (length T - recordSize * c) T Y) (take (length m - (next - q)) (drop (next - q) m)) next (c + n)
+      → Filling base l p i T₀ (putMid (recordSize * c) (length T - recordSize * c) T Y) (take (length m - (next - q)) (drop (next - q) m))
+      next (c + n)
   filling-on {n} {next} {x} {Y} f z = by-out (element base m q) refl (sym z ∙ f .answered)
     where
       by-out : (o : Out) → element base m q ≡ o → Wrote n next ≡ filled (q + 4) o
-          → Filling base l p i T₀ (putMid (recordSize * c) (length T - recordSize * c) T Y) (take (length m - (next - q)) (drop (next - q) m)) next (c + n)
+          → Filling base l p i T₀ (putMid (recordSize * c) (length T - recordSize * c) T Y)
+          (take (length m - (next - q)) (drop (next - q) m)) next (c + n)
       by-out (fault k) e h = let z : _≡_ {A = ℕ} 0 1 = cc in absurd (omega arith)
       by-out (one k a b g u) e h = let en : n ≡ 1 + size g = cc in let ee : next ≡ q + 4 + u = cc in rw (en, ee) (filling-one e f)
 
@@ -307,11 +326,13 @@ module _ (base : ℕ) (l : List ℕ) (p i : ℕ) (T₀ T m : List ℕ) (q c : �
   filling-done {x} {a} {b} {Y} {Z} h f z ea eb v =
       let none : elements base m q ≡ upto nil 0 = no-step base m q (sym z ∙ f .answered) in
       let flat : treesIn (elements base m q) ≡ nil = ap treesIn none in
-      let no-tree : treeOf (element base m q) ≡ treesIn (elements base m q) = is-none (q + 4) (element base m q) (sym z ∙ f .answered) ∙ sym flat in
+      let no-tree : treeOf (element base m q) ≡ treesIn (elements base m q) = is-none (q + 4) (element base m q) (sym z ∙ f .answered)
+      ∙ sym flat in
       let no-size : size (treesIn (elements base m q)) ≡ 0 = ap size flat in
       let no-use : usedBy (elements base m q) ≡ 0 = ap usedBy none in
       let put : putMid (recordSize * c) (length T - recordSize * c) T Y ≡ completed T₀ 1 (i + 1) (treesIn (contents base l p))
       = lent-stored T c (i + c) (treesIn (elements base m q)) (f .table ∙ ap (λ (g : Forest). stored (i + c) g later) no-tree) ∙ w .left in
       let tab : Z ≡ stored i (node 35 a b (treesIn (contents base l p)) nil) T₀
       = completed-node T₀ i 35 a b (i + c) (treesIn (contents base l p)) (omega (arith, r .fits)) put (omega (arith, w .counted)) v in
-      rw (bundle-long base l p h, ← ea, ← eb) (with-elements p i a b T₀ (contents base l p) (omega (arith, w .counted)) (omega (arith, w .counted)) tab)
+      rw (bundle-long base l p h, ← ea, ← eb)
+      (with-elements p i a b T₀ (contents base l p) (omega (arith, w .counted)) (omega (arith, w .counted)) tab)

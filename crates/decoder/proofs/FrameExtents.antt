@@ -1,4 +1,4 @@
--- The first reading of frames: one, and a list of them, one after another. Assumes nothing.
+-- The first reading of frames: one, and a list of them, one after another.
 use mathlib.Core.Path.{_≡_, refl, ap, sym, _∙_, subst}
 use mathlib.Core.Bool.{Bool, true, false, cond}
 use mathlib.Core.List.{List, [], _∷_}
@@ -13,7 +13,8 @@ use Rattle.refusal.specs.declared.Fault.{Fault}
 use Rattle.refusal.specs.declared.Fault.the-variants as faults
 use Rattle.types.specs.Forest.{Forest, nil, node, size, depth, level}
 use Rattle.decoder.specs.Packet.{Out, fault, one, packet}
-use Rattle.decoder.specs.Framing.{Whole, trees, waiting, refusal, Frame, tree, wait, stop, framed, frameOf, before, afterFrame, framesAt, frames, tcpVec}
+use Rattle.decoder.specs.Framing.{Whole, trees, waiting, refusal, Frame, tree, wait, stop, framed, frameOf, before, afterFrame}
+use Rattle.decoder.specs.Framing.{framesAt, frames, tcpVec}
 use Rattle.decoder.specs.Heads.{prefixOf}
 use Rattle.decoder.specs.Readings.{extent, frameExtent, totalOf, added}
 use Rattle.decoder.specs.declared.heads.Prefix.the-variants as prefix
@@ -47,7 +48,8 @@ module _ (base : ℕ) (l : List ℕ) where
       → ofPacket r ≡ frameExtent limit (frameOf base l)
   frame-by-packet {r} limit rest e s g =
       let is : r ≡ extent limit 4 (packet base (drop 4 l) 4) = rw s at g in
-      ap ofPacket is ∙ extent-framed limit (packet base (drop 4 l) 4) ∙ ap (frameExtent limit) (ap (prefixed base l) e ∙ sym (frame-prefix base l))
+      ap ofPacket is ∙ extent-framed limit (packet base (drop 4 l) 4)
+      ∙ ap (frameExtent limit) (ap (prefixed base l) e ∙ sym (frame-prefix base l))
 
   pub frame-waits : (limit : ℕ) → prefix.Waiting ≡ prefixOf l → Waiting ≡ frameExtent limit (frameOf base l)
   frame-waits limit e = ap (frameExtent limit) (ap (prefixed base l) e ∙ sym (frame-prefix base l))
@@ -79,17 +81,20 @@ pub frames-tree : {k a b u : ℕ} {f : Forest} (base : ℕ) (l : List ℕ) → f
 frames-tree {k} {a} {b} {u} {f} base l e = frames-by base l e ∙ ends (leb (length l) u) refl
   where
     ends : (t : Bool) → leb (length l) u ≡ t
-        → cond (leb (length l) u) (trees (node k a b f nil) 0) (before k a b f (frames (base + u) (drop u l))) ≡ before k a b f (after base l u)
+        → cond (leb (length l) u) (trees (node k a b f nil) 0) (before k a b f (frames (base + u) (drop u l))) ≡ before k a b f
+        (after base l u)
     ends true h = rw (h, remaining-none (base + u) (drop u l) (omega (arith, leb-true (length l) u h, length-drop u l)))
     ends false h = rw (h, remaining-list (base + u) (drop u l) (omega (arith, leb-false (length l) u h, length-drop u l)))
 
 -- ---- counting
 
 total-before : (limit k a b : ℕ) (f : Forest) (w : Whole)
-    → totalOf limit (before k a b f w) ≡ cond (leb (level k (depth f)) limit) (added (1 + size f) false (totalOf limit w)) (added 0 true (totalOf limit w))
+    → totalOf limit (before k a b f w) ≡ cond (leb (level k (depth f)) limit) (added (1 + size f) false (totalOf limit w))
+    (added 0 true (totalOf limit w))
 unfolding size depth
 total-before limit k a b f waiting = by-test (λ (x : Total). total.Waiting ≡ x) (leb (level k (depth f)) limit) (λ _. refl) (λ _. refl)
-total-before limit k a b f (refusal j) = by-test (λ (x : Total). total.Refused j ≡ x) (leb (level k (depth f)) limit) (λ _. refl) (λ _. refl)
+total-before limit k a b f (refusal j) =
+    by-test (λ (x : Total). total.Refused j ≡ x) (leb (level k (depth f)) limit) (λ _. refl) (λ _. refl)
 total-before limit k a b f (trees g left) =
     by-le (λ (x : Total). totalOf limit (trees (node k a b f g) left) ≡ x) (level k (depth f)) limit
     (λ h. rw (max-low (level k (depth f)) (depth g) limit h)
@@ -136,7 +141,8 @@ module _ (limit base : ℕ) (l : List ℕ) (c : ℕ) (deep : Bool) where
   onward (Refused k) = total.Refused k
 
   by-frame : (x : Frame) → frameOf base l ≡ x → added c deep (totalOf limit (frames base l)) ≡ onward (frameExtent limit x)
-  by-frame wait e = ap (λ (w : Whole). added c deep (totalOf limit w)) (frames-by base l e) ∙ ap (added c deep) (sym (no-trees limit (length l)))
+  by-frame wait e = ap (λ (w : Whole). added c deep (totalOf limit w)) (frames-by base l e)
+      ∙ ap (added c deep) (sym (no-trees limit (length l)))
   by-frame (stop k) e = ap (λ (w : Whole). added c deep (totalOf limit w)) (frames-by base l e) ∙ added-refused deep
     where
       added-refused : (t : Bool) → added c t (total.Refused k) ≡ total.Refused k
@@ -202,7 +208,8 @@ module _ (limit : ℕ) (msg : List ℕ) (at c : ℕ) (deep : Bool) (w : Totallin
   pub totalling-end : length msg ≤ at → {r : Total} → r ≡ added c deep (total.Trees 0 0) → r ≡ totalOf limit (tcpVec msg)
   totalling-end h e = e ∙ no-frame limit at (drop at msg) c deep (omega (arith, length-drop at msg)) ∙ sym (w .whole)
 
-  module _ {rest : List ℕ} {x : FrameExtent} (some : at < length msg) (s : rest ≡ drop at msg) (e : x ≡ frameExtent limit (frameOf at rest)) where
+  module _ {rest : List ℕ} {x : FrameExtent} (some : at < length msg) (s : rest ≡ drop at msg)
+      (e : x ≡ frameExtent limit (frameOf at rest)) where
     frame-here : x ≡ frameExtent limit (frameOf at (drop at msg))
     frame-here = rw s at e
 

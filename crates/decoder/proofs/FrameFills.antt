@@ -1,4 +1,4 @@
--- The second reading of frames: one, and a list of them, one after another. Assumes nothing.
+-- The second reading of frames: one, and a list of them, one after another.
 use mathlib.Core.Path.{_≡_, refl, ap, sym, _∙_, subst}
 use mathlib.Core.List.{List, [], _∷_}
 use Prim.Native.Nat.{ℕ, _+_, _-_, _*_, _<_, _≤_}
@@ -12,7 +12,8 @@ use Rattle.number.proofs.Parts.{tail, length-lent}
 use Rattle.types.specs.Forest.{Forest, nil, node, size}
 use Rattle.types.specs.Records.{recordSize}
 use Rattle.decoder.specs.Packet.{Out, fault, one, packet}
-use Rattle.decoder.specs.Framing.{Whole, trees, waiting, refusal, Frame, tree, wait, stop, framed, frameOf, before, framesAt, frames, tcpVec}
+use Rattle.decoder.specs.Framing.{Whole, trees, waiting, refusal, Frame, tree, wait, stop, framed, frameOf, before, framesAt}
+use Rattle.decoder.specs.Framing.{frames, tcpVec}
 use Rattle.decoder.specs.Limits.{forestOf, stored}
 use Rattle.decoder.specs.Heads.{prefixOf}
 use Rattle.decoder.specs.Readings.{treeOf, filled, Room, Fills, framePacket, Accepted}
@@ -37,13 +38,15 @@ module _ (base : ℕ) (l rest : List ℕ) (e : prefix.Whole ≡ prefixOf l) (s :
   whole-frame = frame-prefix base l ∙ ap (prefixed base l) (sym e) ∙ rw s
 
   pub frame-room : {i : ℕ} {T : List ℕ} → Room (treeOf (framePacket (frameOf base l))) i T → Room (treeOf (packet base rest 4)) i T
-  frame-room {i} {T} w = subst (λ (f : Forest). Room f i T) (ap (λ (x : Frame). treeOf (framePacket x)) whole-frame ∙ tree-framed (packet base rest 4)) w
+  frame-room {i} {T} w = subst (λ (f : Forest). Room f i T)
+      (ap (λ (x : Frame). treeOf (framePacket x)) whole-frame ∙ tree-framed (packet base rest 4)) w
 
   pub frame-fills : {i : ℕ} {r : Filled} {T T' : List ℕ} → Fills (packet base rest 4) 4 i T r T'
       → Fills (framePacket (frameOf base l)) 0 i T r T'
   frame-fills {i} {r} {T} w =
       let o = packet base rest 4 in
-      rw whole-frame (record { answered = w .answered ∙ filled-framed o; table = w .table ∙ ap (λ (f : Forest). stored i f T) (sym (tree-framed o)) })
+      rw whole-frame (record
+      { answered = w .answered ∙ filled-framed o; table = w .table ∙ ap (λ (f : Forest). stored i f T) (sym (tree-framed o)) })
 
 module _ (base : ℕ) (l : List ℕ) where
   pub waits-nothing : prefix.Waiting ≡ prefixOf l → framePacket (frameOf base l) ≡ fault faults.RunsOut
@@ -105,7 +108,8 @@ module _ (msg T₀ T : List ℕ) (at c : ℕ) (w : Listing msg T₀ T at c) (som
   forest-tree : {k a b u : ℕ} {f : Forest} → frameOf at (drop at msg) ≡ tree k a b f u
       → forestOf (remaining at (drop at msg)) ≡ node k a b f (forestOf (remaining (at + u) (drop (at + u) msg)))
   forest-tree {k} {a} {b} {u} {f} e =
-      ap forestOf (here-tree e) ∙ forest-before k a b f (remaining (at + u) (drop (at + u) msg)) (subst Accepted (here-tree e) (w .accepted))
+      ap forestOf (here-tree e)
+      ∙ forest-before k a b f (remaining (at + u) (drop (at + u) msg)) (subst Accepted (here-tree e) (w .accepted))
 
   pub next-fits : Room (treeOf (framePacket (frameOf at (drop at msg)))) c later
   unfolding size
@@ -115,7 +119,11 @@ module _ (msg T₀ T : List ℕ) (at c : ℕ) (w : Listing msg T₀ T at c) (som
       by-frame wait e = record { fits = omega arith; low = omega (arith, w .low) }
       by-frame (stop k) e = record { fits = omega arith; low = omega (arith, w .low) }
       by-frame (tree k a b f u) e =
-          record { fits = omega (arith, w .fits, ap size (forest-tree e), length-lent T (recordSize * c)); low = omega (arith, w .low, ap size (forest-tree e)) }
+          record {
+            fits = omega (arith, w .fits, ap size (forest-tree e), length-lent T (recordSize * c));
+            low = omega
+                (arith, w .low, ap size (forest-tree e));
+          }
 
   pub next-in : {n next : ℕ} {x : Filled} {Y : List ℕ} → Fills (framePacket (frameOf at (drop at msg))) 0 c later x Y → x ≡ Wrote n next
       → (4 ≤ next) × (at + next ≤ length msg) × (c + n ≤ 65535)
@@ -163,7 +171,8 @@ module _ (msg T₀ T : List ℕ) (at c : ℕ) (w : Listing msg T₀ T at c) (som
       by-frame wait e h = let z : _≡_ {A = ℕ} 0 1 = cc in absurd (omega arith)
       by-frame (stop k) e h = let z : _≡_ {A = ℕ} 0 1 = cc in absurd (omega arith)
       by-frame (tree k a b g u) e h =
-          let en : n ≡ 1 + size g = cc in let e0 : next ≡ 0 + u = cc in let ee : next ≡ u = e0 ∙ zero-add u in rw (en, ee) (listing-tree e f)
+          let en : n ≡ 1 + size g = cc in let e0 : next ≡ 0 + u = cc in let ee : next ≡ u = e0 ∙ zero-add u in
+          rw (en, ee) (listing-tree e f)
 
   -- the next frame waits
   pub listing-waits : {x : Filled} {Y : List ℕ} → Fills (framePacket (frameOf at (drop at msg))) 0 c later x Y → x ≡ Nothing

@@ -1,5 +1,4 @@
 -- A packet by what it starts with, an element by its size, a type text by its tags; and what the code answers of each front.
--- Assumes nothing.
 use mathlib.Core.Path.{_≡_, refl, ap, sym, _∙_, subst}
 use mathlib.Core.Bool.{Bool, true, false}
 use mathlib.Core.List.{List, [], _∷_}
@@ -22,7 +21,8 @@ use Rattle.text.specs.Text.{textOf, faultOf}
 use Rattle.text.specs.declared.Text.{Text}
 use Rattle.text.specs.declared.Text.the-variants.{Found, Lacks}
 use Rattle.text.specs.declared.Lack.{Lack}
-use Rattle.decoder.specs.Packet.{Out, fault, after, tagsIn, messageOf, same, bundleWord, filling, elementOf, startsWith, packetOf, packet, elements}
+use Rattle.decoder.specs.Packet.{Out, fault, after, tagsIn, messageOf, same, bundleWord, filling, elementOf, startsWith, packetOf}
+use Rattle.decoder.specs.Packet.{packet, elements}
 use Rattle.decoder.specs.Heads.{startBy, startOf, sizeOf}
 use Rattle.decoder.specs.Readings.{bundle, element}
 use Rattle.decoder.specs.declared.heads.Start.{Start}
@@ -120,7 +120,8 @@ pub size-in : {n : ℕ} (l : List ℕ) → Holds n ≡ sizeOf l → 4 + n ≤ le
 unfolding sizeOf
 size-in l e =
     subst (SizeIn (length l)) (sym e)
-    (by-le (SizeIn (length l)) 4 (length l) (λ h. by-le (SizeIn (length l)) (number 4 l) (length l - 4) (λ g. omega arith) (λ g. tt)) (λ h. tt))
+    (by-le (SizeIn (length l)) 4 (length l) (λ h. by-le (SizeIn (length l)) (number 4 l) (length l - 4) (λ g. omega arith) (λ g. tt))
+    (λ h. tt))
 
 module _ (l : List ℕ) where
   pub size-short : length l < 4 → RunsOut ≡ sizeOf l
@@ -177,5 +178,8 @@ types-tags l n e = rw sub-zero at e
 -- there are fewer tags than bytes of type text, and no more data than bytes after it
 pub args-fit : {tags : List ℕ} (l : List ℕ) (n used : ℕ) → tags ≡ tagsIn (take (n - 0) (drop 0 l))
     → (length tags ≤ n) × (length (take (length l - used) (drop used l)) ≡ length l - used)
-args-fit l n used e =
-    (rw e (omega (arith, length-drop (lead (getD (take (n - 0) l) 0 0)) (take (n - 0) l), length-take (n - 0) l)), rw tail (length-drop used l))
+args-fit l n used e = (
+  rw e (omega (arith, length-drop (lead (getD (take (n - 0) l) 0 0)) (take (n - 0) l), length-take (n - 0) l)),
+  rw tail
+      (length-drop used l),
+)

@@ -1,5 +1,5 @@
 -- The number of bytes that ties the knot of packets, elements and frames does not matter: each meets its rule, with no side
--- condition. Assumes nothing.
+-- condition.
 use mathlib.Core.Path.{_≡_, refl, ap, _∙_}
 use mathlib.Core.Bool.{cond}
 use mathlib.Core.List.{List, [], _∷_}
@@ -13,7 +13,8 @@ use Rattle.types.specs.Forest.{nil, node}
 use Rattle.text.specs.Text.{textOf}
 use Rattle.text.specs.declared.Text.{Text}
 use Rattle.text.specs.declared.Text.the-variants.{Found, Lacks}
-use Rattle.decoder.specs.Packet.{Out, fault, one, Elements, after, messageOf, same, bundleWord, bundleWith, bundleOf, filling, elementOf, joined, goOn, elementsOf, startsWith, packetOf, packetAt, elementsAt, packet, elements}
+use Rattle.decoder.specs.Packet.{Out, fault, one, Elements, after, messageOf, same, bundleWord, bundleWith, bundleOf, filling}
+use Rattle.decoder.specs.Packet.{elementOf, joined, goOn, elementsOf, startsWith, packetOf, packetAt, elementsAt, packet, elements}
 use Rattle.decoder.specs.Framing.{Whole, trees, Frame, tree, wait, stop, frameOf, before, afterFrame, framesAt, frames}
 use Rattle.decoder.specs.Readings.{element}
 use Rattle.decoder.proofs.Prefixes.{FrameIn, frame-in}
@@ -27,12 +28,14 @@ Agree f g l = (m : List ℕ) (q : ℕ) → length m ≤ length l - 1 → f m q �
 bundle-cong : (es es' : List ℕ → ℕ → Elements) (l : List ℕ) (p : ℕ) → es (drop 8 l) (p + 8) ≡ es' (drop 8 l) (p + 8)
     → bundleOf es l p ≡ bundleOf es' l p
 unfolding bundleOf
-bundle-cong es es' l p e = ap (λ (k : Elements). cond (leb 8 (length l)) (bundleWith (number 4 l) (number 4 (drop 4 l)) k) (fault RunsOut)) e
+bundle-cong es es' l p e =
+    ap (λ (k : Elements). cond (leb 8 (length l)) (bundleWith (number 4 l) (number 4 (drop 4 l)) k) (fault RunsOut)) e
 
 element-cong : (pk pk' : List ℕ → ℕ → Out) (l : List ℕ) (p : ℕ) → Agree pk pk' l → elementOf pk l p ≡ elementOf pk' l p
 unfolding elementOf
 element-cong pk pk' l p h =
-    ap (λ (o : Out). cond (leb 4 (length l)) (cond (leb (number 4 l) (length l - 4)) (filling (number 4 l) o) (fault RunsOut)) (fault RunsOut))
+    ap (λ (o : Out). cond (leb 4 (length l)) (cond (leb (number 4 l) (length l - 4)) (filling (number 4 l) o) (fault RunsOut))
+    (fault RunsOut))
     (h _ _ (omega (arith, length-take (number 4 l) (drop 4 l), length-drop 4 l)))
 
 on-cong : (es es' : List ℕ → ℕ → Elements) (l : List ℕ) (p : ℕ) (o : Out) → Agree es es' l → goOn es l p o ≡ goOn es' l p o
@@ -49,7 +52,8 @@ module _ (base : ℕ) where
       → startsWith base es l p t ≡ startsWith base es' l p t
   start-cong es es' l p (Lacks k) h = refl
   start-cong es es' l p (Found n used) h =
-      ap (λ (o : Out). cond (eqb (getD l 0 0) 47) (after used (messageOf base (base + p) n (drop used l) (p + used))) (cond (same (take n l) bundleWord) (after used o) (fault BadStart)))
+      ap (λ (o : Out). cond (eqb (getD l 0 0) 47) (after used (messageOf base (base + p) n (drop used l) (p + used)))
+      (cond (same (take n l) bundleWord) (after used o) (fault BadStart)))
       (bundle-cong es es' (drop used l) (p + used) (h _ _ (omega (arith, length-drop 8 (drop used l), length-drop used l))))
 
   packet-cong : (es es' : List ℕ → ℕ → Elements) (l : List ℕ) (p : ℕ) → Agree es es' l → packetOf base es l p ≡ packetOf base es' l p
@@ -76,7 +80,8 @@ module _ (base : ℕ) where
     elements-same (suc n) zero [] p h k = refl
     elements-same (suc n) zero (a ∷ l) p h k = absurd (omega arith)
     elements-same (suc n) (suc m) l p h k =
-        elements-cong _ _ _ _ l p (λ j q s. packet-same n m j q (omega arith) (omega arith)) (λ j q s. elements-same n m j q (omega arith) (omega arith))
+        elements-cong _ _ _ _ l p (λ j q s. packet-same n m j q (omega arith) (omega arith))
+        (λ j q s. elements-same n m j q (omega arith) (omega arith))
 
   elements-shorter : (n : ℕ) (m : List ℕ) (q : ℕ) → length m ≤ n → elementsAt base n m q ≡ elements base m q
   unfolding elements
@@ -97,7 +102,8 @@ module _ (base : ℕ) where
   unfolding elements elementsAt elementsOf elementOf
   elements-eq [] p = refl
   elements-eq (a ∷ l) p =
-      elements-cong _ _ _ _ (a ∷ l) p (λ m q h. packet-shorter (length l) m q (omega arith)) (λ m q h. elements-shorter (length l) m q (omega arith))
+      elements-cong _ _ _ _ (a ∷ l) p (λ m q h. packet-shorter (length l) m q (omega arith))
+      (λ m q h. elements-shorter (length l) m q (omega arith))
 
   -- the same by the first element
   pub elements-by : (l : List ℕ) (p : ℕ) → elements base l p ≡ goOn (λ m q. elements base m q) l p (element base l p)
@@ -112,15 +118,18 @@ after-cong : (go go' : ℕ → List ℕ → Whole) (base : ℕ) (l : List ℕ) (
 after-cong go go' base l (stop k) w h = refl
 after-cong go go' base l wait w h = refl
 after-cong go go' base l (tree k a b f u) w h =
-    ap (λ (x : Whole). cond (leb (length l) u) (trees (node k a b f nil) 0) (before k a b f x)) (h (base + u) (drop u l) (omega (arith, length-drop u l)))
+    ap (λ (x : Whole). cond (leb (length l) u) (trees (node k a b f nil) 0) (before k a b f x))
+    (h (base + u) (drop u l) (omega (arith, length-drop u l)))
 
 frames-same : (n m base : ℕ) (l : List ℕ) → length l < n → length l < m → framesAt n base l ≡ framesAt m base l
 unfolding framesAt
 frames-same zero m base l h g = absurd (omega arith)
 frames-same (suc n) zero base l h g = absurd (omega arith)
-frames-same (suc n) (suc m) base l h g = after-cong _ _ base l (frameOf base l) (frame-in base l) (λ q j s. frames-same n m q j (omega arith) (omega arith))
+frames-same (suc n) (suc m) base l h g =
+    after-cong _ _ base l (frameOf base l) (frame-in base l) (λ q j s. frames-same n m q j (omega arith) (omega arith))
 
 -- a list of frames is a frame and the list after it
 pub frames-eq : (base : ℕ) (l : List ℕ) → frames base l ≡ afterFrame (λ b m. frames b m) base l (frameOf base l)
 unfolding frames framesAt
-frames-eq base l = after-cong _ _ base l (frameOf base l) (frame-in base l) (λ q m s. frames-same (length l) (suc (length m)) q m s (omega arith))
+frames-eq base l =
+    after-cong _ _ base l (frameOf base l) (frame-in base l) (λ q m s. frames-same (length l) (suc (length m)) q m s (omega arith))

@@ -1,4 +1,4 @@
--- No second outcome, answer and table, satisfies the contract of a decoder. Assumes nothing.
+-- No second outcome, answer and table, satisfies the contract of a decoder.
 use mathlib.Core.Path.{_≡_, ap, sym, _∙_}
 use mathlib.Core.List.{List}
 use Prim.Native.Nat.{ℕ, _/_}

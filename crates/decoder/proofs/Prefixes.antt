@@ -1,4 +1,4 @@
--- A frame by its prefix, and what the code answers of a prefix. Assumes nothing.
+-- A frame by its prefix, and what the code answers of a prefix.
 use mathlib.Core.Path.{_≡_, refl, sym, subst}
 use mathlib.Core.List.{List}
 use Prim.Native.Nat.{ℕ, _+_, _-_, _<_, _≤_}
@@ -38,7 +38,8 @@ pub prefix-in : (l : List ℕ) → prefix.Whole ≡ prefixOf l → 4 ≤ length 
 unfolding prefixOf
 prefix-in l e =
     subst (PrefixIn (length l)) (sym e)
-    (by-le (PrefixIn (length l)) 4 (length l) (λ h. by-test (PrefixIn (length l)) (leb (number 4 l) (length l)) (λ _. h) (λ _. tt)) (λ h. tt))
+    (by-le (PrefixIn (length l)) 4 (length l) (λ h. by-test (PrefixIn (length l)) (leb (number 4 l) (length l)) (λ _. h) (λ _. tt))
+    (λ h. tt))
 
 module _ (l : List ℕ) where
   pub prefix-short : length l < 4 → prefix.RunsOut ≡ prefixOf l
@@ -67,6 +68,7 @@ pub frame-in : (base : ℕ) (l : List ℕ) → FrameIn (length l) (frameOf base 
 frame-in base l = rw (frame-prefix base l) (by-prefix (prefixOf l) refl)
   where
     by-prefix : (x : Prefix) → x ≡ prefixOf l → FrameIn (length l) (prefixed base l x)
-    by-prefix prefix.Whole e = framed-in (length l) (packet base (drop 4 l) 4) (prefix-in l e) (rw length-drop at (packet-in base (drop 4 l) 4))
+    by-prefix prefix.Whole e = framed-in (length l) (packet base (drop 4 l) 4) (prefix-in l e)
+        (rw length-drop at (packet-in base (drop 4 l) 4))
     by-prefix prefix.Waiting e = tt
     by-prefix prefix.RunsOut e = tt

@@ -1,4 +1,4 @@
--- Every tree takes at least as many bytes as it has nodes, and what is left comes after them. Assumes nothing.
+-- Every tree takes at least as many bytes as it has nodes, and what is left comes after them.
 use Prim.Native.Nat.{ℕ, zero, suc, _+_, _≤_}
 use mathlib.Core.List.{List}
 use native.Mathlib.Omega.{arith}
@@ -6,7 +6,8 @@ use lib.ListN.{length, drop, length-drop}
 use Rattle.types.specs.Forest.{Forest, size}
 use Rattle.number.proofs.Choices.{by-le}
 use Rattle.decoder.specs.Packet.{Out, fault, one, packet}
-use Rattle.decoder.specs.Framing.{Whole, trees, waiting, refusal, single, udp, Frame, tree, wait, stop, frameOf, first, tcp, before, afterFrame, framesAt, frames, tcpVec}
+use Rattle.decoder.specs.Framing.{Whole, trees, waiting, refusal, single, udp, Frame, tree, wait, stop, frameOf, first, tcp, before}
+use Rattle.decoder.specs.Framing.{afterFrame, framesAt, frames, tcpVec}
 use Rattle.decoder.specs.Limits.{forestOf}
 use Rattle.decoder.proofs.Within.{Within, packet-in}
 use Rattle.decoder.proofs.Prefixes.{FrameIn, frame-in}
@@ -60,7 +61,8 @@ after-in go base l (stop k) h w = tt
 after-in go base l wait h w = omega arith
 after-in go base l (tree kind a b f used) h w =
     by-le (WholeIn (length l)) (length l) used (λ g. omega arith)
-    (λ g. before-in kind a b f (length (drop used l)) (length l) (go (base + used) (drop used l)) (omega (arith, length-drop used l)) (h (base + used) (drop used l)))
+    (λ g. before-in kind a b f (length (drop used l)) (length l) (go (base + used) (drop used l)) (omega (arith, length-drop used l))
+    (h (base + used) (drop used l)))
 
 frames-in : (n base : ℕ) (l : List ℕ) → WholeIn (length l) (framesAt n base l)
 unfolding framesAt

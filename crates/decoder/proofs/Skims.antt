@@ -1,4 +1,4 @@
--- Whether an element is accepted, and so where a bundle ends, is known without opening the bundles in it. Assumes nothing.
+-- Whether an element is accepted, and so where a bundle ends, is known without opening the bundles in it.
 use mathlib.Core.Path.{_≡_, refl, ap, sym, _∙_}
 use mathlib.Core.Bool.{Bool, true, false, cond}
 use mathlib.Core.List.{List}
@@ -59,12 +59,14 @@ module _ (base : ℕ) (l : List ℕ) (p : ℕ) where
     is-bundle h =
         let long : 8 ≤ length (drop used l) = omega (arith, length-drop used l) in
         with-accepted _ _ (elements base (drop 8 (drop used l)) (p + used + 8))
-        ∙ ap accepted (sym (bundle-long base (drop used l) (p + used) long)) ∙ after-accepted used (bundle base (drop used l) (p + used)) ∙ accepted-start e
+        ∙ ap accepted (sym (bundle-long base (drop used l) (p + used) long)) ∙ after-accepted used (bundle base (drop used l) (p + used))
+        ∙ accepted-start e
 
     pub is-no-bundle : length l - used < 8 → false ≡ accepted (packet base l p)
     is-no-bundle h =
         let short : length (drop used l) < 8 = omega (arith, length-drop used l) in
-        ap accepted (sym (bundle-short base (drop used l) (p + used) short)) ∙ after-accepted used (bundle base (drop used l) (p + used)) ∙ accepted-start e
+        ap accepted (sym (bundle-short base (drop used l) (p + used) short)) ∙ after-accepted used (bundle base (drop used l) (p + used))
+        ∙ accepted-start e
 
   pub is-refused : {k : Fault} → start.Refused k ≡ startOf l p → false ≡ accepted (packet base l p)
   is-refused e = accepted-start e
@@ -88,11 +90,14 @@ module _ (base : ℕ) (l : List ℕ) (p : ℕ) where
 
   -- the next element is accepted
   pub skim-on : {n : ℕ} → Takes n ≡ skimmed (element base l p)
-      → (4 + n ≤ length l) × (p + usedBy (elements base l p) ≡ p + (4 + n) + usedBy (elements base (take (length l - (4 + n)) (drop (4 + n) l)) (p + (4 + n))))
+      → (4 + n ≤ length l) ×
+      (p + usedBy (elements base l p) ≡ p + (4 + n) + usedBy (elements base (take (length l - (4 + n)) (drop (4 + n) l)) (p + (4 + n))))
   skim-on {n} h = by-out (element base l p) refl h
     where
       by-out : (o : Out) → element base l p ≡ o → Takes n ≡ skimmed o
-          → (4 + n ≤ length l) × (p + usedBy (elements base l p) ≡ p + (4 + n) + usedBy (elements base (take (length l - (4 + n)) (drop (4 + n) l)) (p + (4 + n))))
+          → (4 + n ≤ length l) ×
+          (p + usedBy (elements base l p) ≡ p + (4 + n) + usedBy
+          (elements base (take (length l - (4 + n)) (drop (4 + n) l)) (p + (4 + n))))
       by-out (fault k) e g = let z : _≡_ {A = ℕ} 0 1 = cc in absurd (omega arith)
       by-out (one k a b f u) e g =
           let eu : n ≡ u = cc in

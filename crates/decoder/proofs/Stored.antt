@@ -1,4 +1,4 @@
--- A table in which a forest's records stand from the first byte on, or after the first c records. Assumes nothing.
+-- A table in which a forest's records stand from the first byte on, or after the first c records.
 use mathlib.Core.Path.{_≡_, refl, ap, _∙_}
 use mathlib.Core.List.{List, _++_, append-assoc, append-nil}
 use Prim.Native.Nat.{ℕ, _+_, _-_, _*_, _≤_}
@@ -37,7 +37,13 @@ completed T c j f = take (recordSize * c) T ++ stored j f (drop (recordSize * c)
 
 pub length-completed : (T : List ℕ) (c j : ℕ) (f : Forest) → recordSize * (c + size f) ≤ length T → length (completed T c j f) ≡ length T
 length-completed T c j f h =
-    simp (length-append, length-take) (omega (arith, length-drop (recordSize * c) T, length-stored j f (drop (recordSize * c) T) (omega (arith, length-drop (recordSize * c) T))))
+    simp (length-append, length-take)
+    (omega (
+      arith,
+      length-drop (recordSize * c) T,
+      length-stored j f (drop (recordSize * c) T)
+          (omega (arith, length-drop (recordSize * c) T)),
+    ))
 
 pub completed-nil : (T : List ℕ) (c j : ℕ) → completed T c j nil ≡ T
 completed-nil T c j = rw (stored-nil j (drop (recordSize * c) T)) (take-append-drop (recordSize * c) T)
@@ -45,7 +51,8 @@ completed-nil T c j = rw (stored-nil j (drop (recordSize * c) T)) (take-append-d
 -- the later part was lent and came back with f's records over its first bytes
 pub lent-stored : {Y : List ℕ} (T : List ℕ) (c j : ℕ) (f : Forest) → Y ≡ stored j f (midOf (recordSize * c) (length T - recordSize * c) T)
     → putMid (recordSize * c) (length T - recordSize * c) T Y ≡ completed T c j f
-lent-stored {Y} T c j f e = given-back T Y (recordSize * c) ∙ ap (λ (l : List ℕ). take (recordSize * c) T ++ l) (e ∙ ap (stored j f) (lent T (recordSize * c)))
+lent-stored {Y} T c j f e =
+    given-back T Y (recordSize * c) ∙ ap (λ (l : List ℕ). take (recordSize * c) T ++ l) (e ∙ ap (stored j f) (lent T (recordSize * c)))
 
 records-split : (i k a b : ℕ) (f g : Forest)
     → recordsOf i (node k a b f g) ≡ recordsOf i (node k a b f nil) ++ recordsOf (i + (1 + size f)) g
@@ -58,7 +65,14 @@ glue : (A B G D : List ℕ) (x y z : ℕ) → length A ≡ x → length B ≡ y
     → take (x + y) (A ++ (B ++ drop y D)) ++ (G ++ drop z (drop (x + y) (A ++ (B ++ drop y D)))) ≡ A ++ ((B ++ G) ++ drop (y + z) D)
 glue A B G D x y z ha hb =
     let len : length (A ++ B) ≡ x + y = length-append A B ∙ omega arith in
-    rw (← append-assoc A B (drop y D), take-at (A ++ B) (drop y D) (x + y) len, drop-at (A ++ B) (drop y D) (x + y) len, drop-drop z y D, append-assoc A B, append-assoc B G)
+    rw (
+      ← append-assoc A B (drop y D),
+      take-at (A ++ B) (drop y D) (x + y) len,
+      drop-at (A ++ B) (drop y D) (x + y) len,
+      drop-drop z y D,
+      append-assoc A B,
+      append-assoc B G,
+    )
 
 -- a node of n records was written: what is left to do is what stands after it
 pub completed-turn : {T' : List ℕ} (T : List ℕ) (c n j k a b : ℕ) (f g : Forest) → recordSize * c ≤ length T → n ≡ 1 + size f
@@ -69,7 +83,8 @@ completed-turn T c n j k a b f g h en e =
     let e1 : recordSize * (c + n) ≡ recordSize * c + recordSize * (1 + size f + 0) = omega arith in
     let e2 : recordSize * (1 + size f + size g) ≡ recordSize * (1 + size f + 0) + recordSize * size g = omega arith in
     rw (e, e1, en, records-split j k a b f g, e2)
-    (glue (take (recordSize * c) T) B (recordsOf (j + (1 + size f)) g) (drop (recordSize * c) T) (recordSize * c) (recordSize * (1 + size f + 0)) (recordSize * size g)
+    (glue (take (recordSize * c) T) B (recordsOf (j + (1 + size f)) g) (drop (recordSize * c) T) (recordSize * c)
+    (recordSize * (1 + size f + 0)) (recordSize * size g)
     (length-take-le (recordSize * c) T h) (length-records j (node k a b f nil)))
 
 -- a node's own record, in front of what it contains
@@ -80,5 +95,6 @@ unfolding stored size
 completed-node {T'} {R} T i k a b e f h r ee w =
     let e2 : recordSize * (1 + size f + 0) ≡ recordSize + recordSize * size f = omega arith in
     let d : drop recordSize R ≡ recordsOf (i + 1) f ++ drop (recordSize * size f) (drop recordSize T)
-    = rw r (drop-at (take recordSize T) (recordsOf (i + 1) f ++ drop (recordSize * size f) (drop recordSize T)) recordSize (length-take-le recordSize T h)) in
+    = rw r (drop-at (take recordSize T) (recordsOf (i + 1) f ++ drop (recordSize * size f) (drop recordSize T)) recordSize
+    (length-take-le recordSize T h)) in
     w .left ∙ rw (length-record k e a b, d, ee, ← node-records i k a b f, e2, drop-drop (recordSize * size f) recordSize T, append-assoc)

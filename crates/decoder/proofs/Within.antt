@@ -1,4 +1,4 @@
--- A tree has at most a node for each byte that was used, and no more is used than there is. Assumes nothing.
+-- A tree has at most a node for each byte that was used, and no more is used than there is.
 use mathlib.Core.Path.{_≡_, refl, ap, sym}
 use mathlib.Core.List.{List}
 use Prim.Native.Nat.{ℕ, zero, suc, _+_, _-_, _<_, _≤_}
@@ -17,7 +17,9 @@ use Rattle.arguments.specs.Readings.{keptOf}
 use Rattle.text.proofs.Within.{TextIn, text-within, found-in}
 use Rattle.number.proofs.Choices.{by-test, by-le}
 use Rattle.arguments.proofs.Counts.{kept-few, args-within}
-use Rattle.decoder.specs.Packet.{Out, fault, one, Elements, upto, after, tagsIn, messageWith, typesThen, messageOf, same, bundleWord, bundleWith, bundleOf, filling, elementOf, joined, goOn, elementsOf, startsWith, packetOf, packetAt, elementsAt, packet, elements}
+use Rattle.decoder.specs.Packet.{Out, fault, one, Elements, upto, after, tagsIn, messageWith, typesThen, messageOf, same}
+use Rattle.decoder.specs.Packet.{bundleWord, bundleWith, bundleOf, filling, elementOf, joined, goOn, elementsOf, startsWith}
+use Rattle.decoder.specs.Packet.{packetOf, packetAt, elementsAt, packet, elements}
 use Rattle.decoder.specs.Readings.{element, usedBy, treesIn}
 
 -- ---- packets
@@ -78,9 +80,11 @@ module _ (base : ℕ) where
   start-in es l p (Lacks k) h w = tt
   start-in es l p (Found n used) h w =
       by-test (Within (length l)) (eqb (getD l 0 0) 47)
-      (λ _. after-in used (length l) (messageOf base (base + p) n (drop used l) (p + used)) (w .1) (rw length-drop at (message-in base (base + p) n (drop used l) (p + used))))
+      (λ _. after-in used (length l) (messageOf base (base + p) n (drop used l) (p + used)) (w .1)
+      (rw length-drop at (message-in base (base + p) n (drop used l) (p + used))))
       (λ _. by-test (Within (length l)) (same (take n l) bundleWord)
-      (λ _. after-in used (length l) (bundleOf es (drop used l) (p + used)) (w .1) (rw length-drop at (bundle-of-in es (drop used l) (p + used) (h _ _))))
+      (λ _. after-in used (length l) (bundleOf es (drop used l) (p + used)) (w .1)
+      (rw length-drop at (bundle-of-in es (drop used l) (p + used) (h _ _))))
       (λ _. tt))
 
   packet-of-in : (es : List ℕ → ℕ → Elements) (l : List ℕ) (p : ℕ) → ((m : List ℕ) (q : ℕ) → ElementsIn (length m) (es m q))
@@ -100,7 +104,8 @@ unfolding elementOf
 element-of-in pk l p h =
     by-le (Within (length l - 4)) 4 (length l)
     (λ _. by-le (Within (length l - 4)) (number 4 l) (length l - 4)
-    (λ s. filling-in (number 4 l) _ (length l - 4) (pk (take (number 4 l) (drop 4 l)) (p + 4)) (omega (arith, length-take (number 4 l) (drop 4 l))) s (h _ _))
+    (λ s. filling-in (number 4 l) _ (length l - 4) (pk (take (number 4 l) (drop 4 l)) (p + 4))
+    (omega (arith, length-take (number 4 l) (drop 4 l))) s (h _ _))
     (λ _. tt))
     (λ _. tt)
 
@@ -113,7 +118,8 @@ on-in : (es : List ℕ → ℕ → Elements) (l : List ℕ) (p : ℕ) (o : Out) 
     → Within (length l - 4) o → ElementsIn (length l) (goOn es l p o)
 unfolding size
 on-in es l p (fault k) h w = omega arith
-on-in es l p (one k a b f n) h w = joined-in k a b f n (length l) (es (drop (4 + n) l) (p + (4 + n))) w (rw length-drop at (h (drop (4 + n) l) (p + (4 + n))))
+on-in es l p (one k a b f n) h w =
+    joined-in k a b f n (length l) (es (drop (4 + n) l) (p + (4 + n))) w (rw length-drop at (h (drop (4 + n) l) (p + (4 + n))))
 
 module _ (base : ℕ) where
   mutual
@@ -126,7 +132,8 @@ module _ (base : ℕ) where
     elements-at-in : (n : ℕ) (l : List ℕ) (p : ℕ) → ElementsIn (length l) (elementsAt base n l p)
     elements-at-in zero l p = omega arith
     elements-at-in (suc n) l p =
-        on-in _ l p (elementOf (λ m q. packetAt base n m q) l p) (λ m q. elements-at-in n m q) (element-of-in _ l p (λ m q. packet-at-in n m q))
+        on-in _ l p (elementOf (λ m q. packetAt base n m q) l p) (λ m q. elements-at-in n m q)
+        (element-of-in _ l p (λ m q. packet-at-in n m q))
 
   pub packet-in : (l : List ℕ) (p : ℕ) → Within (length l) (packet base l p)
   unfolding packet

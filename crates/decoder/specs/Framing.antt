@@ -1,4 +1,4 @@
--- Whole inputs: document 01, "How bytes are read", rules 6 and 7, and `decode_udp`. Assumes nothing.
+-- Whole inputs: document 01, "How bytes are read", rules 6 and 7, and `decode_udp`.
 use mathlib.Core.Bool.{cond}
 use mathlib.Core.List.{List}
 use Prim.Native.Nat.{ℕ, zero, suc, _+_, _-_}

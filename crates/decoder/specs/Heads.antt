@@ -1,5 +1,5 @@
 -- What stands at the front of a packet, of an element and of a frame: the tests of Packet.antt and Framing.antt, each told by
--- itself. Assumes nothing.
+-- itself.
 use mathlib.Core.Bool.{cond}
 use mathlib.Core.List.{List}
 use Prim.Native.Nat.{ℕ, _-_}

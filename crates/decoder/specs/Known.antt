@@ -1,4 +1,4 @@
--- What is known of a packet once it was measured. Assumes nothing.
+-- What is known of a packet once it was measured.
 use mathlib.Core.Path.{_≡_}
 use Prim.Native.Nat.{ℕ, _≤_}
 use Rattle.types.specs.Forest.{size}

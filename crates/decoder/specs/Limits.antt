@@ -1,4 +1,4 @@
--- What the decoders answer and leave in the table: document 01, "Refusal numbers" (the decode order) and "The node table". Assumes nothing.
+-- What the decoders answer and leave in the table: document 01, "Refusal numbers" (the decode order) and "The node table".
 use mathlib.Core.Bool.{cond}
 use mathlib.Core.List.{List, _++_}
 use Prim.Native.Nat.{ℕ, _*_}

@@ -1,4 +1,4 @@
--- Packets, messages, bundles and elements: document 01, "How bytes are read", rules 2 and 5. Assumes nothing.
+-- Packets, messages, bundles and elements: document 01, "How bytes are read", rules 2 and 5.
 -- A rule reads at the front of l, which stands at position p of its frame; `base` is added to a position to give an offset.
 -- A rule that reads contained packets is given the rule for them; the knot is tied once, at the end, by the number of bytes.
 use mathlib.Core.Bool.{Bool, true, false, cond}

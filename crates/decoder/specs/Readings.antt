@@ -1,4 +1,4 @@
--- What the two readings answer: the first writes nothing, the second fills a table that has room. Assumes nothing.
+-- What the two readings answer: the first writes nothing, the second fills a table that has room.
 -- A position that is answered is the one after the last byte that was read.
 use mathlib.Core.Path.{_≡_}
 use mathlib.Core.Bool.{Bool, true, false, cond}
@@ -88,7 +88,8 @@ pub record Fills (o : Out) (p i : ℕ) (before : List ℕ) (answer : Filled) (af
 
 -- the first reading of a frame
 abbrev pub frameExtent : ℕ → Frame → FrameExtent
-frameExtent limit (tree kind a b inside used) = cond (leb (level kind (depth inside)) limit) (frame.Tree (1 + size inside) used) (frame.Deep used)
+frameExtent limit (tree kind a b inside used) =
+    cond (leb (level kind (depth inside)) limit) (frame.Tree (1 + size inside) used) (frame.Deep used)
 frameExtent limit wait = frame.Waiting
 frameExtent limit (stop k) = frame.Refused k
 

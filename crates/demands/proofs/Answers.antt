@@ -1,4 +1,4 @@
--- What an answer with packets shows of the input and of the table. Assumes nothing.
+-- What an answer with packets shows of the input and of the table.
 use mathlib.Core.Path.{_≡_, sym, ap, _∙_}
 use mathlib.Core.List.{List, _++_}
 use Prim.Native.Nat.{ℕ, _*_}
@@ -24,7 +24,8 @@ pub record Accepted (w : Whole) (count left : ℕ) : Type 0 where
 module _ {count left : ℕ} where
   limited-accepted : (capacity limit : ℕ) (w : Whole) → limited capacity limit w ≡ Packets count left → Accepted w count left
   limited-accepted capacity limit (trees f n) e =
-      by-trees (λ r. r ≡ Packets count left → Accepted (trees f n) count left) capacity limit f n (λ h p. no-packets (sym p)) (λ h p. no-packets (sym p))
+      by-trees (λ r. r ≡ Packets count left → Accepted (trees f n) count left) capacity limit f n (λ h p. no-packets (sym p))
+      (λ h p. no-packets (sym p))
       (λ h k p. let l : n ≡ left = cc in record { read = rw l; counts = cc }) e
   limited-accepted capacity limit waiting e = let z : _≡_ {A = ℕ} 0 1 = cc in absurd (omega arith)
   limited-accepted capacity limit (refusal k) e = no-packets (sym e)
@@ -32,7 +33,8 @@ module _ {count left : ℕ} where
   pub accepted : (rule : List ℕ → Whole) (capacity limit : ℕ) (msg : List ℕ) → decoded rule capacity limit msg ≡ Packets count left
       → Accepted (rule msg) count left
   accepted rule capacity limit msg =
-      by-decoded (λ r. r ≡ Packets count left → Accepted (rule msg) count left) rule capacity limit msg (λ h p. no-packets (sym p)) (λ h p. no-packets (sym p))
+      by-decoded (λ r. r ≡ Packets count left → Accepted (rule msg) count left) rule capacity limit msg (λ h p. no-packets (sym p))
+      (λ h p. no-packets (sym p))
       (λ h k. limited-accepted capacity limit (rule msg))
 
   module _ (rule : List ℕ → Whole) (limit : ℕ) (msg table : List ℕ) (e : answer rule limit msg table ≡ Packets count left) where
@@ -46,4 +48,5 @@ module _ {count left : ℕ} where
     after-records =
         let f = forestOf (rule msg) in
         ap (take (recordSize * count)) after-is
-        ∙ take-at (recordsOf 0 f) _ (recordSize * count) (length-records 0 f ∙ ap (λ (n : ℕ). recordSize * n) (accepted rule _ limit msg e .counts))
+        ∙ take-at (recordsOf 0 f) _ (recordSize * count)
+        (length-records 0 f ∙ ap (λ (n : ℕ). recordSize * n) (accepted rule _ limit msg e .counts))

@@ -1,4 +1,4 @@
--- Demand 3: n records always hold what n bytes decode to. Assumes nothing.
+-- Demand 3: n records always hold what n bytes decode to.
 use mathlib.Core.Path.{_≡_}
 use mathlib.Core.List.{List}
 use Prim.Native.Nat.{ℕ, _≤_}
@@ -26,7 +26,8 @@ not-ten capacity limit n (refusal k) h w = λ e. let z : _≡_ {A = ℕ} 0 1 = c
 
 holds : (rule : List ℕ → Whole) → ((msg : List ℕ) → WholeIn (length msg) (rule msg)) → RecordsHold rule
 holds rule counts msg limit capacity h =
-    by-decoded NotTen rule capacity limit msg (λ g e. let z : _≡_ {A = ℕ} 0 1 = cc in omega arith) (λ g e. let z : _≡_ {A = ℕ} 0 1 = cc in omega arith)
+    by-decoded NotTen rule capacity limit msg (λ g e. let z : _≡_ {A = ℕ} 0 1 = cc in omega arith) (λ g e. let z : _≡_ {A = ℕ} 0 1 = cc in
+    omega arith)
     (λ g k. not-ten capacity limit (length msg) (rule msg) h (counts msg))
 
 pub records-hold-udp : RecordsHold udp

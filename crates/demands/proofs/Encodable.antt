@@ -1,4 +1,4 @@
--- What is decoded can be encoded: a table that was answered for one packet is well formed over the call's input. Assumes nothing.
+-- What is decoded can be encoded: a table that was answered for one packet is well formed over the call's input.
 use mathlib.Core.Path.{_≡_, sym, ap, subst, _∙_}
 use mathlib.Core.Logic.{⊎-elim}
 use mathlib.Core.List.{List, _++_}
@@ -11,7 +11,8 @@ use Rattle.refusal.specs.declared.Refusal.the-variants.{TableFull}
 use Rattle.types.specs.Forest.{Forest, nil, node, size, depth}
 use Rattle.types.specs.Records.{recordSize, recordsOf}
 use Rattle.decoder.specs.Packet.{Out, fault, one, packet}
-use Rattle.decoder.specs.Framing.{Whole, trees, waiting, refusal, single, udp, Frame, tree, wait, stop, framed, frameOf, first, tcp, before, afterFrame, framesAt, frames, tcpVec}
+use Rattle.decoder.specs.Framing.{Whole, trees, waiting, refusal, single, udp, Frame, tree, wait, stop, framed, frameOf, first, tcp}
+use Rattle.decoder.specs.Framing.{before, afterFrame, framesAt, frames, tcpVec}
 use Rattle.decoder.specs.Limits.{decoded, forestOf}
 use Rattle.decoder.specs.declared.Decoded.{Decoded}
 use Rattle.decoder.specs.declared.Decoded.the-variants.{Packets, Refused}
@@ -65,7 +66,8 @@ module _ (s : List ℕ) (small : Bytes s) (low : length s < 256 ^ 4) where
   unfolding frameOf
   frame-sound base {l} at =
       by-le (FrameSound s) 4 (length l)
-      (λ h. by-le (FrameSound s) (number 4 l) (length l) (λ _. framed-sound s (packet base (drop 4 l) 4) (packet-sound small low base (drop 4 l) 4 (at-drop 4 h at))) (λ _. tt))
+      (λ h. by-le (FrameSound s) (number 4 l) (length l)
+      (λ _. framed-sound s (packet base (drop 4 l) 4) (packet-sound small low base (drop 4 l) 4 (at-drop 4 h at))) (λ _. tt))
       (λ _. tt)
 
   tcp-sound : WholeSound s (tcp s)
@@ -104,7 +106,8 @@ module _ (rule : List ℕ → Whole) (limit : ℕ) (msg : List ℕ) (F : Forest)
   within capacity {count} {left} =
       let P : Decoded → Type 0 = λ r. r ≡ Packets count left → InLimits limit msg F in
       by-decoded P rule capacity limit msg (λ _ q. no-packets (sym q)) (λ _ q. no-packets (sym q))
-      (λ h k. rw e (by-trees P capacity limit F n (λ _ q. no-packets (sym q)) (λ _ q. no-packets (sym q)) (λ d c q. record { limits = h; short = k; shallow = d })))
+      (λ h k. rw e (by-trees P capacity limit F n (λ _ q. no-packets (sym q)) (λ _ q. no-packets (sym q))
+      (λ d c q. record { limits = h; short = k; shallow = d })))
 
   -- there are no more nodes than bytes, since so many records always hold them
   few : RecordsHold rule → InLimits limit msg F → size F ≤ length msg
@@ -112,7 +115,14 @@ module _ (rule : List ℕ → Whole) (limit : ℕ) (msg : List ℕ) (F : Forest)
   few holds w = ⊎-elim (λ h. absurd (holds msg limit (length msg) (omega arith) (full h))) (λ h. h) (lt-or-le (length msg) (size F))
     where
       full : length msg < size F → decoded rule (length msg) limit msg ≡ Refused TableFull
-      full h = rw (le-leb limit 64 (w .limits), le-leb (length msg) 65535 (w .short), e, le-leb (depth F) limit (w .shallow), lt-leb (size F) (length msg) h)
+      full h = rw (
+        le-leb limit 64 (w .limits),
+        le-leb (length msg) 65535 (w .short),
+        e,
+        le-leb (depth F) limit (w .shallow),
+        lt-leb
+            (size F) (length msg) h,
+      )
 
 -- ---- the table
 
@@ -126,7 +136,9 @@ encodable rule holds sound msg small limit table k a b inside left count e q =
     let is : after rule limit msg table ≡ recordsOf 0 F ++ drop (recordSize * size F) table
     = after-is rule limit msg table q ∙ ap (λ (w : Whole). recordsOf 0 (forestOf w) ++ drop (recordSize * size (forestOf w)) table) e in
     let c : size F ≡ count = rw e at (accepted rule (length table / recordSize) limit msg q .counts) in
-    rw (← c) (tree-formed (bytes-tree (after rule limit msg table) (drop (recordSize * size F) table) msg k a b inside is (s .fits) (omega (arith, w .short)) (s .obeys)))
+    rw (← c) (tree-formed
+    (bytes-tree (after rule limit msg table) (drop (recordSize * size F) table) msg k a b inside is (s .fits) (omega (arith, w .short))
+    (s .obeys)))
 
 pub encodable-udp : Encodable udp
 encodable-udp = encodable udp records-hold-udp udp-sound

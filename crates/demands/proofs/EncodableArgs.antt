@@ -1,5 +1,5 @@
 -- What is read is sound: every argument that a message is read to have obeys the rules of a well-formed table, and its fields
--- fit. Assumes nothing.
+-- fit.
 use mathlib.Core.Path.{_≡_, refl, sym, ap, subst, _∙_}
 use mathlib.Core.Bool.{Bool, true, false}
 use mathlib.Core.List.{List, [], _∷_}
@@ -56,7 +56,10 @@ module _ {s : List ℕ} {container : ℕ} where
   pub sound-node : {k a b : ℕ} {f g : Forest} → NodeSound s container k a b f → Sound s container g → Sound s container (node k a b f g)
   unfolding Obeys FieldsFit
   sound-node n r =
-      record { obeys = (n .rules, n .range, n .may, n .in-sound .obeys, r .obeys); fits = (n .low .0, n .low .1, n .in-sound .fits, r .fits) }
+      record {
+        obeys = (n .rules, n .range, n .may, n .in-sound .obeys, r .obeys);
+        fits = (n .low .0, n .low .1, n .in-sound .fits, r .fits);
+      }
 
   sound-snoc : (F : Forest) {k a b : ℕ} {f : Forest} → NodeSound s container k a b f → Sound s container F
       → Sound s container (snoc F k a b f)
@@ -64,7 +67,10 @@ module _ {s : List ℕ} {container : ℕ} where
   sound-snoc nil n w = sound-node n w
   sound-snoc (node k' a' b' f' rest) n w =
       let r = sound-snoc rest n (record { obeys = w .obeys .4; fits = w .fits .3 }) in
-      record { obeys = (w .obeys .0, w .obeys .1, w .obeys .2, w .obeys .3, r .obeys); fits = (w .fits .0, w .fits .1, w .fits .2, r .fits) }
+      record {
+        obeys = (w .obeys .0, w .obeys .1, w .obeys .2, w .obeys .3, r .obeys);
+        fits = (w .fits .0, w .fits .1, w .fits .2, r .fits);
+      }
 
 -- what may stand in an array may stand in a message
 in-message : {s : List ℕ} (F : Forest) → Sound s 91 F → Sound s 47 F
@@ -95,9 +101,12 @@ module _ {s : List ℕ} (base : ℕ) {l : List ℕ} (p : ℕ) (at : At s (base +
   leaf-sound : (class : Class) (tag : ℕ) → HasTag tag class → LeafSound s class tag (argOf class base l p)
   unfolding argOf rangeOk
   leaf-sound Four tag t =
-      by-le (LeafSound s Four tag) 4 (length l) (λ _. (refl, of-among (λ k. rangeOk s k (number 4 l) 0 ≡ true) tag words (refl, (refl, (refl, (refl, tt)))) t)) (λ _. tt)
+      by-le (LeafSound s Four tag) 4 (length l)
+      (λ _. (refl, of-among (λ k. rangeOk s k (number 4 l) 0 ≡ true) tag words (refl, (refl, (refl, (refl, tt)))) t)) (λ _. tt)
   leaf-sound Eight tag t =
-      by-le (LeafSound s Eight tag) 8 (length l) (λ _. (refl, of-among (λ k. rangeOk s k (number 4 l) (number 4 (drop 4 l)) ≡ true) tag longs (refl, (refl, (refl, tt))) t)) (λ _. tt)
+      by-le (LeafSound s Eight tag) 8 (length l)
+      (λ _. (refl, of-among (λ k. rangeOk s k (number 4 l) (number 4 (drop 4 l)) ≡ true) tag longs (refl, (refl, (refl, tt))) t))
+      (λ _. tt)
   leaf-sound Bare tag t = (refl, of-among (λ k. rangeOk s k 0 0 ≡ true) tag bares (refl, (refl, (refl, (refl, tt)))) t)
   leaf-sound String tag t = by-text (textOf l p) refl
     where
@@ -114,7 +123,8 @@ module _ {s : List ℕ} (base : ℕ) {l : List ℕ} (p : ℕ) (at : At s (base +
       (λ _. tt))
       (λ _. tt)
   leaf-sound Scalar tag t =
-      by-le (LeafSound s Scalar tag) 4 (length l) (λ _. by-test (LeafSound s Scalar tag) (isScalar (number 4 l)) (λ e. (e, rw t refl)) (λ _. tt)) (λ _. tt)
+      by-le (LeafSound s Scalar tag) 4 (length l)
+      (λ _. by-test (LeafSound s Scalar tag) (isScalar (number 4 l)) (λ e. (e, rw t refl)) (λ _. tt)) (λ _. tt)
   leaf-sound Unknown tag t = tt
 
 -- a tag with data is no packet's kind
@@ -176,7 +186,8 @@ module _ {s : List ℕ} (small : Bytes s) (low : length s < 256 ^ 4) (base : ℕ
       → ArgsSound s (act sort go base tag l p frame below)
   act-sound Opens tag e t go {l} p frame below at w v h = h l p nil (frame ∷ below) at sound-nil (w, v)
   act-sound Closes tag e t go p frame [] at w v h = tt
-  act-sound Closes tag e t go {l} p frame (outer ∷ below) at w v h = h l p (snoc outer 91 0 0 frame) below at (sound-snoc outer (array-node w) (v .0)) (v .1)
+  act-sound Closes tag e t go {l} p frame (outer ∷ below) at w v h = h l p (snoc outer 91 0 0 frame) below at
+      (sound-snoc outer (array-node w) (v .0)) (v .1)
   act-sound (Leaf class) tag e t go {l} p frame below at w v h = by-arg (argOf class base l p) refl
     where
       by-arg : (x : Arg) → x ≡ argOf class base l p → ArgsSound s (taken (λ m q f. go m q f below) tag l p frame x)
@@ -184,7 +195,8 @@ module _ {s : List ℕ} (small : Bytes s) (low : length s < 256 ^ 4) (base : ℕ
       by-arg (arg.Given a b used) g =
           let n = given-within class base l p g in
           later-sound s used (go (drop used l) (p + used) (snoc frame tag a b nil) below)
-          (h (drop used l) (p + used) (snoc frame tag a b nil) below (at-on base p used n at) (sound-snoc frame (leaf-node p at class tag e (t .1) g) w) v)
+          (h (drop used l) (p + used) (snoc frame tag a b nil) below (at-on base p used n at)
+          (sound-snoc frame (leaf-node p at class tag e (t .1) g) w) v)
 
   read-sound : (ts : List ℕ) {l : List ℕ} (p : ℕ) (frame : Forest) (below : List Forest) → At s (base + p) l → Sound s 91 frame
       → AllSound s below
@@ -192,7 +204,8 @@ module _ {s : List ℕ} (small : Bytes s) (low : length s < 256 ^ 4) (base : ℕ
   unfolding readArgs
   read-sound [] p frame below at w v = w
   read-sound (t ∷ ts) p frame below at w v =
-      act-sound (sortOf t) t refl (has-sort t) (λ m q f b. readArgs base ts m q f b) p frame below at w v (λ m q f b. read-sound ts {l = m} q f b)
+      act-sound (sortOf t) t refl (has-sort t) (λ m q f b. readArgs base ts m q f b) p frame below at w v
+      (λ m q f b. read-sound ts {l = m} q f b)
 
   pub args-sound : (ts : List ℕ) {l : List ℕ} (p : ℕ) → At s (base + p) l → {kept : Forest} {used : ℕ}
       → args kept used ≡ argsOf base ts l p → Sound s 47 kept

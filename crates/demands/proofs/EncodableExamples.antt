@@ -1,5 +1,5 @@
 -- Examples, computed, that meet the hypotheses of `encodable-udp`, `-tcp` and `-vec`: document 01's P3, bare and behind its
--- length. Assumes nothing.
+-- length.
 use mathlib.Core.Path.{refl}
 use mathlib.Core.List.{List, _∷_}
 use Prim.Native.Nat.{ℕ}
@@ -32,5 +32,6 @@ unfolding number size depth snoc classOf sortOf textOf argOf readArgs messageOf 
 by-tcp = encodable-tcp framed (small-bytes framed tt) 64 (blank 2) 47 4 2 p3.five 0 2 refl refl
 
 by-vec : WellFormed (after tcpVec 64 framed (blank 2)) 2 framed
-unfolding number size depth snoc classOf sortOf textOf argOf readArgs messageOf packetOf packetAt packet frameOf framesAt frames tcpVec decoded
+unfolding number size depth snoc classOf sortOf textOf argOf readArgs messageOf packetOf packetAt packet frameOf framesAt frames tcpVec
+    decoded
 by-vec = encodable-vec framed (small-bytes framed tt) 64 (blank 2) 47 4 2 p3.five 0 2 refl refl

@@ -1,4 +1,4 @@
--- Every packet that is read obeys the rules of a well-formed table over the call's input, and its fields fit. Assumes nothing.
+-- Every packet that is read obeys the rules of a well-formed table over the call's input, and its fields fit.
 use mathlib.Core.Path.{_≡_, refl}
 use mathlib.Core.Bool.{true}
 use mathlib.Core.List.{List}
@@ -13,7 +13,9 @@ use Rattle.text.specs.Text.{textOf}
 use Rattle.text.specs.declared.Text.{Text}
 use Rattle.text.specs.declared.Text.the-variants.{Found, Lacks}
 use Rattle.arguments.specs.Arguments.{Args, refused, args, argsOf}
-use Rattle.decoder.specs.Packet.{Out, fault, one, Elements, upto, after, tagsIn, messageWith, typesThen, messageOf, same, bundleWord, bundleWith, bundleOf, filling, elementOf, joined, goOn, elementsOf, startsWith, packetOf, packetAt, elementsAt, packet}
+use Rattle.decoder.specs.Packet.{Out, fault, one, Elements, upto, after, tagsIn, messageWith, typesThen, messageOf, same, bundleWord}
+use Rattle.decoder.specs.Packet.{bundleWith, bundleOf, filling, elementOf, joined, goOn, elementsOf, startsWith, packetOf, packetAt}
+use Rattle.decoder.specs.Packet.{elementsAt, packet}
 use Rattle.table.specs.Formed.{rangeOk, allowed}
 use Rattle.demands.specs.Words.{Bytes}
 use Rattle.number.proofs.Choices.{by-test, by-le}
@@ -48,14 +50,16 @@ module _ {s : List ℕ} (small : Bytes s) (low : length s < 256 ^ 4) (base : ℕ
     with-sound : (o : Args) → ((kept : Forest) (used : ℕ) → args kept used ≡ o → Sound s 47 kept) → OutSound s (messageWith q n o)
     unfolding ownRules allowed
     with-sound (refused k) h = tt
-    with-sound (args kept used) h = record { rules = refl; range = address; may = refl; low = (omega arith, omega arith); in-sound = h kept used refl }
+    with-sound (args kept used) h = record
+        { rules = refl; range = address; may = refl; low = (omega arith, omega arith); in-sound = h kept used refl }
 
     types-sound : (l : List ℕ) (p : ℕ) (t : Text) → At s (base + p) l → t ≡ textOf l p → OutSound s (typesThen base q n l p t)
     types-sound l p (Lacks k) at e = tt
     types-sound l p (Found m used) at e =
         let w = found-in l p e in
         let o = argsOf base (tagsIn (take m l)) (drop used l) (p + used) in
-        after-sound s used (messageWith q n o) (with-sound o (λ kept v g. args-sound small low base (tagsIn (take m l)) (p + used) (at-on base p used (w .1) at) g))
+        after-sound s used (messageWith q n o)
+        (with-sound o (λ kept v g. args-sound small low base (tagsIn (take m l)) (p + used) (at-on base p used (w .1) at) g))
 
     message-sound : (l : List ℕ) (p : ℕ) → At s (base + p) l → OutSound s (messageOf base q n l p)
     unfolding messageOf
@@ -67,12 +71,19 @@ module _ {s : List ℕ} (small : Bytes s) (low : length s < 256 ^ 4) (base : ℕ
       → ((m : List ℕ) (q : ℕ) → At s (base + q) m → ElementsSound s (es m q))
       → OutSound s (bundleOf es l p)
   unfolding bundleOf ownRules rangeOk allowed
-  bundle-sound es {l} p at h = by-le (OutSound s) 8 (length l) (λ k. with-elements (es (drop 8 l) (p + 8)) (h (drop 8 l) (p + 8) (at-on base p 8 k at))) (λ _. tt)
+  bundle-sound es {l} p at h = by-le (OutSound s) 8 (length l)
+      (λ k. with-elements (es (drop 8 l) (p + 8)) (h (drop 8 l) (p + 8) (at-on base p 8 k at))) (λ _. tt)
     where
       with-elements : (x : Elements) → ElementsSound s x → OutSound s (bundleWith (number 4 l) (number 4 (drop 4 l)) x)
       with-elements (upto f used) w =
           let b = at-bytes small at in
-          record { rules = refl; range = refl; may = refl; low = (number-small 4 l b, number-small 4 (drop 4 l) (drop-small 4 l b)); in-sound = w }
+          record {
+            rules = refl;
+            range = refl;
+            may = refl;
+            low = (number-small 4 l b, number-small 4 (drop 4 l) (drop-small 4 l b));
+            in-sound = w;
+          }
 
   -- ---- packets
 
@@ -113,7 +124,8 @@ module _ {s : List ℕ} (small : Bytes s) (low : length s < 256 ^ 4) (base : ℕ
         let P : Out → Type 0 = λ o. ElementsSound s (goOn es l p o) in
         by-le P 4 (length l)
         (λ h. by-le P n (length l - 4)
-        (λ k. filled-sound p n (pk (take n (drop 4 l)) (p + 4)) (omega arith) at (hp (take n (drop 4 l)) (p + 4) (at-take n (at-on base p 4 h at))))
+        (λ k. filled-sound p n (pk (take n (drop 4 l)) (p + 4)) (omega arith) at
+        (hp (take n (drop 4 l)) (p + 4) (at-take n (at-on base p 4 h at))))
         (λ _. sound-nil))
         (λ _. sound-nil)
 

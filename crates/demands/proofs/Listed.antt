@@ -1,4 +1,4 @@
--- Demand 1: each call ends in an answer from document 01 or one of the refusals that it lists for the call. Assumes nothing.
+-- Demand 1: each call ends in an answer from document 01 or one of the refusals that it lists for the call.
 use mathlib.Core.Path.{_≡_, refl, sym, subst}
 use mathlib.Core.Bool.{Bool, true, false, _&&_}
 use mathlib.Core.List.{List}
@@ -16,12 +16,15 @@ use Rattle.types.specs.Look.{capacity, lookAt}
 use Rattle.types.specs.declared.look.Looked.{Looked}
 use Rattle.number.specs.declared.Padded.{Padded}
 use Rattle.decoder.specs.Packet.{Out, fault, one, packet}
-use Rattle.decoder.specs.Framing.{Whole, trees, waiting, refusal, single, udp, Frame, tree, wait, stop, frameOf, tcp, before, afterFrame, framesAt, frames, tcpVec}
+use Rattle.decoder.specs.Framing.{Whole, trees, waiting, refusal, single, udp, Frame, tree, wait, stop, frameOf, tcp, before, afterFrame}
+use Rattle.decoder.specs.Framing.{framesAt, frames, tcpVec}
 use Rattle.decoder.specs.Limits.{limited, decoded}
 use Rattle.decoder.specs.declared.Decoded.{Decoded}
 use Rattle.encoder.specs.Osc.{oscString, packetOf}
 use Rattle.encoder.specs.Outcome.{Outcome, write, encoded, Encodes, malformed, formed, stringOutcome}
-use Rattle.demands.specs.Calls.{decode-udp, decode-tcp, decode-tcp-vec, encode, encode-tcp, encode-string, pad, look, text-of, byDecoded, byEncoded, byPadded, byLooked, decodeOrder, encodeOrder, numbersOf, Listed, AnswersListed}
+use Rattle.demands.specs.Calls.{decode-udp, decode-tcp, decode-tcp-vec, encode, encode-tcp, encode-string, pad, look, text-of}
+use Rattle.demands.specs.Calls.{byDecoded, byEncoded, byPadded, byLooked, decodeOrder, encodeOrder, numbersOf, Listed}
+use Rattle.demands.specs.Calls.{AnswersListed}
 use Rattle.number.proofs.Choices.{by-test, by-le}
 use Rattle.decoder.proofs.Chosen.{by-decoded, by-trees}
 
@@ -56,7 +59,8 @@ after-never : (go : ℕ → List ℕ → Whole) (base : ℕ) (l : List ℕ) (x :
 after-never go base l (stop k) h = tt
 after-never go base l wait h = tt
 after-never go base l (tree kind a b f used) h =
-    by-le (MayWait false) (length l) used (λ g. tt) (λ g. before-never kind a b f (go (base + used) (drop used l)) (h (base + used) (drop used l)))
+    by-le (MayWait false) (length l) used (λ g. tt)
+    (λ g. before-never kind a b f (go (base + used) (drop used l)) (h (base + used) (drop used l)))
 
 frames-never : (n base : ℕ) (l : List ℕ) → MayWait false (framesAt n base l)
 unfolding framesAt
@@ -85,7 +89,8 @@ limited-listed b capacity limit (refusal NotScalar) h = refl
 decoded-listed : (b : Bool) (rule : List ℕ → Whole) (capacity limit : ℕ) (msg : List ℕ) {r : Decoded}
     → r ≡ decoded rule capacity limit msg → MayWait b (rule msg) → Decoding b r
 decoded-listed b rule capacity limit msg e h =
-    subst (Decoding b) (sym e) (by-decoded (Decoding b) rule capacity limit msg (λ g. refl) (λ g. refl) (λ g k. limited-listed b capacity limit (rule msg) h))
+    subst (Decoding b) (sym e)
+    (by-decoded (Decoding b) rule capacity limit msg (λ g. refl) (λ g. refl) (λ g k. limited-listed b capacity limit (rule msg) h))
 
 -- ---- encoders
 
@@ -104,7 +109,8 @@ unfolding encoded
 encodes-listed (malformed n e) = subst (Encoding encodeOrder) (sym e) refl
 encodes-listed {frame} {source = source} {out = out} (formed kind a b inside w e) =
     subst (Encoding encodeOrder) (sym e)
-    (by-le (Encoding encodeOrder) (depth (node kind a b inside nil)) 64 (λ h. write-listed encodeOrder (frame kind (packetOf source kind a b inside)) out refl refl) (λ h. refl))
+    (by-le (Encoding encodeOrder) (depth (node kind a b inside nil)) 64
+    (λ h. write-listed encodeOrder (frame kind (packetOf source kind a b inside)) out refl refl) (λ h. refl))
 
 string-listed : (text out : List ℕ) → Encoding (numbersOf (encode-string text out)) (stringOutcome text out)
 unfolding stringOutcome

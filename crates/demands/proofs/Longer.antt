@@ -1,4 +1,4 @@
--- Demand 3: more bytes never take back a packet that a single-packet call gave. Assumes nothing.
+-- Demand 3: more bytes never take back a packet that a single-packet call gave.
 use mathlib.Core.Path.{_≡_, refl, ap, sym, _∙_}
 use mathlib.Core.List.{List, _++_}
 use Prim.Native.Nat.{ℕ}
@@ -65,8 +65,10 @@ given : (rule : List ℕ → Whole) (capacity limit : ℕ) (msg : List ℕ) {f :
     → Unlimited (decoded rule capacity limit msg)
     → decoded rule capacity limit msg ≡ Packets (size f) left
 given rule capacity limit msg {f} {left} e =
-    by-decoded (λ r. Unlimited r → r ≡ Packets (size f) left) rule capacity limit msg (λ h u. absurd (u .not-13 refl)) (λ h u. absurd (u .not-1 refl))
-    (λ h k. rw e (by-trees (λ r. Unlimited r → r ≡ Packets (size f) left) capacity limit f left (λ d u. absurd (u .not-9 refl)) (λ d u. absurd (u .not-10 refl)) (λ d c u. refl)))
+    by-decoded (λ r. Unlimited r → r ≡ Packets (size f) left) rule capacity limit msg (λ h u. absurd (u .not-13 refl))
+    (λ h u. absurd (u .not-1 refl))
+    (λ h k. rw e (by-trees (λ r. Unlimited r → r ≡ Packets (size f) left) capacity limit f left (λ d u. absurd (u .not-9 refl))
+    (λ d u. absurd (u .not-10 refl)) (λ d c u. refl)))
 
 module _ (rule : List ℕ → Whole) (longer : (msg more : List ℕ) → Longer (rule msg) (rule (msg ++ more))) where
   more-bytes : MoreBytes rule
@@ -79,16 +81,19 @@ module _ (rule : List ℕ → Whole) (longer : (msg more : List ℕ) → Longer 
       by-longer w w' x y (goes-on {left' = left'} on) =
           let n = accepted rule _ limit msg e .counts in
           let tree : Continues (forestOf (rule msg)) (forestOf (rule (msg ++ more))) = rw (x, y) on in
-          let e' : answer rule limit' (msg ++ more) table' ≡ Packets (size (forestOf (rule (msg ++ more)))) left' = rw y (given rule _ limit' (msg ++ more) y u) in
+          let e' : answer rule limit' (msg ++ more) table' ≡ Packets (size (forestOf (rule (msg ++ more)))) left' = rw y
+          (given rule _ limit' (msg ++ more) y u) in
           record {
             tree = tree;
             left = left';
             answers = e';
-            continues = rw (after-is rule limit msg table e, after-is rule limit' (msg ++ more) table' e', ← n) (tables.table-continues _ _ tree);
+            continues = rw (after-is rule limit msg table e, after-is rule limit' (msg ++ more) table' e', ← n)
+                (tables.table-continues _ _ tree);
             message = λ k.
                 let same = tables.same-message _ tree (rw (after-is rule limit msg table e) at k) in
                 let n' : size (forestOf (rule (msg ++ more))) ≡ count = ap size same ∙ n in
-                after-records rule limit' (msg ++ more) table' (e' ∙ ap (λ (c : ℕ). Packets c left') n') ∙ ap (recordsOf 0) same ∙ sym (after-records rule limit msg table e);
+                after-records rule limit' (msg ++ more) table' (e' ∙ ap (λ (c : ℕ). Packets c left') n') ∙ ap (recordsOf 0) same
+                ∙ sym (after-records rule limit msg table e);
           }
 
 pub more-bytes-udp : MoreBytes udp

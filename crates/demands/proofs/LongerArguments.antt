@@ -1,4 +1,4 @@
--- Bytes appended to a text or to a message's data: what was accepted is read as it was. Assumes nothing.
+-- Bytes appended to a text or to a message's data: what was accepted is read as it was.
 use mathlib.Core.Path.{_≡_, refl, ap}
 use mathlib.Core.Bool.{Bool, true, false, cond}
 use mathlib.Core.List.{List, [], _∷_, _++_}
@@ -109,13 +109,15 @@ module _ (more : List ℕ) where
   later-longer n (refused k) y e = tt
   later-longer n (args f used) y e = rw e
 
-  act-longer : (s : Sort) (go : List ℕ → ℕ → Forest → List Forest → Args) (base tag : ℕ) (l : List ℕ) (p : ℕ) (frame : Forest) (below : List Forest)
+  act-longer : (s : Sort) (go : List ℕ → ℕ → Forest → List Forest → Args) (base tag : ℕ) (l : List ℕ) (p : ℕ) (frame : Forest)
+      (below : List Forest)
       → ((m : List ℕ) (q : ℕ) (f : Forest) (b : List Forest) → KeptArgs (go m q f b) (go (m ++ more) q f b))
       → KeptArgs (act s go base tag l p frame below) (act s go base tag (l ++ more) p frame below)
   act-longer Opens go base tag l p frame below h = h l p nil (frame ∷ below)
   act-longer Closes go base tag l p frame [] h = tt
   act-longer Closes go base tag l p frame (outer ∷ below) h = h l p (snoc outer 91 0 0 frame) below
-  act-longer (Leaf class) go base tag l p frame below h = by-arg (argOf class base l p) (argOf class base (l ++ more) p) refl (arg-longer class base l p)
+  act-longer (Leaf class) go base tag l p frame below h = by-arg (argOf class base l p) (argOf class base (l ++ more) p) refl
+      (arg-longer class base l p)
     where
       by-arg : (x y : Arg) → x ≡ argOf class base l p → KeptArg x y
           → KeptArgs (taken (λ m q f. go m q f below) tag l p frame x) (taken (λ m q f. go m q f below) tag (l ++ more) p frame y)
@@ -130,7 +132,8 @@ module _ (more : List ℕ) where
       → KeptArgs (readArgs base tags l p frame below) (readArgs base tags (l ++ more) p frame below)
   unfolding readArgs
   read-longer base [] l p frame below = refl
-  read-longer base (tag ∷ tags) l p frame below = act-longer (sortOf tag) _ base tag l p frame below (λ m q f b. read-longer base tags m q f b)
+  read-longer base (tag ∷ tags) l p frame below = act-longer (sortOf tag) _ base tag l p frame below
+      (λ m q f b. read-longer base tags m q f b)
 
   pub args-longer : (base : ℕ) (tags l : List ℕ) (p : ℕ) → KeptArgs (argsOf base tags l p) (argsOf base tags (l ++ more) p)
   args-longer base tags l p = read-longer base tags l p nil []

@@ -1,4 +1,4 @@
--- Examples, computed: calls that meet the hypotheses of `more-bytes`, with a bundle that grows and with a message. Assumes nothing.
+-- Examples, computed: calls that meet the hypotheses of `more-bytes`, with a bundle that grows and with a message.
 use mathlib.Core.Path.{_≡_, refl}
 use mathlib.Core.List.{List, [], _∷_, _++_}
 use Prim.Native.Nat.{ℕ}
@@ -32,20 +32,24 @@ unlimited e =
 -- ---- a bundle with one element gets a second one
 
 two-elements : answer udp 1 ((empty ++ element) ++ element) (blank 3) ≡ Packets 3 0
-unfolding number size depth snoc classOf sortOf textOf argOf readArgs messageOf bundleOf elementOf elementsOf packetOf packetAt packet udp decoded
+unfolding number size depth snoc classOf sortOf textOf argOf readArgs messageOf bundleOf elementOf elementsOf packetOf packetAt packet udp
+    decoded
 two-elements = refl
 
 grown : GoesOn udp (empty ++ element) element 1 1 (blank 2) (blank 3) 2
-grown = more-bytes-udp (empty ++ element) element 1 1 (blank 2) (blank 3) 2 0 (omega arith) (omega arith) one-element (unlimited two-elements)
+grown =
+    more-bytes-udp (empty ++ element) element 1 1 (blank 2) (blank 3) 2 0 (omega arith) (omega arith) one-element (unlimited two-elements)
 
 -- ---- a message is the same, and the bytes are left over
 
 message : answer udp 0 p3.packet (blank 2) ≡ Packets 2 0
-unfolding number size depth snoc classOf sortOf textOf argOf readArgs messageOf bundleOf elementOf elementsOf packetOf packetAt packet udp decoded
+unfolding number size depth snoc classOf sortOf textOf argOf readArgs messageOf bundleOf elementOf elementsOf packetOf packetAt packet udp
+    decoded
 message = refl
 
 message-more : answer udp 0 (p3.packet ++ element) (blank 2) ≡ Packets 2 12
-unfolding number size depth snoc classOf sortOf textOf argOf readArgs messageOf bundleOf elementOf elementsOf packetOf packetAt packet udp decoded
+unfolding number size depth snoc classOf sortOf textOf argOf readArgs messageOf bundleOf elementOf elementsOf packetOf packetAt packet udp
+    decoded
 message-more = refl
 
 kept : GoesOn udp p3.packet element 0 0 (blank 2) (blank 2) 2
@@ -58,11 +62,13 @@ prefix : List ℕ
 prefix = 0 ∷ 0 ∷ 0 ∷ 16 ∷ []
 
 frame : answer tcp 1 (prefix ++ empty) (blank 1) ≡ Packets 1 0
-unfolding prefix number size depth snoc classOf sortOf textOf argOf readArgs messageOf bundleOf elementOf elementsOf packetOf packetAt packet frameOf tcp decoded
+unfolding prefix number size depth snoc classOf sortOf textOf argOf readArgs messageOf bundleOf elementOf elementsOf packetOf packetAt
+    packet frameOf tcp decoded
 frame = refl
 
 next-frame : answer tcp 2 ((prefix ++ empty) ++ element) (blank 2) ≡ Packets 2 0
-unfolding prefix number size depth snoc classOf sortOf textOf argOf readArgs messageOf bundleOf elementOf elementsOf packetOf packetAt packet frameOf tcp decoded
+unfolding prefix number size depth snoc classOf sortOf textOf argOf readArgs messageOf bundleOf elementOf elementsOf packetOf packetAt
+    packet frameOf tcp decoded
 next-frame = refl
 
 taken : GoesOn tcp (prefix ++ empty) element 1 2 (blank 1) (blank 2) 1

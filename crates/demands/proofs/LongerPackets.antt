@@ -1,5 +1,4 @@
 -- Bytes appended to a packet: a message is the same message, and a bundle keeps its time tag and begins with the same elements.
--- Assumes nothing.
 use mathlib.Core.Path.{_≡_, refl, ap}
 use mathlib.Core.List.{List, _++_}
 use Prim.Native.Nat.{ℕ, _+_, _-_, _≤_}
@@ -15,7 +14,8 @@ use Rattle.text.specs.Text.{textOf}
 use Rattle.text.specs.declared.Text.{Text}
 use Rattle.text.specs.declared.Text.the-variants.{Found, Lacks}
 use Rattle.arguments.specs.Arguments.{Args, refused, args, argsOf}
-use Rattle.decoder.specs.Packet.{Out, fault, one, Elements, upto, after, tagsIn, messageWith, typesThen, messageOf, same, bundleWord, bundleWith, bundleOf, filling, elementOf, startsWith, packetOf, packet, elements}
+use Rattle.decoder.specs.Packet.{Out, fault, one, Elements, upto, after, tagsIn, messageWith, typesThen, messageOf, same, bundleWord}
+use Rattle.decoder.specs.Packet.{bundleWith, bundleOf, filling, elementOf, startsWith, packetOf, packet, elements}
 use Rattle.decoder.specs.Readings.{bundle, element, treesIn}
 use Rattle.demands.specs.Words.{Begins, none, also}
 use Rattle.number.proofs.Choices.{by-eq, by-le, by-both}
@@ -58,7 +58,8 @@ module _ (base : ℕ) (more : List ℕ) where
       let w = found-in l p e in
       let tags = tagsIn (take m l) in
       rw (s, take-append-le m l more (omega arith), drop-append-le used l more (w .1))
-      (after-grows used (message-with-grows offset n (argsOf base tags (drop used l) (p + used)) _ (args-longer more base tags (drop used l) (p + used))))
+      (after-grows used (message-with-grows offset n (argsOf base tags (drop used l) (p + used)) _
+      (args-longer more base tags (drop used l) (p + used))))
 
   message-grows : (offset n : ℕ) (l : List ℕ) (p : ℕ) → Grows (messageOf base offset n l p) (messageOf base offset n (l ++ more) p)
   unfolding messageOf
@@ -74,19 +75,30 @@ module _ (base : ℕ) (more : List ℕ) where
       (λ k. let k' : number 4 l ≤ length (drop 4 l) = omega (arith, length-drop 4 l) in
       let four = le-leb 4 (length (l ++ more)) (omega (arith, length-append l more)) in
       let within = le-leb (number 4 l) (length (l ++ more) - 4) (omega (arith, length-append l more)) in
-      rw (element, elementOf, number-longer more 4 l h, four, within, drop-append-le 4 l more h, take-append-le (number 4 l) (drop 4 l) more k')
+      rw (
+        element,
+        elementOf,
+        number-longer more 4 l h,
+        four,
+        within,
+        drop-append-le 4 l more h,
+        take-append-le (number 4 l) (drop 4 l)
+            more k',
+      )
       (same-out (filling (number 4 l) (packet base (take (number 4 l) (drop 4 l)) (p + 4)))))
       (λ k. tt))
       (λ h. tt)
 
   elements-begin : (f : Forest) (l : List ℕ) (p : ℕ) → treesIn (elements base l p) ≡ f → Begins f (treesIn (elements base (l ++ more) p))
   elements-begin nil l p e = none
-  elements-begin (node kind a b inside rest) l p e = by-element (element base l p) refl (element-longer l p) (λ m q. elements-begin rest m q)
+  elements-begin (node kind a b inside rest) l p e = by-element (element base l p) refl (element-longer l p)
+      (λ m q. elements-begin rest m q)
     where
       by-element : (o : Out) → element base l p ≡ o → Kept o (element base (l ++ more) p)
           → ((m : List ℕ) (q : ℕ) → treesIn (elements base m q) ≡ rest → Begins rest (treesIn (elements base (m ++ more) q)))
           → Begins (node kind a b inside rest) (treesIn (elements base (l ++ more) p))
-      by-element (fault k) x s go = let n : treesIn (elements base l p) ≡ nil = ap treesIn (ended base l p x) in let z : _≡_ {A = ℕ} 0 1 = cc in absurd (omega arith)
+      by-element (fault k) x s go = let n : treesIn (elements base l p) ≡ nil = ap treesIn (ended base l p x) in
+          let z : _≡_ {A = ℕ} 0 1 = cc in absurd (omega arith)
       by-element (one kind' a' b' inside' n) x s go =
           let w = first-in base l p x in
           let y : treesIn (elements base l p) ≡ node kind' a' b' inside' (treesIn (elements base (drop (4 + n) l) (p + (4 + n)))) = first-trees base l p x in
@@ -95,7 +107,8 @@ module _ (base : ℕ) (more : List ℕ) where
           let ea : a' ≡ a = cc in
           let eb : b' ≡ b = cc in
           let ei : inside' ≡ inside = cc in
-          rw (first-trees base (l ++ more) p s, drop-append-le (4 + n) l more (omega arith), ek, ea, eb, ei) (also (go (drop (4 + n) l) (p + (4 + n)) er))
+          rw (first-trees base (l ++ more) p s, drop-append-le (4 + n) l more (omega arith), ek, ea, eb, ei)
+          (also (go (drop (4 + n) l) (p + (4 + n)) er))
 
   bundle-with-grows : (a b : ℕ) (x y : Elements) → Begins (treesIn x) (treesIn y) → Grows (bundleWith a b x) (bundleWith a b y)
   bundle-with-grows a b (upto f used) (upto g used') w = longer-bundle w
@@ -110,7 +123,8 @@ module _ (base : ℕ) (more : List ℕ) where
       let seconds = number-longer more 4 l h4 in
       let fractional = number-longer more 4 (drop 4 l) h4' in
       rw (bundle, bundleOf, eight, seconds, drop-append-le 4 l more h4, fractional, drop-append-le 8 l more h)
-      (bundle-with-grows _ _ (elements base (drop 8 l) (p + 8)) (elements base (drop 8 l ++ more) (p + 8)) (elements-begin _ (drop 8 l) (p + 8) refl)))
+      (bundle-with-grows _ _ (elements base (drop 8 l) (p + 8)) (elements base (drop 8 l ++ more) (p + 8))
+      (elements-begin _ (drop 8 l) (p + 8) refl)))
       (λ h. was-refused)
 
   -- ---- packets
@@ -130,4 +144,5 @@ module _ (base : ℕ) (more : List ℕ) where
   packet-grows l p =
       rw (packet-eq base l p, packet-eq base (l ++ more) p)
       (by-eq (λ o. Grows o (packetOf base (λ m q. elements base m q) (l ++ more) p)) (length l) 0 (λ h. was-refused)
-      (λ h. rw (packetOf, ne-eqb (length (l ++ more)) 0 (omega (arith, length-append l more))) (start-grows l p (textOf l p) (textOf (l ++ more) p) refl (text-longer more l p))))
+      (λ h. rw (packetOf, ne-eqb (length (l ++ more)) 0 (omega (arith, length-append l more)))
+      (start-grows l p (textOf l p) (textOf (l ++ more) p) refl (text-longer more l p))))

@@ -1,5 +1,5 @@
 -- A tree that continues another, on the table: record 0 keeps its kind and fields, and the records after it begin with the same
--- ones. Assumes nothing.
+-- ones.
 use mathlib.Core.Path.{_≡_, refl, ap, sym, _∙_}
 use mathlib.Core.List.{List, _++_, append-assoc, append-nil}
 use Prim.Native.Nat.{ℕ, _+_, _-_, _*_}
@@ -44,7 +44,13 @@ root-continues : (kind a b : ℕ) {f g : Forest} (x y : List ℕ) → Begins f g
     → TableContinues (recordsOf 0 (node kind a b f nil) ++ x) (recordsOf 0 (node kind a b g nil) ++ y) (size (node kind a b f nil))
 unfolding size recordsOf recordOf bytes number kindAt aAt bAt
 root-continues kind a b {f} x y w =
-    record { kind = refl; first = refl; second = refl; rest = root-rest kind a b x y (recordSize * size (node kind a b f nil) - recordSize) (omega arith) w }
+    record {
+      kind = refl;
+      first = refl;
+      second = refl;
+      rest = root-rest kind a b x y
+          (recordSize * size (node kind a b f nil) - recordSize) (omega arith) w;
+    }
 
 pub table-continues : {f g : Forest} (x y : List ℕ) → Continues f g → TableContinues (recordsOf 0 f ++ x) (recordsOf 0 g ++ y) (size f)
 table-continues x y (message {inside = inside}) = root-continues 47 _ _ x y (begins-all inside)

@@ -1,4 +1,4 @@
--- Every packet that OSC 1.0 allows is accepted as what it is. Assumes nothing.
+-- Every packet that OSC 1.0 allows is accepted as what it is.
 use mathlib.Core.Path.{_≡_, refl}
 use mathlib.Core.List.{List}
 use Prim.Native.Nat.{ℕ, _-_, _≤_}
@@ -37,7 +37,8 @@ accept P l n d r =
       inside = r .inside;
       stands = r .stands;
       read = e;
-      decodes = λ capacity c. decode-whole l capacity (node (r .kind) (r .a) (r .b) (r .inside) nil) e n (omega (arith, tree-deep P (r .stands))) c;
+      decodes = λ capacity c. decode-whole l capacity (node (r .kind) (r .a) (r .b) (r .inside) nil) e n
+          (omega (arith, tree-deep P (r .stands))) c;
     }
 
 pub osc10-accepted : Osc10Accepted

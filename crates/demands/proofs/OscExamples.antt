@@ -1,11 +1,12 @@
--- Examples, computed, that meet the hypotheses of `osc10-accepted`: document 01's P3, and a bundle that holds it. Assumes nothing.
+-- Examples, computed, that meet the hypotheses of `osc10-accepted`: document 01's P3, and a bundle that holds it.
 use mathlib.Core.Path.{refl}
 use mathlib.Core.List.{List, [], _∷_}
 use Prim.Native.Nat.{ℕ}
 use native.Mathlib.Omega.{arith}
 use Rattle.number.specs.Number.{bytes}
 use Rattle.demands.specs.Words.{NoNul}
-use Rattle.demands.specs.Osc10.{end, atom, word, Packet, message, bundle, none, also, ArgumentsAllowed, Allowed, AllAllowed, deep, tagsOf, as-word, no-argument, one-atom, Spells, as-message, as-bundle, no-element, element}
+use Rattle.demands.specs.Osc10.{end, atom, word, Packet, message, bundle, none, also, ArgumentsAllowed, Allowed, AllAllowed, deep}
+use Rattle.demands.specs.Osc10.{tagsOf, as-word, no-argument, one-atom, Spells, as-message, as-bundle, no-element, element}
 use Rattle.demands.specs.Standards.{AcceptedAs}
 use Rattle.utf8.proofs.Grammar.{octets}
 use Rattle.table.proofs.Examples.{packet as p3-bytes}
@@ -17,7 +18,11 @@ p3 = message (0x2F ∷ 0x61 ∷ []) (atom (word 105 5) end)
 
 p3-allowed : Allowed p3
 unfolding Allowed ArgumentsAllowed NoNul
-p3-allowed = (refl, record { non-null = ((λ e. omega arith), ((λ e. omega arith), tt)); valid = octets (0x2F ∷ 0x61 ∷ []) .sound refl }, ((refl, omega arith), tt))
+p3-allowed = (
+  refl,
+  record { non-null = ((λ e. omega arith), ((λ e. omega arith), tt)); valid = octets (0x2F ∷ 0x61 ∷ []) .sound refl },
+  ((refl, omega arith), tt),
+)
 
 p3-spelled : Spells p3 p3-bytes
 unfolding bytes tagsOf
@@ -45,7 +50,8 @@ held-allowed = (omega arith, omega arith, (p3-allowed, tt))
 
 held-spelled : Spells held held-bytes
 unfolding bytes
-held-spelled = as-bundle (record { additional = 0; few = omega arith; spelled = refl; multiple = refl }) (element refl p3-spelled no-element)
+held-spelled =
+    as-bundle (record { additional = 0; few = omega arith; spelled = refl; multiple = refl }) (element refl p3-spelled no-element)
 
 pub held-accepted : AcceptedAs held held-bytes
 unfolding deep

@@ -1,4 +1,4 @@
--- The bytes of a tree with '/'-led addresses and no NUL spell a packet that OSC 1.0 allows, and the one that the tree is. Assumes nothing.
+-- The bytes of a tree with '/'-led addresses and no NUL spell a packet that OSC 1.0 allows, and the one that the tree is.
 use mathlib.Core.Path.{_≡_, refl, sym, ap, _∙_}
 use mathlib.Core.Bool.{Bool, true, false, not, cond, _&&_, false≢true}
 use mathlib.Core.List.{List, [], _∷_, append-assoc}
@@ -21,7 +21,12 @@ use Rattle.table.specs.Tree.{Obeys, FieldsFit}
 use Rattle.encoder.specs.Osc.{oscString, oscBlob, argumentOf, dataOf, messageOf, bundleOf, elementsOf, packetOf}
 use Rattle.encoder.specs.Osc as enc
 use Rattle.demands.specs.Words.{Bytes, NoNul, CleanNode, Clean}
-use Rattle.demands.specs.Osc10.{Atom, word, long, bare, string, blob, char, Arguments, end, atom, array, message, bundle, Packets, none, also, IsText, AtomAllowed, ArgumentsAllowed, Allowed, AllAllowed, OscString, OscBlob, tagOf, tagsOf, AtomSpells, as-word, as-long, as-bare, as-string, as-blob, as-char, ArgumentsSpell, no-argument, one-atom, one-array, as-message, as-bundle, ElementsSpell, no-element, element, Range, FieldsAre, is-word, is-long, is-bare, is-string, is-blob, is-char, ArgumentsAre, no-node, leaf, branch, is-message, is-bundle, StandFor, no-packet, packet}
+use Rattle.demands.specs.Osc10.{Atom, word, long, bare, string, blob, char, Arguments, end, atom, array, message, bundle, Packets}
+use Rattle.demands.specs.Osc10.{none, also, IsText, AtomAllowed, ArgumentsAllowed, Allowed, AllAllowed, OscString, OscBlob, tagOf}
+use Rattle.demands.specs.Osc10.{tagsOf, AtomSpells, as-word, as-long, as-bare, as-string, as-blob, as-char, ArgumentsSpell}
+use Rattle.demands.specs.Osc10.{no-argument, one-atom, one-array, as-message, as-bundle, ElementsSpell, no-element, element, Range}
+use Rattle.demands.specs.Osc10.{FieldsAre, is-word, is-long, is-bare, is-string, is-blob, is-char, ArgumentsAre, no-node, leaf}
+use Rattle.demands.specs.Osc10.{branch, is-message, is-bundle, StandFor, no-packet, packet}
 use Rattle.demands.specs.Standards.{Spelled}
 use Rattle.utf8.proofs.Grammar.{octets}
 use Rattle.encoder.proofs.Lengths.{packet-even, length-string, length-blob}
@@ -97,20 +102,31 @@ module _ (source : List ℕ) (small : Bytes source) where
       → IsText (part source a b) × Range source a b (part source a b)
   unfolding rangeOk
   text-is k a b e g n =
-      let w = then-true (inside source a b) (utf8 (part source a b)) (rw e at g) in
-      (record { non-null = n; valid = octets (part source a b) .sound (w .1) }, record { lies = leb-true (a + b) (length source) (w .0); holds = refl })
+      let w = then-true (inside source a b) (utf8 (part source a b)) (rw e at g) in (
+        record { non-null = n; valid = octets (part source a b) .sound (w .1) },
+        record
+            { lies = leb-true (a + b) (length source) (w .0); holds = refl },
+      )
 
   leaf-is : (class : Class) (k a b : ℕ) → HasTag k class → leafRules class a b ≡ true → rangeOk source k a b ≡ true → CleanNode source k a b
       → a < 256 ^ 4 → b < 256 ^ 4 → LeafWritten class k a b
   unfolding rangeOk CleanNode
-  leaf-is Four k a b t h g c la lb = record { value = word k a; tag = refl; allowed = (t, la); fields = rw (eqb-true b 0 h) is-word; spells = as-word }
+  leaf-is Four k a b t h g c la lb = record
+      { value = word k a; tag = refl; allowed = (t, la); fields = rw (eqb-true b 0 h) is-word; spells = as-word }
   leaf-is Eight k a b t h g c la lb = record { value = long k a b; tag = refl; allowed = (t, la, lb); fields = is-long; spells = as-long }
   leaf-is Bare k a b t h g c la lb =
       let z = both-true (eqb a 0) (eqb b 0) h in
       record { value = bare k; tag = refl; allowed = t; fields = rw (eqb-true a 0 (z .0), eqb-true b 0 (z .1)) is-bare; spells = as-bare }
   leaf-is Text k a b t h g c la lb =
       let w = text-is 115 a b refl (rw t at g) (rw t at c) in
-      record { value = string (part source a b); tag = sym t; allowed = w .0; fields = is-string (w .1); spells = as-string (string-spelled (part source a b)) }
+      record {
+        value = string (part source a b);
+        tag = sym t;
+        allowed = w .0;
+        fields = is-string (w .1);
+        spells = as-string
+            (string-spelled (part source a b));
+      }
   leaf-is Blob k a b t h g c la lb =
       record {
         value = blob (part source a b);
@@ -171,7 +187,8 @@ module _ (source : List ℕ) (small : Bytes source) where
         let z = both-true (eqb a 0) (eqb b 0) h in
         array-args e t (eqb-true a 0 (z .0)) (eqb-true b 0 (z .1)) (go (rw t at o))
     node-args Closes e t p h g c la lb o go = no-way h
-    node-args (Leaf class) e t p h g c la lb o go = leaf-args class e (no-inside k inside p (t .0) o) (leaf-is class k a b (t .1) h g c la lb)
+    node-args (Leaf class) e t p h g c la lb o go = leaf-args class e (no-inside k inside p (t .0) o)
+        (leaf-is class k a b (t .1) h g c la lb)
 
   args-are : (F : Forest) (container : ℕ) → ((j : ℕ) → allowed container j ≡ not (isPacket j)) → Obeys source container F
       → Clean source F → FieldsFit F → ArgsWritten F
@@ -179,7 +196,8 @@ module _ (source : List ℕ) (small : Bytes source) where
   args-are nil container q o c f = record { arguments = end; allowed = tt; stands = no-node; tags = refl; spells = no-argument }
   args-are (node k a b inside rest) container q o c f =
       let p : isPacket k ≡ false = not-true (isPacket k) (sym (q k) ∙ o .2) in
-      node-args k a b inside rest (args-are rest container q (o .4) (c .2) (f .3)) (sortOf k) refl (has-sort k) p (rw p at (o .0)) (o .1) (c .0) (f .0) (f .1) (o .3)
+      node-args k a b inside rest (args-are rest container q (o .4) (c .2) (f .3)) (sortOf k) refl (has-sort k) p (rw p at (o .0)) (o .1)
+      (c .0) (f .0) (f .1) (o .3)
       (λ h. args-are inside 91 array-allows h (c .1) (f .2))
 
   -- ---- packets
@@ -196,7 +214,8 @@ module _ (source : List ℕ) (small : Bytes source) where
   unfolding messageOf CleanNode Allowed
   a-message a b inside g c A =
       let w = text-is 47 a b refl g (c .1) in
-      let types : OscString (44 ∷ tagsOf (A .arguments)) (oscString (44 ∷ enc.tagsOf inside)) = rw (A .tags) (string-spelled (44 ∷ tagsOf (A .arguments))) in
+      let types : OscString (44 ∷ tagsOf (A .arguments)) (oscString (44 ∷ enc.tagsOf inside)) = rw (A .tags)
+      (string-spelled (44 ∷ tagsOf (A .arguments))) in
       record {
         packet = message (part source a b) (A .arguments);
         allowed = (c .0, w .0, A .allowed);
@@ -237,13 +256,15 @@ module _ (source : List ℕ) (small : Bytes source) where
         spells = rw append-assoc (element (packet-even source k a b inside) (S .spells) (R .spells));
       }
 
-  module _ (k a b : ℕ) (inside rest : Forest) (o : Obeys source 35 (node k a b inside rest)) (c : Clean source (node k a b inside rest)) (f : FieldsFit (node k a b inside rest)) where
+  module _ (k a b : ℕ) (inside rest : Forest) (o : Obeys source 35 (node k a b inside rest)) (c : Clean source (node k a b inside rest))
+      (f : FieldsFit (node k a b inside rest)) where
     -- the first packet, by what a bundle in it contains
     packet-by : (Obeys source 35 inside → Clean source inside → FieldsFit inside → PacketsWritten inside)
         → Spelled source k a b inside (packetOf source k a b inside)
     unfolding Obeys Clean FieldsFit packetOf
     packet-by go =
-        a-packet (eqb k 47) k a b inside refl (o .1) (o .2) (c .0) (f .0) (f .1) (o .3) (λ h. args-are inside 47 message-allows h (c .1) (f .2)) (λ h. go h (c .1) (f .2))
+        a-packet (eqb k 47) k a b inside refl (o .1) (o .2) (c .0) (f .0) (f .1) (o .3)
+        (λ h. args-are inside 47 message-allows h (c .1) (f .2)) (λ h. go h (c .1) (f .2))
 
   packets-are : (F : Forest) → Obeys source 35 F → Clean source F → FieldsFit F → PacketsWritten F
   unfolding Obeys Clean FieldsFit elementsOf AllAllowed

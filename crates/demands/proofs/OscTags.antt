@@ -1,4 +1,4 @@
--- The type tags of OSC 1.0 and the one table of tags that reader and writer go by: what each says of the other. Assumes nothing.
+-- The type tags of OSC 1.0 and the one table of tags that reader and writer go by: what each says of the other.
 use mathlib.Core.Path.{_≡_, refl}
 use mathlib.Core.Bool.{Bool, true, false, _||_, _&&_, false≢true}
 use mathlib.Core.List.{List, [], _∷_}
@@ -65,9 +65,12 @@ HasTag k Unknown = Unit {0}
 has-tag : (k : ℕ) → HasTag k (classOf k)
 unfolding classOf
 has-tag k =
-    by-test (HasTag k) (among k (102 ∷ 105 ∷ 109 ∷ 114 ∷ [])) (of-among (λ t. among t words ≡ true) k (102 ∷ 105 ∷ 109 ∷ 114 ∷ []) (refl, (refl, (refl, (refl, tt)))))
-    (λ _. by-test (HasTag k) (among k (100 ∷ 104 ∷ 116 ∷ [])) (of-among (λ t. among t longs ≡ true) k (100 ∷ 104 ∷ 116 ∷ []) (refl, (refl, (refl, tt))))
-    (λ _. by-test (HasTag k) (among k (70 ∷ 73 ∷ 78 ∷ 84 ∷ [])) (of-among (λ t. among t bares ≡ true) k (70 ∷ 73 ∷ 78 ∷ 84 ∷ []) (refl, (refl, (refl, (refl, tt)))))
+    by-test (HasTag k) (among k (102 ∷ 105 ∷ 109 ∷ 114 ∷ []))
+    (of-among (λ t. among t words ≡ true) k (102 ∷ 105 ∷ 109 ∷ 114 ∷ []) (refl, (refl, (refl, (refl, tt)))))
+    (λ _. by-test (HasTag k) (among k (100 ∷ 104 ∷ 116 ∷ []))
+    (of-among (λ t. among t longs ≡ true) k (100 ∷ 104 ∷ 116 ∷ []) (refl, (refl, (refl, tt))))
+    (λ _. by-test (HasTag k) (among k (70 ∷ 73 ∷ 78 ∷ 84 ∷ []))
+    (of-among (λ t. among t bares ≡ true) k (70 ∷ 73 ∷ 78 ∷ 84 ∷ []) (refl, (refl, (refl, (refl, tt)))))
     (λ _. by-test (HasTag k) (eqb k 115) (eqb-true k 115)
     (λ _. by-test (HasTag k) (eqb k 98) (eqb-true k 98)
     (λ _. by-test (HasTag k) (eqb k 99) (eqb-true k 99) (λ _. tt))))))

@@ -1,5 +1,4 @@
 -- What `encode` writes for a table, by its contract, is the bytes of the table's tree, and so a packet that OSC 1.0 allows.
--- Assumes nothing.
 use mathlib.Core.Path.{_≡_}
 use mathlib.Core.List.{List}
 use Prim.Native.Nat.{ℕ, _≤_}
@@ -24,7 +23,8 @@ pub outcome-is : {frame : ℕ → List ℕ → List ℕ} {t : List ℕ} {count :
     → IsTree t count source k a b inside → Encodes frame t count source out r → r ≡ encoded frame source out k a b inside
 outcome-is w (malformed n e) = absurd (n (tree-formed w))
 outcome-is {t = t} {count = count} {k = k} {a = a} {b = b} {inside = inside} w (formed k' a' b' inside' w' e) =
-    let q : node k' a' b' inside' nil ≡ node k a b inside nil = tree-unique t 0 count (node k' a' b' inside' nil) (node k a b inside nil) (w' .spans) (w .spans) in
+    let q : node k' a' b' inside' nil ≡ node k a b inside nil = tree-unique t 0 count (node k' a' b' inside' nil) (node k a b inside nil)
+    (w' .spans) (w .spans) in
     cc
 
 -- what is answered as written stands at the front of the output
@@ -35,7 +35,8 @@ held : (bs out : List ℕ) → Holds bs (write bs out)
 unfolding write
 held bs out =
     by-test (Holds bs) (leb (length bs) 65535)
-    (λ _. by-test (Holds bs) (leb (length bs) (length out)) (λ _ n e. let q : length bs ≡ n = cc in take-at bs _ n q) (λ _ n e. let z : _≡_ {A = ℕ} 0 1 = cc in absurd (omega arith)))
+    (λ _. by-test (Holds bs) (leb (length bs) (length out)) (λ _ n e. let q : length bs ≡ n = cc in take-at bs _ n q)
+    (λ _ n e. let z : _≡_ {A = ℕ} 0 1 = cc in absurd (omega arith)))
     (λ _ n e. let z : _≡_ {A = ℕ} 0 1 = cc in absurd (omega arith))
 
 module _ (source out : List ℕ) (k a b : ℕ) (inside : Forest) where

@@ -1,4 +1,4 @@
--- Parts of an input that stand at a position: their parts, and the ranges that they are. Assumes nothing.
+-- Parts of an input that stand at a position: their parts, and the ranges that they are.
 use mathlib.Core.Path.{_≡_, refl, sym, ap, _∙_}
 use mathlib.Core.List.{List, [], _++_, append-assoc, append-nil}
 use Prim.Native.Nat.{ℕ, _+_, _≤_}
@@ -27,7 +27,8 @@ module _ {s : List ℕ} {q : ℕ} where
   at-back x y h =
       record {
         more = h .more;
-        is = sym (drop-drop (length x) q s) ∙ ap (drop (length x)) (h .is ∙ append-assoc x y (h .more)) ∙ drop-at x (y ++ h .more) (length x) refl;
+        is = sym (drop-drop (length x) q s) ∙ ap (drop (length x)) (h .is ∙ append-assoc x y (h .more))
+            ∙ drop-at x (y ++ h .more) (length x) refl;
         within = omega (arith, h .within, length-append x y);
       }
 

@@ -1,4 +1,4 @@
--- Examples, computed: endings that meet the contracts, with refusals, Waiting and results. Assumes nothing.
+-- Examples, computed: endings that meet the contracts, with refusals, Waiting and results.
 use mathlib.Core.Path.{refl}
 use mathlib.Core.List.{List, [], _∷_, _++_}
 use Prim.Native.Nat.{ℕ}
@@ -41,7 +41,8 @@ short : Meets (encode (p3.table 2 2) 2 p3.packet eleven) (record { answer = enco
 unfolding eleven bytes depth classOf sortOf osc.oscString osc.dataOf osc.tagsOf osc.messageOf osc.packetOf write encoded
 short = formed 47 0 2 p3.five p3.p3-tree refl
 
-written : Meets (encode (p3.table 2 2) 2 p3.packet (eleven ++ (12 ∷ 13 ∷ []))) (record { answer = encodes.Written 12; lent = p3.packet ++ (13 ∷ []) })
+written : Meets (encode (p3.table 2 2) 2 p3.packet (eleven ++ (12 ∷ 13 ∷ [])))
+    (record { answer = encodes.Written 12; lent = p3.packet ++ (13 ∷ []) })
 unfolding eleven bytes depth classOf sortOf osc.oscString osc.dataOf osc.tagsOf osc.messageOf osc.packetOf write encoded
 written = formed 47 0 2 p3.five p3.p3-tree refl
 

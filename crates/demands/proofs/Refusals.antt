@@ -1,4 +1,4 @@
--- Demand 1: a contract settles the answer and every lent byte, and a refusal or Waiting changes none. Assumes nothing.
+-- Demand 1: a contract settles the answer and every lent byte, and a refusal or Waiting changes none.
 use mathlib.Core.Path.{_≡_, refl, ap, ap₂, sym, subst, _∙_}
 use mathlib.Core.List.{List}
 use Prim.Native.Nat.{ℕ}
@@ -14,7 +14,8 @@ use Rattle.decoder.specs.declared.Decoded.the-variants.{Packets, Waiting, Refus
 use Rattle.table.specs.Tree.{IsTree}
 use Rattle.encoder.specs.Outcome.{Outcome, write, encoded, Encodes, malformed, formed, plain, prefixed, stringOutcome}
 use Rattle.encoder.specs.Osc.{oscString, packetOf}
-use Rattle.demands.specs.Calls.{Call, decode-udp, decode-tcp, decode-tcp-vec, encode, encode-tcp, encode-string, pad, look, text-of, Ending, Decodes, Answer, Lent, result, byDecoded, byEncoded, Settled, Met, NothingChanged}
+use Rattle.demands.specs.Calls.{Call, decode-udp, decode-tcp, decode-tcp-vec, encode, encode-tcp, encode-string, pad, look, text-of}
+use Rattle.demands.specs.Calls.{Ending, Decodes, Answer, Lent, result, byDecoded, byEncoded, Settled, Met, NothingChanged}
 use Rattle.demands.specs.Demands.{answer, after}
 use Rattle.number.proofs.Choices.{by-test, by-le}
 use Rattle.table.proofs.Theorem.{formed-tree, tree-formed, tree-unique}
@@ -48,9 +49,12 @@ pub settled : Settled
 settled (decode-udp msg table limit) e e' m m' = let x = decodes-one m m' in ending (x .0) (x .1)
 settled (decode-tcp msg table limit) e e' m m' = let x = decodes-one m m' in ending (x .0) (x .1)
 settled (decode-tcp-vec msg table limit) e e' m m' = let x = decodes-one m m' in ending (x .0) (x .1)
-settled (encode table count source out) e e' m m' = let x = encodes-one m m' in ending (ap (λ (o : Outcome). o .answer) x) (ap (λ (o : Outcome). o .out) x)
-settled (encode-tcp table count source out) e e' m m' = let x = encodes-one m m' in ending (ap (λ (o : Outcome). o .answer) x) (ap (λ (o : Outcome). o .out) x)
-settled (encode-string text out) e e' m m' = let x = m ∙ sym m' in ending (ap (λ (o : Outcome). o .answer) x) (ap (λ (o : Outcome). o .out) x)
+settled (encode table count source out) e e' m m' =
+    let x = encodes-one m m' in ending (ap (λ (o : Outcome). o .answer) x) (ap (λ (o : Outcome). o .out) x)
+settled (encode-tcp table count source out) e e' m m' =
+    let x = encodes-one m m' in ending (ap (λ (o : Outcome). o .answer) x) (ap (λ (o : Outcome). o .out) x)
+settled (encode-string text out) e e' m m' =
+    let x = m ∙ sym m' in ending (ap (λ (o : Outcome). o .answer) x) (ap (λ (o : Outcome). o .out) x)
 settled (pad pos) e e' m m' = ending (m ∙ sym m') refl
 settled (look table index) e e' m m' = ending (m ∙ sym m') refl
 settled (text-of value packet label) e e' m m' = ending (m ∙ sym m') refl
@@ -63,11 +67,15 @@ encodes-met frame t count source out n =
     n _ (malformed (λ w. let x = formed-tree t count source w in n _ (formed _ _ _ (x .0) (x .1) refl)) refl)
 
 pub met : Met
-met (decode-udp msg table limit) n = n (record { answer = answer udp limit msg table; lent = after udp limit msg table }) (record { answered = refl; left = refl })
-met (decode-tcp msg table limit) n = n (record { answer = answer tcp limit msg table; lent = after tcp limit msg table }) (record { answered = refl; left = refl })
-met (decode-tcp-vec msg table limit) n = n (record { answer = answer tcpVec limit msg table; lent = after tcpVec limit msg table }) (record { answered = refl; left = refl })
+met (decode-udp msg table limit) n =
+    n (record { answer = answer udp limit msg table; lent = after udp limit msg table }) (record { answered = refl; left = refl })
+met (decode-tcp msg table limit) n =
+    n (record { answer = answer tcp limit msg table; lent = after tcp limit msg table }) (record { answered = refl; left = refl })
+met (decode-tcp-vec msg table limit) n =
+    n (record { answer = answer tcpVec limit msg table; lent = after tcpVec limit msg table }) (record { answered = refl; left = refl })
 met (encode table count source out) n = encodes-met plain table count source out (λ r m. n (record { answer = r .answer; lent = r .out }) m)
-met (encode-tcp table count source out) n = encodes-met prefixed table count source out (λ r m. n (record { answer = r .answer; lent = r .out }) m)
+met (encode-tcp table count source out) n =
+    encodes-met prefixed table count source out (λ r m. n (record { answer = r .answer; lent = r .out }) m)
 met (encode-string text out) n = let r = stringOutcome text out in n (record { answer = r .answer; lent = r .out }) refl
 met (pad pos) n = n (record { answer = padOf pos; lent = tt }) refl
 met (look table index) n = n (record { answer = lookAt table index; lent = tt }) refl
@@ -96,7 +104,9 @@ encodes-same : {frame : ℕ → List ℕ → List ℕ} {t : List ℕ} {count : �
 unfolding encoded
 encodes-same {out = out} (malformed n e) = subst (Same out) (sym e) (λ _. refl)
 encodes-same {frame} {source = source} {out = out} (formed kind a b inside w e) =
-    subst (Same out) (sym e) (by-le (Same out) (depth (node kind a b inside nil)) 64 (λ h. write-same (frame kind (packetOf source kind a b inside)) out) (λ h n. refl))
+    subst (Same out) (sym e)
+    (by-le (Same out) (depth (node kind a b inside nil)) 64 (λ h. write-same (frame kind (packetOf source kind a b inside)) out)
+    (λ h n. refl))
 
 string-same : (text out : List ℕ) → Same out (stringOutcome text out)
 unfolding stringOutcome

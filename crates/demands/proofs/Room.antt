@@ -1,4 +1,4 @@
--- Demand 3: more room, or a higher depth limit, takes back no answer but 9 and 10, for any rule. Assumes nothing.
+-- Demand 3: more room, or a higher depth limit, takes back no answer but 9 and 10, for any rule.
 use mathlib.Core.Path.{_≡_, refl, sym, _∙_}
 use mathlib.Core.List.{List}
 use Prim.Native.Nat.{ℕ, _≤_}

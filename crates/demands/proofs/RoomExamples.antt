@@ -1,5 +1,4 @@
 -- Examples, computed: calls that meet the hypotheses of `more-room` and of the records' bound, and one that is refused with 10.
--- Assumes nothing.
 use mathlib.Core.Path.{_≡_, refl}
 use mathlib.Core.List.{List, [], _∷_, _++_}
 use Prim.Native.Nat.{ℕ, _*_}
@@ -37,7 +36,8 @@ blank n = replicate (recordSize * n) 0
 
 -- the bundle with one element: two records, depth 1
 pub one-element : answer udp 1 (empty ++ element) (blank 2) ≡ Packets 2 0
-unfolding number size depth snoc classOf sortOf textOf argOf readArgs messageOf bundleOf elementOf elementsOf packetOf packetAt packet udp decoded
+unfolding number size depth snoc classOf sortOf textOf argOf readArgs messageOf bundleOf elementOf elementsOf packetOf packetAt packet udp
+    decoded
 one-element = refl
 
 not-full : {r : Decoded} {count left : ℕ} → r ≡ Packets count left → NotFull r
@@ -49,7 +49,8 @@ higher = more-room udp (empty ++ element) 1 64 (blank 2) (blank 9) (omega arith)
 
 -- one record is not enough, so the bound says something
 full : decoded udp 1 64 (empty ++ element) ≡ Refused TableFull
-unfolding number size depth snoc classOf sortOf textOf argOf readArgs messageOf bundleOf elementOf elementsOf packetOf packetAt packet udp decoded
+unfolding number size depth snoc classOf sortOf textOf argOf readArgs messageOf bundleOf elementOf elementsOf packetOf packetAt packet udp
+    decoded
 full = refl
 
 -- 28 bytes, 28 records

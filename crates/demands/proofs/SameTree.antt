@@ -1,5 +1,5 @@
 -- Trees that stand for one packet, each over its own source, are the same; and what the packet says of its tree's fields and
--- depth. Assumes nothing.
+-- depth.
 use mathlib.Core.Path.{_≡_, refl, sym, ap, _∙_}
 use mathlib.Core.Bool.{false}
 use mathlib.Core.List.{List}
@@ -11,7 +11,10 @@ use Rattle.table.specs.Formed.{part}
 use Rattle.table.specs.Tree.{FieldsFit}
 use Rattle.demands.specs.Words.{ranged, SameField, Same, both}
 use Rattle.demands.specs.Words as words
-use Rattle.demands.specs.Osc10.{Atom, word, long, bare, string, blob, char, Arguments, end, atom, array, Packet, message, bundle, Packets, none, also, AtomAllowed, ArgumentsAllowed, Allowed, AllAllowed, deep, deepest, tagOf, Range, FieldsAre, is-word, is-long, is-bare, is-string, is-blob, is-char, ArgumentsAre, no-node, leaf, branch, StandsFor, is-message, is-bundle, StandFor, no-packet, packet}
+use Rattle.demands.specs.Osc10.{Atom, word, long, bare, string, blob, char, Arguments, end, atom, array, Packet, message, bundle}
+use Rattle.demands.specs.Osc10.{Packets, none, also, AtomAllowed, ArgumentsAllowed, Allowed, AllAllowed, deep, deepest, tagOf}
+use Rattle.demands.specs.Osc10.{Range, FieldsAre, is-word, is-long, is-bare, is-string, is-blob, is-char, ArgumentsAre, no-node}
+use Rattle.demands.specs.Osc10.{leaf, branch, StandsFor, is-message, is-bundle, StandFor, no-packet, packet}
 use Rattle.demands.specs.Osc10 as osc
 use Rattle.number.proofs.Parts.{length-part}
 use Rattle.demands.proofs.OscTags.{of-among, scalar-small}
@@ -54,7 +57,8 @@ module _ {s s' : List ℕ} where
   same-arguments : (A : Arguments) {F F' : Forest} → ArgumentsAllowed A → ArgumentsAre s A F → ArgumentsAre s' A F' → Same s s' F F'
   unfolding ArgumentsAllowed
   same-arguments end h no-node no-node = words.Same.none
-  same-arguments (atom v rest) h (leaf x r) (leaf x' r') = same-node (same-fields v (h .0) x x') words.Same.none (same-arguments rest (h .1) r r')
+  same-arguments (atom v rest) h (leaf x r) (leaf x' r') = same-node (same-fields v (h .0) x x') words.Same.none
+      (same-arguments rest (h .1) r r')
   same-arguments (array within rest) h (branch x r) (branch x' r') =
       same-node (record { second = refl; first = refl }) (same-arguments within (h .0) x x') (same-arguments rest (h .1) r r')
 

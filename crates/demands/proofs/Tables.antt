@@ -1,4 +1,4 @@
--- From trees to tables: the fields of a table of bytes fit, and tables of the same tree hold the same. Assumes nothing.
+-- From trees to tables: the fields of a table of bytes fit, and tables of the same tree hold the same.
 use mathlib.Core.Path.{_≡_, sym, ap, _∙_}
 use mathlib.Core.Logic.{⊎-elim}
 use mathlib.Core.List.{List}
@@ -42,8 +42,10 @@ module _ {s s' : List ℕ} (t t' : List ℕ) where
   unfolding Spans
   same-records lo hi words.Same.none x y i l h = absurd (omega (arith, x))
   same-records lo hi (both {f = f} {f' = f'} e u v) x y i l h =
-      let q : endAt t lo ≡ endAt t' lo = sym (spans-size t (lo + 1) (endAt t lo) f (x .3)) ∙ ap (λ (n : ℕ). lo + 1 + n) (same-size u) ∙ spans-size t' (lo + 1) (endAt t' lo) f' (y .3) in
-      let here : SameRecord s t s' t' lo = record { kind = x .0 ∙ sym (y .0); ends = q; second = x .2 ∙ sym (y .2); first = rw (x .0, x .1, x .2, y .1) e } in
+      let q : endAt t lo ≡ endAt t' lo = sym (spans-size t (lo + 1) (endAt t lo) f (x .3)) ∙ ap (λ (n : ℕ). lo + 1 + n) (same-size u)
+      ∙ spans-size t' (lo + 1) (endAt t' lo) f' (y .3) in
+      let here : SameRecord s t s' t' lo = record
+      { kind = x .0 ∙ sym (y .0); ends = q; second = x .2 ∙ sym (y .2); first = rw (x .0, x .1, x .2, y .1) e } in
       let deep = same-records (lo + 1) (endAt t lo) u (x .3) (rw (← q) at (y .3)) i in
       let later = same-records (endAt t lo) hi v (x .4) (rw (← q) at (y .4)) i in
       ⊎-elim

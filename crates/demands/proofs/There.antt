@@ -1,4 +1,4 @@
--- The round trip as a fact about calls: `encode`, then `decode_udp` of what was written. Assumes nothing.
+-- The round trip as a fact about calls: `encode`, then `decode_udp` of what was written.
 use mathlib.Core.Path.{_≡_, ap, _∙_}
 use mathlib.Core.List.{List}
 use Prim.Native.Nat.{ℕ, _/_, _<_, _≤_}
@@ -19,7 +19,8 @@ use Rattle.demands.specs.There.{Returns}
 use Rattle.demands.proofs.OscWritten.{outcome-is, written-all}
 use Rattle.demands.proofs.Trip.{round-trip}
 
-module _ (t : List ℕ) (count : ℕ) (source out : List ℕ) {e : Encoded} {out' : List ℕ} (enc : Encodes plain t count source out (record { answer = e; out = out' })) where
+module _ (t : List ℕ) (count : ℕ) (source out : List ℕ) {e : Encoded} {out' : List ℕ}
+    (enc : Encodes plain t count source out (record { answer = e; out = out' })) where
   -- with room, the answer is the packet's length
   all-written : {kind a b : ℕ} {inside : Forest} → Playable t count source kind a b inside
       → length (packetOf source kind a b inside) ≤ length out

@@ -1,5 +1,5 @@
 -- The round trip of demand 2: what `encode` writes for a table is a packet that OSC 1.0 allows; that packet is accepted as what it is; and
--- trees that stand for one packet are the same. Assumes nothing.
+-- trees that stand for one packet are the same.
 use mathlib.Core.Path.{_≡_, sym, _∙_}
 use mathlib.Core.List.{List, _++_}
 use Prim.Native.Nat.{ℕ, _*_, _/_, _≤_}
@@ -58,10 +58,20 @@ unfolding depth
 round-trip t count source k a b inside w out room r e table enough =
     let bs = packetOf source k a b inside in
     let F = node k a b inside nil in
-    let S = packet-is source (w .sourced) k a b inside (w .formed .obeys) (w .clean) (spans-fit t (w .bytes) 0 count F (w .formed .spans)) in
-    let A = osc10-accepted (S .packet) bs (S .allowed) (S .spells) (w .fits) (omega (arith, w .shallow, tree-deep (S .packet) (S .stands))) in
+    let S = packet-is source (w .sourced) k a b inside (w .formed .obeys) (w .clean)
+    (spans-fit t (w .bytes) 0 count F (w .formed .spans)) in
+    let A = osc10-accepted (S .packet) bs (S .allowed) (S .spells) (w .fits)
+    (omega (arith, w .shallow, tree-deep (S .packet) (S .stands))) in
     let B = read-back (w .formed) bs table (w .fits) enough S A in
     let written = written-all source out k a b inside (w .shallow) (w .fits) room in
-    let held : take (length bs) (encoded plain source out k a b inside .out) ≡ bs = written-held source out k a b inside (length bs) written in
+    let held : take (length bs) (encoded plain source out k a b inside .out) ≡ bs = written-held source out k a b inside (length bs)
+    written in
     rw (outcome-is (w .formed) e)
-    (record { n = length bs; written = written; multiple = packet-even source k a b inside; decoded = rw held (B .decodes); same = rw held (B .same) })
+    (record {
+      n = length bs;
+      written = written;
+      multiple = packet-even source k a b inside;
+      decoded = rw held (B .decodes);
+      same = rw held
+          (B .same);
+    })

@@ -1,4 +1,4 @@
--- Arguments that OSC 1.0 spells, read: they are the forest that stands for them. Assumes nothing.
+-- Arguments that OSC 1.0 spells, read: they are the forest that stands for them.
 use mathlib.Core.Path.{_≡_, refl, sym, ap, _∙_}
 use mathlib.Core.List.{List, [], _∷_, _++_, append-assoc, append-nil}
 use Prim.Native.Nat.{ℕ, _+_, _%_, _^_, _<_}
@@ -10,7 +10,8 @@ use Rattle.types.specs.Tags.{sortOf}
 use Rattle.arguments.specs.Argument.{argOf}
 use Rattle.arguments.specs.Arguments.{args, later, readArgs}
 use Rattle.arguments.specs.declared.Arg.the-variants.{Given}
-use Rattle.demands.specs.Osc10.{Atom, Arguments, end, atom, array, AtomAllowed, ArgumentsAllowed, tagOf, tagsOf, ArgumentsSpell, no-argument, one-atom, one-array, ArgumentsAre, no-node, leaf, branch}
+use Rattle.demands.specs.Osc10.{Atom, Arguments, end, atom, array, AtomAllowed, ArgumentsAllowed, tagOf, tagsOf, ArgumentsSpell}
+use Rattle.demands.specs.Osc10.{no-argument, one-atom, one-array, ArgumentsAre, no-node, leaf, branch}
 use Rattle.arguments.proofs.Kept.{later-none, later-later}
 use Rattle.demands.proofs.Placed.{At, at-front, at-next}
 use Rattle.demands.proofs.TripParts.{atom-even, AtomRead, atom-read}
@@ -46,7 +47,8 @@ module _ (base : ℕ) (ts l : List ℕ) (p : ℕ) (frame : Forest) (below : List
   read-closes outer = refl
 
   read-atom : (v : Atom) {a b used : ℕ} → AtomAllowed v → Given a b used ≡ argOf (classIs v) base l p
-      → readArgs base (tagOf v ∷ ts) l p frame below ≡ later used (readArgs base ts (drop used l) (p + used) (snoc frame (tagOf v) a b nil) below)
+      → readArgs base (tagOf v ∷ ts) l p frame below ≡ later used
+      (readArgs base ts (drop used l) (p + used) (snoc frame (tagOf v) a b nil) below)
   unfolding readArgs
   read-atom v h e = rw (atom-sort v h, ← e)
 
@@ -60,11 +62,14 @@ arguments-even (one-array {x = x} {y = y} i r) = omega (arith, length-append x y
 record ArgsRead (s : List ℕ) (base : ℕ) (A : Arguments) (d ts more : List ℕ) (p : ℕ) (frame : Forest) (below : List Forest) : Type 0 where
   forest : Forest
   stands : ArgumentsAre s A forest
-  read : readArgs base (tagsOf A ++ ts) (d ++ more) p frame below ≡ later (length d) (readArgs base ts more (p + length d) (join frame forest) below)
+  read : readArgs base (tagsOf A ++ ts) (d ++ more) p frame below ≡ later (length d)
+      (readArgs base ts more (p + length d) (join frame forest) below)
 
 -- the same after n bytes
-after-bytes : {s : List ℕ} {base : ℕ} {A : Arguments} {d ts more : List ℕ} {p : ℕ} {frame : Forest} {below : List Forest} (n : ℕ) (R : ArgsRead s base A d ts more p frame below)
-    → later n (readArgs base (tagsOf A ++ ts) (d ++ more) p frame below) ≡ later (n + length d) (readArgs base ts more (p + length d) (join frame (R .forest)) below)
+after-bytes : {s : List ℕ} {base : ℕ} {A : Arguments} {d ts more : List ℕ} {p : ℕ} {frame : Forest} {below : List Forest} (n : ℕ)
+    (R : ArgsRead s base A d ts more p frame below)
+    → later n (readArgs base (tagsOf A ++ ts) (d ++ more) p frame below) ≡ later (n + length d)
+    (readArgs base ts more (p + length d) (join frame (R .forest)) below)
 after-bytes n R = ap (later n) (R .read) ∙ later-later n _ (readArgs _ _ _ _ (join _ (R .forest)) _)
 
 -- positions after two parts
@@ -118,11 +123,14 @@ module _ (s : List ℕ) (base : ℕ) where
   args-read (atom v rest) (one-atom {x = x} {y = y} w r) h ts more p frame below z at low =
       let n = length-append x y in
       let u = atom-read s base w (h .0) (y ++ more) p z (at-front x y at) (omega arith) in
-      after-atom v (h .0) u (args-read rest r (h .1) ts more (p + length x) (snoc frame (tagOf v) (u .a) (u .b) nil) below (omega (arith, atom-even w)) (at-next base p x y at) (omega arith))
+      after-atom v (h .0) u
+      (args-read rest r (h .1) ts more (p + length x) (snoc frame (tagOf v) (u .a) (u .b) nil) below (omega (arith, atom-even w))
+      (at-next base p x y at) (omega arith))
   args-read (array within rest) (one-array {x = x} {y = y} i r) h ts more p frame below z at low =
       let n = length-append x y in
       let I = args-read within i (h .0) (93 ∷ (tagsOf rest ++ ts)) (y ++ more) p nil (frame ∷ below) z (at-front x y at) (omega arith) in
-      after-array I (args-read rest r (h .1) ts more (p + length x) (snoc frame 91 0 0 (I .forest)) below (omega (arith, arguments-even i)) (at-next base p x y at) (omega arith))
+      after-array I (args-read rest r (h .1) ts more (p + length x) (snoc frame 91 0 0 (I .forest)) below
+      (omega (arith, arguments-even i)) (at-next base p x y at) (omega arith))
 
   -- the arguments of a message, whole
   pub record Argued (A : Arguments) (d : List ℕ) (p : ℕ) : Type 0 where

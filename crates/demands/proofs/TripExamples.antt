@@ -1,5 +1,5 @@
 -- Examples, computed, that meet the hypotheses of `round-trip` and `osc10-written`: document 01's P3, and a bundle with a message
--- that has a text and an array. Assumes nothing.
+-- that has a text and an array.
 use mathlib.Core.Path.{refl, sym}
 use mathlib.Core.Bool.{Bool, true, _&&_}
 use mathlib.Core.List.{List, [], _∷_, append-nil}
@@ -80,18 +80,31 @@ table = recordsOf 0 (node 35 0 1 inside nil)
 bundle-is : IsTree table 5 source 35 0 1 inside
 unfolding table size FieldsFit Obeys ownRules rangeOk allowed sortOf classOf
 bundle-is =
-    bytes-tree table [] source 35 0 1 inside (sym (append-nil table))
-    (omega arith, omega arith, (omega arith, omega arith, (omega arith, omega arith, tt, (omega arith, omega arith, (omega arith, omega arith, tt, tt), tt)), tt), tt) (omega arith)
+    bytes-tree table [] source 35 0 1 inside (sym (append-nil table)) (
+      omega arith,
+      omega arith,
+      (omega arith, omega arith, (omega arith, omega arith, tt, (omega arith, omega arith, (omega arith, omega arith, tt, tt), tt)), tt),
+      tt,
+    ) (omega arith)
     (refl, refl, refl, (refl, refl, refl, (refl, refl, refl, tt, (refl, refl, refl, (refl, refl, refl, tt, tt), tt)), tt), tt)
 
 bundle-playable : Playable table 5 source 35 0 1 inside
-unfolding table NoNul CleanNode Clean depth bytes recordOf recordsOf size oscString dataOf tagsOf messageOf bundleOf elementsOf packetOf sortOf classOf
+unfolding table NoNul CleanNode Clean depth bytes recordOf recordsOf size oscString dataOf tagsOf messageOf bundleOf elementsOf packetOf
+    sortOf classOf
 bundle-playable =
     record {
       bytes = small-bytes table tt;
       sourced = small-bytes source tt;
       formed = bundle-is;
-      clean = (tt, ((refl, ((λ e. omega arith), ((λ e. omega arith), tt))), (((λ e. omega arith), ((λ e. omega arith), tt)), tt, (tt, (tt, tt, tt), tt)), tt), tt);
+      clean = (
+        tt,
+        (
+          (refl, ((λ e. omega arith), ((λ e. omega arith), tt))),
+          (((λ e. omega arith), ((λ e. omega arith), tt)), tt, (tt, (tt, tt, tt), tt)),
+          tt,
+        ),
+        tt,
+      );
       shallow = omega arith;
       fits = omega arith;
     }
@@ -105,4 +118,5 @@ bundle-plays = plays bundle-playable (replicate 40 0) (replicate 80 0) (omega ar
 bundle-written : Spelled source 35 0 1 inside (take 40 (encoded plain source (replicate 40 0) 35 0 1 inside .out))
 unfolding depth bytes oscString dataOf tagsOf messageOf bundleOf elementsOf packetOf sortOf classOf encoded write
 bundle-written =
-    osc10-written table 5 source 35 0 1 inside (bundle-playable .bytes) (bundle-playable .sourced) bundle-is (bundle-playable .clean) (replicate 40 0) _ (formed 35 0 1 inside bundle-is refl) 40 refl
+    osc10-written table 5 source 35 0 1 inside (bundle-playable .bytes) (bundle-playable .sourced) bundle-is (bundle-playable .clean)
+    (replicate 40 0) _ (formed 35 0 1 inside bundle-is refl) 40 refl

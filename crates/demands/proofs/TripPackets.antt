@@ -1,4 +1,4 @@
--- Packets that OSC 1.0 spells, read: the tree stands for the packet, and nothing is left. Assumes nothing.
+-- Packets that OSC 1.0 spells, read: the tree stands for the packet, and nothing is left.
 use mathlib.Core.Path.{_≡_, refl, sym, ap, _∙_}
 use mathlib.Core.List.{List, [], _∷_, _++_, append-assoc, append-nil}
 use Prim.Native.Nat.{ℕ, _+_, _-_, _%_, _^_, _≤_, _<_}
@@ -11,10 +11,14 @@ use Rattle.types.specs.Forest.{Forest, nil, node}
 use Rattle.text.specs.Text.{textOf}
 use Rattle.text.specs.declared.Text.the-variants.{Found}
 use Rattle.arguments.specs.Arguments.{args, readArgs}
-use Rattle.decoder.specs.Packet.{one, upto, after, messageOf, bundleOf, elementOf, joined, startsWith, packetOf, packet, elements, elementsAt}
+use Rattle.decoder.specs.Packet.{one, upto, after, messageOf, bundleOf, elementOf, joined, startsWith, packetOf, packet, elements}
+use Rattle.decoder.specs.Packet.{elementsAt}
 use Rattle.decoder.specs.Readings.{element}
 use Rattle.demands.specs.Words.{NoNul}
-use Rattle.demands.specs.Osc10.{Atom, word, long, bare, string, blob, Arguments, atom, array, Packet, message, bundle, Packets, none, also, IsText, words, longs, bares, AtomAllowed, ArgumentsAllowed, Allowed, AllAllowed, int32, OscString, tagOf, tagsOf, bundleWord, Spells, as-message, as-bundle, ElementsSpell, no-element, element as one-element, StandsFor, is-message, is-bundle, StandFor, no-packet}
+use Rattle.demands.specs.Osc10.{Atom, word, long, bare, string, blob, Arguments, atom, array, Packet, message, bundle, Packets}
+use Rattle.demands.specs.Osc10.{none, also, IsText, words, longs, bares, AtomAllowed, ArgumentsAllowed, Allowed, AllAllowed, int32}
+use Rattle.demands.specs.Osc10.{OscString, tagOf, tagsOf, bundleWord, Spells, as-message, as-bundle, ElementsSpell, no-element}
+use Rattle.demands.specs.Osc10.{element as one-element, StandsFor, is-message, is-bundle, StandFor, no-packet}
 use Rattle.demands.specs.Osc10 as osc
 use Rattle.number.proofs.Numbers.{length-bytes, read-written}
 use Rattle.decoder.proofs.Knot.{packet-eq, elements-by}
@@ -28,7 +32,12 @@ use Rattle.demands.proofs.TripArgs.{Argued, arguments-read}
 -- an ASCII character before a text
 ascii-text : {x : ℕ} {text : List ℕ} → 0 < x → x < 128 → IsText text → IsText (x ∷ text)
 unfolding NoNul
-ascii-text {x} h k t = record { non-null = ((λ e. omega arith), t .non-null); valid = char {c = x ∷ []} here (next {r = to 0x00 0x7F} {x = x} (omega arith, omega arith) end) (t .valid) }
+ascii-text {x} h k t =
+    record {
+      non-null = ((λ e. omega arith), t .non-null);
+      valid = char {c = x ∷ []} here
+          (next {r = to 0x00 0x7F} {x = x} (omega arith, omega arith) end) (t .valid);
+    }
 
 -- a tag is an ASCII character other than NUL
 tag-low : (v : Atom) → AtomAllowed v → (0 < tagOf v) × (tagOf v < 128)
@@ -46,7 +55,8 @@ tags-text osc.end h more t = t
 tags-text (atom v rest) h more t = let l = tag-low v (h .0) in ascii-text (l .0) (l .1) (tags-text rest (h .1) more t)
 tags-text (array within rest) h more t =
     ascii-text (omega arith) (omega arith)
-    (rw append-assoc (tags-text within (h .0) (93 ∷ (tagsOf rest ++ more)) (ascii-text (omega arith) (omega arith) (tags-text rest (h .1) more t))))
+    (rw append-assoc (tags-text within (h .0) (93 ∷ (tagsOf rest ++ more))
+    (ascii-text (omega arith) (omega arith) (tags-text rest (h .1) more t))))
 
 no-text : IsText []
 unfolding NoNul
@@ -127,7 +137,14 @@ module _ (base : ℕ) where
       let d4 : drop 4 l ≡ c ++ es = drop-at n (c ++ es) 4 (length-bytes 4 (length c)) in
       let dn : drop (4 + length c) l ≡ es = sym (drop-drop (length c) 4 l) ∙ ap (drop (length c)) d4 ∙ drop-at c es (length c) refl in
       let one-is : element base l p ≡ one k a b f (length c)
-      = rw (le-leb 4 (length l) (omega arith), read-written 4 (length c) (c ++ es) h, le-leb (length c) (length l - 4) (omega arith), d4, take-at c es (length c) refl, e) in
+      = rw (
+        le-leb 4 (length l) (omega arith),
+        read-written 4 (length c) (c ++ es) h,
+        le-leb (length c) (length l - 4) (omega arith),
+        d4,
+        take-at c es (length c) refl,
+        e,
+      ) in
       elements-by base l p ∙ rw (one-is, dn)
 
 -- ---- packets
@@ -163,7 +180,8 @@ module _ (s : List ℕ) (base : ℕ) where
         inside = F .forest;
         read =
             rw n
-            (starts-message base (a ++ (t ++ d)) p (string-read w (t ++ d) p valid z) (omega (arith, string-length w)) (string-led w led (t ++ d))
+            (starts-message base (a ++ (t ++ d)) p (string-read w (t ++ d) p valid z) (omega (arith, string-length w))
+            (string-led w led (t ++ d))
             ∙ rw (drop-at a (t ++ d) (length a) refl, types-read base (base + p) (length address) A d v h (p + length a) q (F .read)));
         stands = is-message (range-at (at-front address _ (rw (w .spelled) at (at-front a (t ++ d) at)))) (F .stands);
       }
@@ -210,7 +228,8 @@ module _ (s : List ℕ) (base : ℕ) where
   at-elements : (x y : ℕ) (w es : List ℕ) (p : ℕ) → length w ≡ 8 → At s (base + p) (w ++ (int32 x ++ (int32 y ++ es)))
       → At s (base + (p + 8 + 8)) es
   at-elements x y w es p e at =
-      let h = at-next base (p + length w + length (int32 x)) (int32 y) es (at-next base (p + length w) (int32 x) _ (at-next base p w _ at)) in
+      let h = at-next base (p + length w + length (int32 x)) (int32 y) es
+      (at-next base (p + length w) (int32 x) _ (at-next base p w _ at)) in
       let q : p + 8 + 4 + 4 ≡ p + 8 + 8 = omega arith in
       rw (e, length-bytes 4 x, length-bytes 4 y, q) at h
 
@@ -233,7 +252,8 @@ module _ (s : List ℕ) (base : ℕ) where
         let m = length-append t d in
         let q : (p + length a + length t) % 4 ≡ 0 = omega (arith, w .multiple, v .multiple) in
         message-read address A p w v (h .0) (h .1) (h .2) z at
-        (arguments-read s base A r (h .2) (p + length a + length t) q (at-next base (p + length a) t d (at-next base p a (t ++ d) at)) (omega arith))
+        (arguments-read s base A r (h .2) (p + length a + length t) q (at-next base (p + length a) t d (at-next base p a (t ++ d) at))
+        (omega arith))
     packet-read (bundle x y Ps) (as-bundle {w = w} {es = es} v r) h p z at low =
         let e : length w ≡ 8 = bundle-eight v in
         let n = length-append w (int32 x ++ (int32 y ++ es)) in
@@ -245,5 +265,6 @@ module _ (s : List ℕ) (base : ℕ) where
     elements-read none no-element h p z at low = no-elements p
     elements-read (also P Ps) (one-element {content = c} {es = es} f w r) h p z at low =
         let n : length (int32 (length c) ++ (c ++ es)) ≡ 4 + length c + length es = simp (length-append, length-bytes) (omega arith) in
-        one-more p (omega arith) (packet-read P w (h .0) (p + 4) (omega arith) (at-front c es (at-content (length c) c es p at)) (omega arith))
+        one-more p (omega arith)
+        (packet-read P w (h .0) (p + 4) (omega arith) (at-front c es (at-content (length c) c es p at)) (omega arith))
         (elements-read Ps r (h .1) (p + (4 + length c)) (omega arith) (at-rest (length c) c es p at) (omega arith))

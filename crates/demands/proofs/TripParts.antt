@@ -1,4 +1,4 @@
--- What OSC 1.0 spells, read: texts, blobs and the data of one argument. Assumes nothing.
+-- What OSC 1.0 spells, read: texts, blobs and the data of one argument.
 use mathlib.Core.Path.{_≡_, refl, sym, ap, _∙_}
 use mathlib.Core.Bool.{true}
 use mathlib.Core.List.{List, [], _∷_, _++_, append-assoc}
@@ -16,7 +16,8 @@ use Rattle.text.specs.declared.Text.the-variants.{Found}
 use Rattle.arguments.specs.Argument.{argOf}
 use Rattle.arguments.specs.declared.Arg.the-variants.{Given}
 use Rattle.demands.specs.Words.{NoNul}
-use Rattle.demands.specs.Osc10.{Atom, IsText, AtomAllowed, int32, OscString, OscBlob, AtomSpells, as-word, as-long, as-bare, as-string, as-blob, as-char, FieldsAre, is-word, is-long, is-bare, is-string, is-blob, is-char}
+use Rattle.demands.specs.Osc10.{Atom, IsText, AtomAllowed, int32, OscString, OscBlob, AtomSpells, as-word, as-long, as-bare}
+use Rattle.demands.specs.Osc10.{as-string, as-blob, as-char, FieldsAre, is-word, is-long, is-bare, is-string, is-blob, is-char}
 use Rattle.number.proofs.Numbers.{length-bytes, read-written}
 use Rattle.text.proofs.Texts.{found}
 use Rattle.arguments.proofs.Argued.{four-given, eight-given, scalar-given, text-given, blob-given}
@@ -49,7 +50,8 @@ module _ {text bs : List ℕ} (w : OscString text bs) where
       let r : (p + n + 4) / 4 * 4 - p ≡ length bs = omega (arith, w .few, w .multiple) in
       let k = length-append bs more in
       let e : n ≡ untilNul (bs ++ more) = rw string-before (sym (nul-after text _ (t .non-null))) in
-      let d : Decides true (Octets (take n (bs ++ more))) = rw (string-take more) (record { sound = λ _. t .valid; complete = λ _. refl }) in
+      let d : Decides true (Octets (take n (bs ++ more))) = rw (string-take more)
+      (record { sound = λ _. t .valid; complete = λ _. refl }) in
       let u : utf8 (take n (bs ++ more)) ≡ true = same-answer (octets (take n (bs ++ more))) d in
       rw r at (found (bs ++ more) p n e (omega arith) (omega arith) u)
 
@@ -88,7 +90,12 @@ module _ (s : List ℕ) (base : ℕ) where
       → AtomRead s base v bs (bs ++ more) p
   unfolding argOf
   atom-read (as-word {x = x}) h more p z at low =
-      record { a = x; b = 0; given = rw length-bytes (four-given _ base p (four-long x more) (sym (read-written 4 x more (h .1)))); fields = is-word }
+      record {
+        a = x;
+        b = 0;
+        given = rw length-bytes (four-given _ base p (four-long x more) (sym (read-written 4 x more (h .1))));
+        fields = is-word;
+      }
   atom-read (as-long {high = x} {low = y}) h more p z at low =
       let e : (int32 x ++ int32 y) ++ more ≡ int32 x ++ (int32 y ++ more) = append-assoc (int32 x) (int32 y) more in
       let n : length (int32 x ++ int32 y) ≡ 8 = simp (length-append, length-bytes) in
@@ -97,7 +104,8 @@ module _ (s : List ℕ) (base : ℕ) where
       record {
         a = x;
         b = y;
-        given = rw (n, e) (eight-given _ base p k (sym (read-written 4 x (int32 y ++ more) (h .1))) (sym (ap (number 4) d ∙ read-written 4 y more (h .2))));
+        given = rw (n, e) (eight-given _ base p k (sym (read-written 4 x (int32 y ++ more) (h .1)))
+            (sym (ap (number 4) d ∙ read-written 4 y more (h .2))));
         fields = is-long;
       }
   atom-read as-bare h more p z at low = record { a = 0; b = 0; given = refl; fields = is-bare }
@@ -110,8 +118,10 @@ module _ (s : List ℕ) (base : ℕ) where
       }
   atom-read (as-blob {content = content} {bs = bs} w) h more p z at low =
       let n = length content in
-      let e : bs ++ more ≡ int32 n ++ ((content ++ replicate (w .additional) 0) ++ more) = rw (w .spelled) (append-assoc (int32 n) _ more) in
-      let l : length bs ≡ 4 + n + w .additional = ap length (w .spelled) ∙ simp (length-append, length-bytes, length-replicate) (omega arith) in
+      let e : bs ++ more ≡ int32 n ++ ((content ++ replicate (w .additional) 0) ++ more) = rw (w .spelled)
+      (append-assoc (int32 n) _ more) in
+      let l : length bs ≡ 4 + n + w .additional = ap length (w .spelled)
+      ∙ simp (length-append, length-bytes, length-replicate) (omega arith) in
       let k = length-append bs more in
       let x : n ≡ number 4 (bs ++ more) = rw e (sym (read-written 4 n _ (omega arith))) in
       let r : (p + 4 + n + 3) / 4 * 4 - p ≡ length bs = omega (arith, w .few, w .multiple) in
@@ -122,4 +132,10 @@ module _ (s : List ℕ) (base : ℕ) where
         fields = is-blob (range-at (blob-at w at));
       }
   atom-read (as-char {x = x}) h more p z at low =
-      record { a = x; b = 0; given = rw length-bytes (scalar-given _ base p (four-long x more) (sym (read-written 4 x more (scalar-small x h))) h); fields = is-char }
+      record {
+        a = x;
+        b = 0;
+        given = rw length-bytes
+            (scalar-given _ base p (four-long x more) (sym (read-written 4 x more (scalar-small x h))) h);
+        fields = is-char;
+      }

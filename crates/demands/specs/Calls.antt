@@ -1,4 +1,4 @@
--- Demand 1's public entry points: what each is handed, what it answers and what its contract says, word for word. Assumes nothing.
+-- Demand 1's public entry points: what each is handed, what it answers and what its contract says, word for word.
 use mathlib.Core.Path.{_≡_}
 use mathlib.Core.Bool.{Bool, true, false}
 use mathlib.Core.List.{List, [], _∷_}

@@ -1,4 +1,4 @@
--- The order's demands 2 and 3, over the definitions that the contracts cite. Assumes nothing.
+-- The order's demands 2 and 3, over the definitions that the contracts cite.
 use mathlib.Core.Path.{_≡_}
 use mathlib.Core.List.{List, _++_}
 use Prim.Native.Nat.{ℕ, _-_, _*_, _/_, _%_, _≤_}

@@ -1,7 +1,7 @@
 -- What the OSC 1.0 specification allows, in its own terms: packets as a syntax, the rules on them, and the bytes that spell them.
 -- Nothing here speaks of the decoder or the encoder. The type tags are document 01's, so without S; text is UTF-8 (RFC 3629)
 -- where OSC 1.0 says ASCII. OSC 1.0 also asks that an enclosed bundle's time tag is not before the enclosing one's: no rule
--- here, so more is allowed. Assumes nothing.
+-- here, so more is allowed.
 use mathlib.Core.Path.{_≡_}
 use mathlib.Core.Bool.{true}
 use mathlib.Core.List.{List, [], _∷_, _++_}
@@ -166,7 +166,8 @@ mutual
 
   pub data ElementsSpell : Packets → List ℕ → Type 0 where
     no-element : ElementsSpell none []
-    element : {packet : Packet} {rest : Packets} {content es : List ℕ} → length content % 4 ≡ 0 → Spells packet content → ElementsSpell rest es
+    element : {packet : Packet} {rest : Packets} {content es : List ℕ} → length content % 4 ≡ 0 → Spells packet content
+        → ElementsSpell rest es
         → ElementsSpell (also packet rest) (int32 (length content) ++ (content ++ es))
 
 -- ---- the tree of a packet
@@ -196,7 +197,8 @@ pub data ArgumentsAre (source : List ℕ) : Arguments → Forest → Type 0 wher
 -- a node stands for a packet, and a forest for a bundle's elements
 mutual
   pub data StandsFor (source : List ℕ) : Packet → (kind a b : ℕ) → Forest → Type 0 where
-    is-message : {address : List ℕ} {arguments : Arguments} {a b : ℕ} {f : Forest} → Range source a b address → ArgumentsAre source arguments f
+    is-message : {address : List ℕ} {arguments : Arguments} {a b : ℕ} {f : Forest} → Range source a b address
+        → ArgumentsAre source arguments f
         → StandsFor source (message address arguments) 47 a b f
     is-bundle : {seconds fractional : ℕ} {elements : Packets} {f : Forest} → StandFor source elements f
         → StandsFor source (bundle seconds fractional elements) 35 seconds fractional f

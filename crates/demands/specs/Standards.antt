@@ -1,5 +1,4 @@
 -- The order's demand 2, "what OSC 1.0 and RFC 3629 define is proved from them": what is claimed of the decoder and the encoder.
--- Assumes nothing.
 use mathlib.Core.Path.{_≡_}
 use mathlib.Core.List.{List}
 use Prim.Native.Nat.{ℕ, _≤_}
@@ -28,7 +27,8 @@ pub record AcceptedAs (packet : Packet) (l : List ℕ) : Type 0 where
 
 -- every packet that OSC 1.0 allows, of at most 65,535 bytes and at most 64 bundles deep, is accepted as what it is
 abbrev pub Osc10Accepted : Type 0
-Osc10Accepted = (packet : Packet) (l : List ℕ) → Allowed packet → Spells packet l → length l ≤ 65535 → deep packet ≤ 64 → AcceptedAs packet l
+Osc10Accepted =
+    (packet : Packet) (l : List ℕ) → Allowed packet → Spells packet l → length l ≤ 65535 → deep packet ≤ 64 → AcceptedAs packet l
 
 -- bytes spell a packet that OSC 1.0 allows, and a tree stands for it
 pub record Spelled (source : List ℕ) (kind a b : ℕ) (inside : Forest) (l : List ℕ) : Type 0 where
@@ -41,7 +41,8 @@ pub record Spelled (source : List ℕ) (kind a b : ℕ) (inside : Forest) (l : L
 -- the one that the table's tree is
 abbrev pub Osc10Written : Type 0
 Osc10Written =
-    (t : List ℕ) (count : ℕ) (source : List ℕ) (kind a b : ℕ) (inside : Forest) → Bytes t → Bytes source → IsTree t count source kind a b inside
+    (t : List ℕ) (count : ℕ) (source : List ℕ) (kind a b : ℕ) (inside : Forest) → Bytes t → Bytes source
+    → IsTree t count source kind a b inside
     → Clean source (node kind a b inside nil) → (out : List ℕ) (r : Outcome) → Encodes plain t count source out r
     → (n : ℕ) → r .answer ≡ encoder.Written n
     → Spelled source kind a b inside (take n (r .out))

@@ -1,4 +1,4 @@
--- The round trip of demand 2 as a fact about a function that calls `encode` and then `decode_udp`. Assumes nothing.
+-- The round trip of demand 2 as a fact about a function that calls `encode` and then `decode_udp`.
 use mathlib.Core.Path.{_≡_}
 use mathlib.Core.List.{List}
 use Prim.Native.Nat.{ℕ, _/_, _≤_}

@@ -1,4 +1,4 @@
--- The words in which the order's demands speak of trees and tables. Assumes nothing.
+-- The words in which the order's demands speak of trees and tables.
 use mathlib.Core.Path.{_≡_}
 use mathlib.Core.Bool.{Bool, cond}
 use mathlib.Core.List.{List, [], _∷_}
@@ -25,7 +25,8 @@ NoNul (x ∷ text) = (x ≡ 0 → ⊥) × NoNul text
 -- "'/'-led addresses, no NUL in text or address": of a node's own range
 unfoldable pub CleanNode : List ℕ → ℕ → ℕ → ℕ → Type 0
 CleanNode source kind a b =
-    cond (eqb kind 47) ((getD (part source a b) 0 0 ≡ 47) × NoNul (part source a b)) (cond (eqb kind 115) (NoNul (part source a b)) (Unit {0}))
+    cond (eqb kind 47) ((getD (part source a b) 0 0 ≡ 47) × NoNul (part source a b))
+    (cond (eqb kind 115) (NoNul (part source a b)) (Unit {0}))
 
 -- the same of every node
 unfoldable pub Clean : List ℕ → Forest → Type 0

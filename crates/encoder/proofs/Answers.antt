@@ -1,4 +1,4 @@
--- The outcomes of the calls, each by the tests that lead to it. Assumes nothing.
+-- The outcomes of the calls, each by the tests that lead to it.
 use mathlib.Core.Path.{_≡_, refl, sym, ap, _∙_}
 use mathlib.Core.Bool.{Bool, true, false, not, false≢true}
 use mathlib.Core.Logic.{⊎-elim}
@@ -50,7 +50,8 @@ module _ (bs out : List ℕ) where
   unfolding write
   write-short l h = rw (le-leb (length bs) 65535 l, lt-leb (length bs) (length out) h)
 
-  pub written : {o : List ℕ} {n : ℕ} → length bs ≤ 65535 → Filled bs out o n → _≡_ {A = Outcome} (record { answer = Written n; out = o }) (write bs out)
+  pub written : {o : List ℕ} {n : ℕ} → length bs ≤ 65535 → Filled bs out o n
+      → _≡_ {A = Outcome} (record { answer = Written n; out = o }) (write bs out)
   unfolding write
   written l f = rw (le-leb (length bs) 65535 l, le-leb (length bs) (length out) (f .wrote .room), f .count, f .wrote .left)
 
@@ -112,14 +113,16 @@ module _ {source t : List ℕ} {n : ℕ} (z : Sized source t n) where
         write-long (elementOf (packetAt source t 0 F)) out
         (⊎-elim (λ l. omega (arith, long l, element-length)) (λ l. omega (arith, known l, element-length)) (lt-or-le 65535 n))
 
-    pub element-short : (out : List ℕ) → n ≤ 65531 → length out < 4 + n → refuse OutputShort out ≡ write (elementOf (packetAt source t 0 F)) out
+    pub element-short : (out : List ℕ) → n ≤ 65531 → length out < 4 + n
+        → refuse OutputShort out ≡ write (elementOf (packetAt source t 0 F)) out
     element-short out l h =
         let e = known (omega arith) in
         write-short (elementOf (packetAt source t 0 F)) out (omega (arith, element-length)) (omega (arith, element-length))
 
     pub element-written : (out : List ℕ) {o p : List ℕ} {r : ℕ} → n ≤ 65531 → Wrote (bytes 4 n) out o
         → Fills (packetAt source t 0) t 1 (endAt t 0) (midOf 4 (length o - 4) o) p r
-        → _≡_ {A = Outcome} (record { answer = Written (4 + r); out = putMid 4 (length o - 4) o p }) (write (elementOf (packetAt source t 0 F)) out)
+        → _≡_ {A = Outcome} (record { answer = Written (4 + r); out = putMid 4 (length o - 4) o p })
+        (write (elementOf (packetAt source t 0 F)) out)
     element-written out {o} {p} {r} l w f =
         let e = known (omega arith) in
         let size : Filled (bytes 4 n) out o 4 = record { count = sym (length-bytes 4 n); wrote = w } in
@@ -215,7 +218,8 @@ pub record Planned (t : List ℕ) (count : ℕ) (source : List ℕ) (n : ℕ) : 
   pub shallow : depth (node (kindAt t 0) (aAt t 0) (bAt t 0) inside nil) ≤ 64
   pub sized : Sized source t n
 
-pub planned : (t : List ℕ) (count : ℕ) (source : List ℕ) {r : Prepared} {n : ℕ} → Prepares t count source r → r ≡ Length n → Planned t count source n
+pub planned : (t : List ℕ) (count : ℕ) (source : List ℕ) {r : Prepared} {n : ℕ} → Prepares t count source r → r ≡ Length n
+    → Planned t count source n
 planned t count source {r} {n} (prepare.malformed m e) q = let y : _≡_ {A = ℕ} 0 1 = cc in absurd (omega arith)
 planned t count source {r} {n} (prepare.deep inside tree h e) q = let y : _≡_ {A = ℕ} 0 1 = cc in absurd (omega arith)
 planned t count source {r} {n} (prepare.ready inside tree h m e z) q =
@@ -226,11 +230,13 @@ module _ {t : List ℕ} {count : ℕ} {source : List ℕ} {n : ℕ} (out : List 
   unfolding Spans
   inside-spans = w .tree .spans .3
 
-  framed : (frame : ℕ → List ℕ → List ℕ) {x : Outcome} → x ≡ write (frame (kindAt t 0) (packetAt source t 0 (w .inside))) out → Encodes frame t count source out x
+  framed : (frame : ℕ → List ℕ → List ℕ) {x : Outcome} → x ≡ write (frame (kindAt t 0) (packetAt source t 0 (w .inside))) out
+      → Encodes frame t count source out x
   unfolding encoded
   framed frame e = formed (kindAt t 0) (aAt t 0) (bAt t 0) (w .inside) (w .tree) (rw (le-leb _ 64 (w .shallow)) e)
 
-  pub encoded-plain : {x : Outcome} → ((F : Forest) → Spans t 1 (endAt t 0) F → x ≡ write (packetAt source t 0 F) out) → Encodes plain t count source out x
+  pub encoded-plain : {x : Outcome} → ((F : Forest) → Spans t 1 (endAt t 0) F → x ≡ write (packetAt source t 0 F) out)
+      → Encodes plain t count source out x
   encoded-plain f = framed plain (f (w .inside) inside-spans)
 
   -- the root's record is in the table

@@ -1,4 +1,4 @@
--- A turn of the data writer's loop. Assumes nothing.
+-- A turn of the data writer's loop.
 use mathlib.Core.Path.{_≡_, sym, ap, _∙_}
 use mathlib.Core.Bool.{true}
 use mathlib.Core.List.{List, [], _++_, append-nil}
@@ -19,7 +19,8 @@ use Rattle.encoder.specs.Writers.{ranged, Sound, Room, Fills}
 use Rattle.encoder.proofs.Classed.{leaf-range, data-is}
 use Rattle.encoder.proofs.Rows.{Going, room-left, next, gone, ends, obeyed}
 
-module _ {source t : List ℕ} {lo hi : ℕ} {o₀ o : List ℕ} {at k : ℕ} (w : Going (Sound source) (dataOf source) (dataOf source) t lo hi o₀ o at k) (h : at < hi)
+module _ {source t : List ℕ} {lo hi : ℕ} {o₀ o : List ℕ} {at k : ℕ}
+    (w : Going (Sound source) (dataOf source) (dataOf source) t lo hi o₀ o at k) (h : at < hi)
     {end kind : ℕ} (e : end ≡ endAt t at) (e′ : kind ≡ kindAt t at) {sort : Sort} (s : sort ≡ sortOf kind) where
   -- the bytes of the record
   abbrev datum : Sort → List ℕ
@@ -41,11 +42,14 @@ module _ {source t : List ℕ} {lo hi : ℕ} {o₀ o : List ℕ} {at k : ℕ} (w
 
   datum-gone : {x : Sort} → sort ≡ x → {p : List ℕ} {n : ℕ} → Filled (datum x) (midOf k (length o - k) o) p n
       → Going (Sound source) (dataOf source) (dataOf source) t lo hi o₀ (putMid k (length o - k) o p) end (k + n)
-  datum-gone {x} q f = rw e (gone w h (datum x) (data-left ∙ rw q) (record { container = w .holds .container; obeys = obeyed w h .rest-obeys }) (filled-lent (w .filled) f))
+  datum-gone {x} q f = rw e
+      (gone w h (datum x) (data-left ∙ rw q) (record { container = w .holds .container; obeys = obeyed w h .rest-obeys })
+      (filled-lent (w .filled) f))
 
   -- a closing bracket has no data
   pub closes-gone : sort ≡ Closes → Going (Sound source) (dataOf source) (dataOf source) t lo hi o₀ o end k
-  closes-gone q = rw e (gone w h [] (data-left ∙ rw q) (record { container = w .holds .container; obeys = obeyed w h .rest-obeys }) (rw append-nil (w .filled)))
+  closes-gone q = rw e (gone w h [] (data-left ∙ rw q) (record { container = w .holds .container; obeys = obeyed w h .rest-obeys })
+      (rw append-nil (w .filled)))
 
   -- an array: what it contains is written
   module _ (q : sort ≡ Opens) where
@@ -72,7 +76,8 @@ module _ {source t : List ℕ} {lo hi : ℕ} {o₀ o : List ℕ} {at k : ℕ} (w
 
   -- an argument that is no array
   module _ {class : Class} (q : sort ≡ Leaf class) {a b : ℕ} (u : a ≡ aAt t at) (v : b ≡ bAt t at) where
-    pub leaf-asked : (ranged class ≡ true → a + b ≤ length source) × (length (argumentOf class source a b) ≤ length (midOf k (length o - k) o))
+    pub leaf-asked : (ranged class ≡ true → a + b ≤ length source) ×
+        (length (argumentOf class source a b) ≤ length (midOf k (length o - k) o))
     leaf-asked = (
       rw (u, v) (leaf-range source (kindAt t at) (aAt t at) (bAt t at) class (obeyed w h .range) (sym (s ∙ ap sortOf e′) ∙ q)),
       rw (u, v) (datum-fits q),

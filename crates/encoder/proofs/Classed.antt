@@ -1,4 +1,4 @@
--- What a record's kind says of its range, its tags and its data. Assumes nothing.
+-- What a record's kind says of its range, its tags and its data.
 use mathlib.Core.Path.{_≡_, refl, sym, ap, _∙_}
 use mathlib.Core.Bool.{Bool, true, false, cond, false≢true}
 use mathlib.Core.List.{List, [], _∷_, _++_, append-assoc, append-nil}
@@ -52,13 +52,15 @@ opens k e = rw e
 pub opens-only : (k : ℕ) → sortOf k ≡ Opens → k ≡ 91
 unfolding sortOf
 opens-only k e =
-    eqb-true k 91 (then-only (eqb k 91) Opens e (λ f. apart opening (Leaf (classOf k)) Opens refl refl (else-only (eqb k 93) f (apart opening Closes Opens refl refl))))
+    eqb-true k 91 (then-only (eqb k 91) Opens e
+    (λ f. apart opening (Leaf (classOf k)) Opens refl refl (else-only (eqb k 93) f (apart opening Closes Opens refl refl))))
 
 class-of : (k : ℕ) (class : Class) → sortOf k ≡ Leaf class → classOf k ≡ class
 unfolding sortOf
 class-of k class e =
     let f : Leaf (classOf k) ≡ Leaf class
-    = else-only (eqb k 93) (else-only (eqb k 91) e (apart leafy Opens (Leaf class) refl refl)) (apart leafy Closes (Leaf class) refl refl) in
+    = else-only (eqb k 93) (else-only (eqb k 91) e (apart leafy Opens (Leaf class) refl refl))
+    (apart leafy Closes (Leaf class) refl refl) in
     cc
 
 skip : (x : Bool) (p q : Class) → ranged p ≡ false → ranged (cond x p q) ≡ true → ranged q ≡ true
@@ -73,13 +75,16 @@ ranged-kind k e =
     let bare = among k (70 ∷ 73 ∷ 78 ∷ 84 ∷ []) in
     let eight = among k (100 ∷ 104 ∷ 116 ∷ []) in
     let four = among k (102 ∷ 105 ∷ 109 ∷ 114 ∷ []) in
-    text (eqb k 115) refl (skip bare Bare late refl (skip eight Eight (cond bare Bare late) refl (skip four Four (cond eight Eight (cond bare Bare late)) refl e)))
+    text (eqb k 115) refl
+    (skip bare Bare late refl
+    (skip eight Eight (cond bare Bare late) refl (skip four Four (cond eight Eight (cond bare Bare late)) refl e)))
   where
     blob : (x : Bool) → ranged (cond x Blob (cond (eqb k 99) Scalar Unknown)) ≡ true → x ≡ true
     blob true e = refl
     blob false e = absurd (false≢true (skip (eqb k 99) Scalar Unknown refl e))
 
-    text : (x : Bool) → eqb k 115 ≡ x → ranged (cond x Text (cond (eqb k 98) Blob (cond (eqb k 99) Scalar Unknown))) ≡ true → (k ≡ 115) ⊎ (k ≡ 98)
+    text : (x : Bool) → eqb k 115 ≡ x → ranged (cond x Text (cond (eqb k 98) Blob (cond (eqb k 99) Scalar Unknown))) ≡ true
+        → (k ≡ 115) ⊎ (k ≡ 98)
     text true q e = inl (eqb-true k 115 q)
     text false q e = inr (eqb-true k 98 (blob (eqb k 98) e))
 
@@ -144,7 +149,8 @@ module _ (k a b : ℕ) (inside rest : Forest) where
   unfolding dataOf
   data-is source sort e = rw e
 
-  pub elements-is : (source : List ℕ) → elementsOf source (node k a b inside rest) ≡ elementOf (packetOf source k a b inside) ++ elementsOf source rest
+  pub elements-is : (source : List ℕ)
+      → elementsOf source (node k a b inside rest) ≡ elementOf (packetOf source k a b inside) ++ elementsOf source rest
   unfolding elementsOf packetOf
   elements-is source = refl
 

@@ -1,4 +1,4 @@
--- What the encoders write is a multiple of four bytes long. Assumes nothing.
+-- What the encoders write is a multiple of four bytes long.
 use mathlib.Core.Path.{_≡_}
 use mathlib.Core.Bool.{Bool, true, false, cond}
 use mathlib.Core.List.{List, _++_}
@@ -32,10 +32,12 @@ unfolding write
 write-even bs out h =
     let done : Outcome = record { answer = Written (length bs); out = bs ++ drop (length bs) out } in
     cond-even (leb (length bs) 65535) (cond (leb (length bs) (length out)) done (refuse OutputShort out)) (refuse TooLong out)
-    (cond-even (leb (length bs) (length out)) done (refuse OutputShort out) (λ n e. let q : length bs ≡ n = cc in rw (← q) h) (refuse-even OutputShort out))
+    (cond-even (leb (length bs) (length out)) done (refuse OutputShort out) (λ n e. let q : length bs ≡ n = cc in rw (← q) h)
+    (refuse-even OutputShort out))
     (refuse-even TooLong out)
 
-encodes-even : (frame : ℕ → List ℕ → List ℕ) → ((source : List ℕ) (kind a b : ℕ) (inside : Forest) → length (frame kind (packetOf source kind a b inside)) % 4 ≡ 0)
+encodes-even : (frame : ℕ → List ℕ → List ℕ)
+    → ((source : List ℕ) (kind a b : ℕ) (inside : Forest) → length (frame kind (packetOf source kind a b inside)) % 4 ≡ 0)
     → (t : List ℕ) (count : ℕ) (source out : List ℕ) (r : Outcome) → Encodes frame t count source out r → Even r
 unfolding encoded
 encodes-even frame h t count source out r (malformed n e) = rw e (refuse-even BadTable out)
@@ -45,13 +47,16 @@ encodes-even frame h t count source out r (formed k a b inside tree e) =
     (write-even (frame k (packetOf source k a b inside)) out (h source k a b inside))
     (refuse-even TooDeep out))
 
-pub encode-fours : (t : List ℕ) (count : ℕ) (source out : List ℕ) (r : Outcome) → Encodes plain t count source out r → (n : ℕ) → r .answer ≡ Written n → n % 4 ≡ 0
+pub encode-fours : (t : List ℕ) (count : ℕ) (source out : List ℕ) (r : Outcome) → Encodes plain t count source out r → (n : ℕ)
+    → r .answer ≡ Written n → n % 4 ≡ 0
 encode-fours = encodes-even plain packet-even
 
-pub encode-tcp-fours : (t : List ℕ) (count : ℕ) (source out : List ℕ) (r : Outcome) → Encodes prefixed t count source out r → (n : ℕ) → r .answer ≡ Written n → n % 4 ≡ 0
+pub encode-tcp-fours : (t : List ℕ) (count : ℕ) (source out : List ℕ) (r : Outcome) → Encodes prefixed t count source out r → (n : ℕ)
+    → r .answer ≡ Written n → n % 4 ≡ 0
 encode-tcp-fours = encodes-even prefixed prefixed-even
 
 pub encode-string-fours : (text out : List ℕ) (n : ℕ) → stringOutcome text out .answer ≡ Written n → n % 4 ≡ 0
 unfolding stringOutcome
 encode-string-fours text out =
-    cond-even (utf8 text) (write (oscString text) out) (refuse (Unreadable NotUtf8) out) (write-even (oscString text) out (string-even text)) (refuse-even (Unreadable NotUtf8) out)
+    cond-even (utf8 text) (write (oscString text) out) (refuse (Unreadable NotUtf8) out)
+    (write-even (oscString text) out (string-even text)) (refuse-even (Unreadable NotUtf8) out)

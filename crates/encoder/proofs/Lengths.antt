@@ -1,4 +1,4 @@
--- How long the parts of a packet are, and that a packet is a multiple of four bytes long. Assumes nothing.
+-- How long the parts of a packet are, and that a packet is a multiple of four bytes long.
 use mathlib.Core.Path.{_≡_, refl, ap}
 use mathlib.Core.Bool.{Bool, true, false, cond}
 use mathlib.Core.List.{List, _∷_, _++_}
@@ -14,7 +14,8 @@ use Rattle.types.specs.declared.tags.Class.the-variants.{Four, Eight, Bare, Tex
 use Rattle.types.specs.declared.tags.Sort.{Sort}
 use Rattle.types.specs.declared.tags.Sort.the-variants.{Opens, Closes, Leaf}
 use Rattle.table.specs.Formed.{part}
-use Rattle.encoder.specs.Osc.{int32, oscString, oscBlob, argumentOf, dataBy, dataOf, tagsOf, messageOf, bundleOf, elementOf, elementsOf, packetOf}
+use Rattle.encoder.specs.Osc.{int32, oscString, oscBlob, argumentOf, dataBy, dataOf, tagsOf, messageOf, bundleOf, elementOf}
+use Rattle.encoder.specs.Osc.{elementsOf, packetOf}
 use Rattle.encoder.specs.Outcome.{prefixed}
 use Rattle.encoder.specs.Writers.{stringLength, blobLength}
 
@@ -31,7 +32,8 @@ unfolding bundleOf
 length-bundle seconds fractional elements = simp (length-append, length-bytes) (omega arith)
 
 pub length-message : (source : List ℕ) (a b : ℕ) (inside : Forest)
-    → length (messageOf source a b inside) ≡ length (oscString (part source a b)) + stringLength (1 + length (tagsOf inside)) + length (dataOf source inside)
+    → length (messageOf source a b inside) ≡ length (oscString (part source a b)) + stringLength (1 + length (tagsOf inside)) + length
+    (dataOf source inside)
 unfolding messageOf
 length-message source a b inside =
     let e : stringLength (suc (length (tagsOf inside))) ≡ stringLength (1 + length (tagsOf inside)) = ap stringLength (omega arith) in
@@ -58,7 +60,8 @@ argument-even Blob source a b = rw length-blob (omega arith)
 argument-even Scalar source a b = number-even a
 argument-even Unknown source a b = refl
 
-data-by-even : (sort : Sort) (source : List ℕ) (a b : ℕ) (within : List ℕ) → length within % 4 ≡ 0 → length (dataBy sort source a b within) % 4 ≡ 0
+data-by-even : (sort : Sort) (source : List ℕ) (a b : ℕ) (within : List ℕ) → length within % 4 ≡ 0
+    → length (dataBy sort source a b within) % 4 ≡ 0
 data-by-even Opens source a b within h = h
 data-by-even Closes source a b within h = refl
 data-by-even (Leaf class) source a b within h = argument-even class source a b
@@ -67,7 +70,8 @@ data-even : (source : List ℕ) (inside : Forest) → length (dataOf source insi
 unfolding dataOf
 data-even source nil = refl
 data-even source (node kind a b inside rest) =
-    both (dataBy (sortOf kind) source a b (dataOf source inside)) (dataOf source rest) (data-by-even (sortOf kind) source a b (dataOf source inside) (data-even source inside)) (data-even source rest)
+    both (dataBy (sortOf kind) source a b (dataOf source inside)) (dataOf source rest)
+    (data-by-even (sortOf kind) source a b (dataOf source inside) (data-even source inside)) (data-even source rest)
 
 message-even : (source : List ℕ) (a b : ℕ) (inside : Forest) → length (messageOf source a b inside) % 4 ≡ 0
 unfolding messageOf

@@ -1,5 +1,4 @@
 -- No second outcome, of answer and output together, meets the contract of `encoder::encode`, of `encode_tcp`, or of `encode_string`.
--- Assumes nothing.
 use mathlib.Core.Path.{_≡_, sym, _∙_}
 use mathlib.Core.List.{List}
 use Prim.Native.Nat.{ℕ}
@@ -19,7 +18,8 @@ encodes-only frame t count source out r s (formed k a b inside tree e) (formed k
     let v : encoded frame source out k a b inside ≡ encoded frame source out k′ a′ b′ inside′ = cc in
     e ∙ v ∙ sym f
 
-pub encode-only : (t : List ℕ) (count : ℕ) (source out : List ℕ) (r s : Outcome) → Encodes plain t count source out r → Encodes plain t count source out s → r ≡ s
+pub encode-only : (t : List ℕ) (count : ℕ) (source out : List ℕ) (r s : Outcome) → Encodes plain t count source out r
+    → Encodes plain t count source out s → r ≡ s
 encode-only = encodes-only plain
 
 pub encode-tcp-only : (t : List ℕ) (count : ℕ) (source out : List ℕ) (r s : Outcome)

@@ -1,4 +1,4 @@
--- The type tag text, the message, the bundle and its elements: what each step of their writers has room for, and what it leaves. Assumes nothing.
+-- The type tag text, the message, the bundle and its elements: what each step of their writers has room for, and what it leaves.
 use mathlib.Core.Path.{_≡_, refl, ap, _∙_}
 use mathlib.Core.List.{List, [], _++_, append-assoc}
 use Prim.Native.Nat.{ℕ, suc, _+_, _-_, _*_, _/_, _%_, _≤_, _<_}
@@ -81,7 +81,8 @@ module _ {source t : List ℕ} {at : ℕ} (o : List ℕ) (y : kindAt t at ≡ 47
   unfolding messageOf
   message-bytes F = rw (u, v) (message-is source (kindAt t at) (aAt t at) (bAt t at) F y)
 
-  message-room : (length (oscString (part source a b)) + length (tagText (q .room .forest)) + length (dataOf source (q .room .forest)) ≤ length o)
+  message-room : (length (oscString (part source a b)) + length (tagText (q .room .forest)) + length (dataOf source (q .room .forest)) ≤
+      length o)
       × (length (oscString (part source a b)) + length (tagText (q .room .forest)) + length (dataOf source (q .room .forest)) ≤ 65535)
   message-room =
       let l = simp length-append at (ap length (message-bytes (q .room .forest))) in
@@ -143,7 +144,8 @@ module _ {source t : List ℕ} {at : ℕ} (o : List ℕ) (y : kindAt t at ≡ 47
             let c = f₃ (q .room .forest) inside-spans .count in
             omega (arith, message-room)
 
-        pub message-filled : Fills (packetAt source t at) t (at + 1) (endAt t at) o (putMid (k + m) (length headed - (k + m)) headed p′) (k + m + d)
+        pub message-filled : Fills (packetAt source t at) t (at + 1) (endAt t at) o (putMid (k + m) (length headed - (k + m)) headed p′)
+            (k + m + d)
         message-filled F s =
             let s′ : Spans t (at + 1) end F = rw e s in
             rw (message-bytes F) (simp append-assoc at (filled-lent (filled-lent f₁ (f₂ F s′)) (f₃ F s′)))
@@ -165,7 +167,8 @@ module _ {source t : List ℕ} {at : ℕ} (o : List ℕ) (n : kindAt t at ≡ 47
         let room : Room (Sound source) (packetAt source t at) t (at + 1) end (length o₁) = rw (e, filled-length f) (q .room) in
         begun room (bundleOf a b []) (bundle-bytes (room .forest)) (written-again f)
 
-    pub bundle-ended : {o₂ : List ℕ} {next n : ℕ} → Going (Sound source) (packetAt source t at) (elementsOf source) t (at + 1) end o₁ o₂ next n
+    pub bundle-ended : {o₂ : List ℕ} {next n : ℕ}
+        → Going (Sound source) (packetAt source t at) (elementsOf source) t (at + 1) end o₁ o₂ next n
         → end ≤ next → Fills (packetAt source t at) t (at + 1) (endAt t at) o o₂ n
     bundle-ended w h F s =
         let b = ended w (elements-none source) h F (rw e s) in
@@ -173,11 +176,14 @@ module _ {source t : List ℕ} {at : ℕ} (o : List ℕ) (n : kindAt t at ≡ 47
 
 -- ---- an element of a bundle
 
-module _ {source t : List ℕ} {g : Forest → List ℕ} {lo hi : ℕ} {o₀ o : List ℕ} {at k : ℕ} (w : Going (Sound source) g (elementsOf source) t lo hi o₀ o at k) (h : at < hi) where
+module _ {source t : List ℕ} {g : Forest → List ℕ} {lo hi : ℕ} {o₀ o : List ℕ} {at k : ℕ}
+    (w : Going (Sound source) g (elementsOf source) t lo hi o₀ o at k) (h : at < hi) where
   element-left : elementsOf source (w .rest) ≡ elementOf (packetAt source t at (next w h .inside)) ++ elementsOf source (next w h .rest)
-  element-left = ap (elementsOf source) (next w h .is) ∙ elements-is (kindAt t at) (aAt t at) (bAt t at) (next w h .inside) (next w h .rest) source
+  element-left = ap (elementsOf source) (next w h .is)
+      ∙ elements-is (kindAt t at) (aAt t at) (bAt t at) (next w h .inside) (next w h .rest) source
 
-  pub element-room : (k + 4 + length (packetAt source t at (next w h .inside)) ≤ length o) × (k + 4 + length (packetAt source t at (next w h .inside)) ≤ 65535)
+  pub element-room : (k + 4 + length (packetAt source t at (next w h .inside)) ≤ length o) ×
+      (k + 4 + length (packetAt source t at (next w h .inside)) ≤ 65535)
   element-room =
       let l = simp (length-append, length-bytes) at (ap length element-left) in
       (omega (arith, room-left w, filled-length (w .filled)), omega (arith, room-left w))
@@ -205,13 +211,17 @@ module _ {source t : List ℕ} {g : Forest → List ℕ} {lo hi : ℕ} {o₀ o :
     inside-filled = f (next w h .inside) (next w h .in-spans)
 
     pub packet-after : (k + 4 + n ≤ length placed) × (k + 4 + n ≤ 65535)
-    packet-after =
-        (omega (arith, element-room, inside-filled .count, same-length o (k + 4) (inside-filled .wrote)), omega (arith, element-room, inside-filled .count))
+    packet-after = (
+      omega (arith, element-room, inside-filled .count, same-length o (k + 4) (inside-filled .wrote)),
+      omega
+          (arith, element-room, inside-filled .count),
+    )
 
     pub element-gone : {p′ : List ℕ} → Wrote (bytes 4 n) (midOf k (length placed - k) placed) p′ → {end : ℕ} → end ≡ endAt t at
         → Going (Sound source) g (elementsOf source) t lo hi o₀ (putMid k (length placed - k) placed p′) end (k + 4 + n)
     element-gone v e =
-        let size = gap-filled (w .filled) (omega (arith, element-room, filled-length (w .filled))) (length-bytes 4 _) inside-filled (rw (inside-filled .count) at v) in
+        let size = gap-filled (w .filled) (omega (arith, element-room, filled-length (w .filled))) (length-bytes 4 _) inside-filled
+        (rw (inside-filled .count) at v) in
         rw e
         (gone w h (elementOf (packetAt source t at (next w h .inside))) element-left
         (record { container = w .holds .container; obeys = obeyed w h .rest-obeys })

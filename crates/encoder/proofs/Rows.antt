@@ -1,4 +1,4 @@
--- A writer's loop over the records of a row: what is written, and what is left to write. Assumes nothing.
+-- A writer's loop over the records of a row: what is written, and what is left to write.
 use mathlib.Core.Path.{_≡_, refl, sym, ap, _∙_}
 use mathlib.Core.List.{List, [], _∷_, _++_, append-assoc, append-nil}
 use Prim.Native.Nat.{ℕ, _+_, _-_, _*_, _≤_, _<_}
@@ -32,7 +32,8 @@ pub record Going (P : Forest → Type 0) (g f : Forest → List ℕ) (t : List �
   pub passed : lo ≤ at
 
 -- the loop begins
-pub begun : {P : Forest → Type 0} {g f : Forest → List ℕ} {t : List ℕ} {lo hi : ℕ} {o₀ o : List ℕ} {k : ℕ} (r : Room P g t lo hi (length o₀)) (done : List ℕ)
+pub begun : {P : Forest → Type 0} {g f : Forest → List ℕ} {t : List ℕ} {lo hi : ℕ} {o₀ o : List ℕ} {k : ℕ}
+    (r : Room P g t lo hi (length o₀)) (done : List ℕ)
     → g (r .forest) ≡ done ++ f (r .forest) → Filled done o₀ o k → Going P g f t lo hi o₀ o lo k
 begun r done e w =
     record {
@@ -50,10 +51,12 @@ begun r done e w =
       passed = omega arith;
     }
 
-pub begun-empty : {P : Forest → Type 0} {f : Forest → List ℕ} {t : List ℕ} {lo hi : ℕ} {o : List ℕ} → Room P f t lo hi (length o) → Going P f f t lo hi o o lo 0
+pub begun-empty : {P : Forest → Type 0} {f : Forest → List ℕ} {t : List ℕ} {lo hi : ℕ} {o : List ℕ} → Room P f t lo hi (length o)
+    → Going P f f t lo hi o o lo 0
 begun-empty r = begun r [] refl (record { count = refl; wrote = wrote-none _ })
 
-module _ {P : Forest → Type 0} {g f : Forest → List ℕ} {t : List ℕ} {lo hi : ℕ} {o₀ o : List ℕ} {at k : ℕ} (w : Going P g f t lo hi o₀ o at k) where
+module _ {P : Forest → Type 0} {g f : Forest → List ℕ} {t : List ℕ} {lo hi : ℕ} {o₀ o : List ℕ} {at k : ℕ}
+    (w : Going P g f t lo hi o₀ o at k) where
   -- it ends
   pub ended : f nil ≡ [] → hi ≤ at → Fills g t lo hi o₀ o k
   ended e h F s =
@@ -96,7 +99,8 @@ module _ {P : Forest → Type 0} {g f : Forest → List ℕ} {t : List ℕ} {lo 
   ends h e = rw e (next h .on, next h .within)
 
 -- the first record that is left obeys its rules, and so do what it contains and what is left after it
-pub obeyed : {source t : List ℕ} {g f : Forest → List ℕ} {lo hi : ℕ} {o₀ o : List ℕ} {at k : ℕ} (w : Going (Sound source) g f t lo hi o₀ o at k) (h : at < hi)
+pub obeyed : {source t : List ℕ} {g f : Forest → List ℕ} {lo hi : ℕ} {o₀ o : List ℕ} {at k : ℕ}
+    (w : Going (Sound source) g f t lo hi o₀ o at k) (h : at < hi)
     → Parts source (w .holds .container) (kindAt t at) (aAt t at) (bAt t at) (next w h .inside) (next w h .rest)
 obeyed {source} w h = cut-parts (next w h) source (w .holds .container) (w .holds .obeys)
 
@@ -112,7 +116,8 @@ module _ {t : List ℕ} {lo hi : ℕ} {o₀ o : List ℕ} {at k : ℕ} (w : Goin
   -- there is room for a tag
   pub tag-room : (k + 1 ≤ length o₀) × (k + 1 ≤ 65535)
   tag-room =
-      let l : 1 ≤ length (tagsOf (w .rest)) = rw (next w h .is) (tags-some (kindAt t at) (aAt t at) (bAt t at) (next w h .inside) (next w h .rest)) in
+      let l : 1 ≤ length (tagsOf (w .rest)) = rw (next w h .is)
+      (tags-some (kindAt t at) (aAt t at) (bAt t at) (next w h .inside) (next w h .rest)) in
       (omega (arith, room-left w), omega (arith, room-left w))
 
   array-length : kindAt t at ≡ 91 → 2 + length (tagsOf (next w h .inside)) ≤ length (tagsOf (w .rest))
@@ -120,7 +125,8 @@ module _ {t : List ℕ} {lo hi : ℕ} {o₀ o : List ℕ} {at k : ℕ} (w : Goin
 
   module _ {kind end : ℕ} (e : kind ≡ kindAt t at) (e′ : end ≡ endAt t at) where
     pub tags-leaf-gone : (kind ≡ 91 → ⊥) → Going Any tagsOf tagsOf t lo hi o₀ (set o k kind) end (k + 1)
-    tags-leaf-gone n = rw (e, e′) (gone w h (kindAt t at ∷ []) (leaf-is (rw e at n)) tt (filled-set (kindAt t at) (w .filled) (omega (arith, tag-room))))
+    tags-leaf-gone n = rw (e, e′)
+        (gone w h (kindAt t at ∷ []) (leaf-is (rw e at n)) tt (filled-set (kindAt t at) (w .filled) (omega (arith, tag-room))))
 
     -- the output with the opening bracket
     abbrev opened : List ℕ
@@ -143,20 +149,23 @@ module _ {t : List ℕ} {lo hi : ℕ} {o₀ o : List ℕ} {at k : ℕ} (w : Goin
         }
 
     -- and then there is room for the closing bracket
-    module _ (y : kind ≡ 91) {p : List ℕ} {n : ℕ} (f : Fills tagsOf t (at + 1) end (midOf (k + 1) (length opened - (k + 1)) opened) p n) where
-      inside-filled : Filled (tagsOf (next w h .inside)) (midOf (k + 1) (length opened - (k + 1)) opened) p n
-      inside-filled = f (next w h .inside) (rw e′ (next w h .in-spans))
+    module _ (y : kind ≡ 91) {p : List ℕ} {n : ℕ} (f : Fills tagsOf t (at + 1) end (midOf (k + 1) (length opened - (k + 1)) opened) p n)
+      where
+        inside-filled : Filled (tagsOf (next w h .inside)) (midOf (k + 1) (length opened - (k + 1)) opened) p n
+        inside-filled = f (next w h .inside) (rw e′ (next w h .in-spans))
 
-      pub close-room : (k + 1 + n + 1 ≤ length (putMid (k + 1) (length opened - (k + 1)) opened p)) × (k + 1 + n + 1 ≤ 65535)
-      close-room =
-          let m = array-length (rw e at y) in
-          let c = inside-filled .count in
-          (omega (arith, room-left w, opened-length, same-length opened (k + 1) (inside-filled .wrote)), omega (arith, room-left w))
+        pub close-room : (k + 1 + n + 1 ≤ length (putMid (k + 1) (length opened - (k + 1)) opened p)) × (k + 1 + n + 1 ≤ 65535)
+        close-room =
+            let m = array-length (rw e at y) in
+            let c = inside-filled .count in
+            (omega (arith, room-left w, opened-length, same-length opened (k + 1) (inside-filled .wrote)), omega (arith, room-left w))
 
-      pub tags-array-gone : Going Any tagsOf tagsOf t lo hi o₀ (set (putMid (k + 1) (length opened - (k + 1)) opened p) (k + 1 + n) 93) end (k + 1 + n + 1)
-      tags-array-gone =
-          let l = same-length opened (k + 1) (inside-filled .wrote) in
-          let f₁ = filled-set kind (w .filled) (omega (arith, tag-room)) in
-          let f₂ = filled-set 93 (filled-lent f₁ inside-filled) (omega (arith, close-room, l, opened-length)) in
-          let q : tagsOf (w .rest) ≡ (kind ∷ (tagsOf (next w h .inside) ++ (93 ∷ []))) ++ tagsOf (next w h .rest) = rw e (array-is (rw e at y)) in
-          rw e′ (gone w h (kind ∷ (tagsOf (next w h .inside) ++ (93 ∷ []))) q tt (simp append-assoc at f₂))
+        pub tags-array-gone : Going Any tagsOf tagsOf t lo hi o₀ (set (putMid (k + 1) (length opened - (k + 1)) opened p) (k + 1 + n) 93)
+            end (k + 1 + n + 1)
+        tags-array-gone =
+            let l = same-length opened (k + 1) (inside-filled .wrote) in
+            let f₁ = filled-set kind (w .filled) (omega (arith, tag-room)) in
+            let f₂ = filled-set 93 (filled-lent f₁ inside-filled) (omega (arith, close-room, l, opened-length)) in
+            let q : tagsOf (w .rest) ≡ (kind ∷ (tagsOf (next w h .inside) ++ (93 ∷ []))) ++ tagsOf (next w h .rest) = rw e
+            (array-is (rw e at y)) in
+            rw e′ (gone w h (kind ∷ (tagsOf (next w h .inside) ++ (93 ∷ []))) q tt (simp append-assoc at f₂))

@@ -1,4 +1,4 @@
--- The length of a packet is the sum over its records. Assumes nothing.
+-- The length of a packet is the sum over its records.
 use mathlib.Core.Path.{_≡_, refl, sym, ap, _∙_}
 use mathlib.Core.Bool.{Bool, true, false, not, cond, true≢false, false≢true}
 use mathlib.Core.Logic.{_⊎_, inl, inr, ⊎-elim}
@@ -26,7 +26,8 @@ use Rattle.encoder.specs.Osc.{oscString, argumentOf, dataBy, dataOf, tag
 use Rattle.encoder.specs.Writers.{stringLength, ranged}
 use Rattle.encoder.specs.Measure.{argumentLength, dataLength, tagLength, sumTo, tagsTo, dataTo, messageLength, elementLength}
 use Rattle.encoder.proofs.Lengths.{length-string, length-blob, length-bundle, length-message}
-use Rattle.encoder.proofs.Classed.{opens, leaf-range, address-range, tags-none, data-none, elements-none, tags-is, data-is, elements-is, message-is, bundle-is}
+use Rattle.encoder.proofs.Classed.{opens, leaf-range, address-range, tags-none, data-none, elements-none, tags-is, data-is}
+use Rattle.encoder.proofs.Classed.{elements-is, message-is, bundle-is}
 
 -- ---- sums
 
@@ -73,7 +74,8 @@ other-bundle k n a = ⊎-elim (λ e. e) (λ m. absurd (false≢true (rw (ne-eqb 
 leaf-empty : (source : List ℕ) (k : ℕ) (inside : Forest) → (k ≡ 35 → ⊥) → (k ≡ 47 → ⊥) → (k ≡ 91 → ⊥) → Obeys source k inside → inside ≡ nil
 unfolding Obeys allowed
 leaf-empty source k nil n₁ n₂ n₃ o = refl
-leaf-empty source k (node k′ a b inside rest) n₁ n₂ n₃ o = absurd (false≢true (rw (ne-eqb k 35 n₁, ne-eqb k 47 n₂, ne-eqb k 91 n₃) at (o .2)))
+leaf-empty source k (node k′ a b inside rest) n₁ n₂ n₃ o =
+    absurd (false≢true (rw (ne-eqb k 35 n₁, ne-eqb k 47 n₂, ne-eqb k 91 n₃) at (o .2)))
 
 -- ---- the tags and the data of one record
 
@@ -93,18 +95,22 @@ length-argument Blob source a b h = length-blob (part source a b) ∙ rw (length
 length-argument Scalar source a b h = length-bytes 4 a
 length-argument Unknown source a b h = refl
 
-data-by : (sort : Sort) (source : List ℕ) (a b : ℕ) (within : List ℕ) → ((class : Class) → sort ≡ Leaf class → ranged class ≡ true → a + b ≤ length source)
+data-by : (sort : Sort) (source : List ℕ) (a b : ℕ) (within : List ℕ)
+    → ((class : Class) → sort ≡ Leaf class → ranged class ≡ true → a + b ≤ length source)
     → ((sort ≡ Opens → ⊥) → within ≡ []) → length (dataBy sort source a b within) ≡ dataLength sort b + length within
 data-by Opens source a b within h m = omega arith
 data-by Closes source a b within h m = omega (arith, ap length (m closes-apart))
-data-by (Leaf class) source a b within h m = omega (arith, length-argument class source a b (h class refl), ap length (m (leaf-apart class)))
+data-by (Leaf class) source a b within h m =
+    omega (arith, length-argument class source a b (h class refl), ap length (m (leaf-apart class)))
 
-tags-by : (sort : Sort) (k : ℕ) (within : List ℕ) → ((sort ≡ Opens → ⊥) → within ≡ []) → length (tagsBy sort k within) ≡ tagLength sort + length within
+tags-by : (sort : Sort) (k : ℕ) (within : List ℕ) → ((sort ≡ Opens → ⊥) → within ≡ [])
+    → length (tagsBy sort k within) ≡ tagLength sort + length within
 tags-by Opens k within m = simp length-append (omega arith)
 tags-by Closes k within m = omega (arith, ap length (m closes-apart))
 tags-by (Leaf class) k within m = omega (arith, ap length (m (leaf-apart class)))
 
-module _ (source : List ℕ) (container k a b : ℕ) (inside rest : Forest) (n : container ≡ 35 → ⊥) (p : Parts source container k a b inside rest) where
+module _ (source : List ℕ) (container k a b : ℕ) (inside rest : Forest) (n : container ≡ 35 → ⊥)
+    (p : Parts source container k a b inside rest) where
   -- only an array among the arguments contains anything
   only-arrays : (sortOf k ≡ Opens → ⊥) → inside ≡ nil
   only-arrays m =
@@ -115,18 +121,22 @@ module _ (source : List ℕ) (container k a b : ℕ) (inside rest : Forest) (n :
       let e = tags-by (sortOf k) k (tagsOf inside) (λ m. ap tagsOf (only-arrays m) ∙ tags-none) in
       omega (arith, simp length-append at (ap length (tags-is k a b inside rest)))
 
-  pub data-one : length (dataOf source (node k a b inside rest)) ≡ dataLength (sortOf k) b + length (dataOf source inside) + length (dataOf source rest)
+  pub data-one : length (dataOf source (node k a b inside rest)) ≡ dataLength (sortOf k) b + length (dataOf source inside) + length
+      (dataOf source rest)
   data-one =
-      let e = data-by (sortOf k) source a b (dataOf source inside) (λ class. leaf-range source k a b class (p .range)) (λ m. ap (dataOf source) (only-arrays m) ∙ data-none source) in
+      let e = data-by (sortOf k) source a b (dataOf source inside) (λ class. leaf-range source k a b class (p .range))
+      (λ m. ap (dataOf source) (only-arrays m) ∙ data-none source) in
       omega (arith, simp length-append at (ap length (data-is k a b inside rest source (sortOf k) refl)))
 
 -- ---- the records of a message
 
 -- a number of forests that is the sum of a number of each record
 module _ (source t : List ℕ) (g : ℕ → ℕ) (f : Forest → ℕ) (none : f nil ≡ 0)
-    (one : (container lo : ℕ) (inside rest : Forest) → (container ≡ 35 → ⊥) → Parts source container (kindAt t lo) (aAt t lo) (bAt t lo) inside rest
+    (one : (container lo : ℕ) (inside rest : Forest) → (container ≡ 35 → ⊥)
+    → Parts source container (kindAt t lo) (aAt t lo) (bAt t lo) inside rest
     → f (node (kindAt t lo) (aAt t lo) (bAt t lo) inside rest) ≡ g lo + f inside + f rest) where
-  sum-args : (container lo hi : ℕ) (F : Forest) → (container ≡ 35 → ⊥) → Spans t lo hi F → Obeys source container F → sumTo g hi ≡ sumTo g lo + f F
+  sum-args : (container lo hi : ℕ) (F : Forest) → (container ≡ 35 → ⊥) → Spans t lo hi F → Obeys source container F
+      → sumTo g hi ≡ sumTo g lo + f F
   unfolding Spans
   sum-args container lo hi nil n s o = rw s (omega (arith, none))
   sum-args container lo hi (node k a b inside rest) n s o =
@@ -159,16 +169,20 @@ module _ (source t : List ℕ) (lo hi : ℕ) (F : Forest) (s : Spans t lo hi F) 
   arguments-sum : sumTo (elementLength t) hi ≡ sumTo (elementLength t) lo + 0
   arguments-sum =
       sum-args source t (elementLength t) (λ G. 0) refl
-      (λ c i inside rest n p. omega (arith, argument-adds i (no-bundle c (kindAt t i) n (p .may)) (no-message c (kindAt t i) n (p .may)))) 47 lo hi F no-bundle-here s o
+      (λ c i inside rest n p. omega (arith, argument-adds i (no-bundle c (kindAt t i) n (p .may)) (no-message c (kindAt t i) n (p .may))))
+      47 lo hi F no-bundle-here s o
 
 -- a message's length by its records is that of its bytes
-message-sum : (source t : List ℕ) (at : ℕ) (F : Forest) → Spans t (at + 1) (endAt t at) F → Obeys source 47 F → aAt t at + bAt t at ≤ length source
+message-sum : (source t : List ℕ) (at : ℕ) (F : Forest) → Spans t (at + 1) (endAt t at) F → Obeys source 47 F
+    → aAt t at + bAt t at ≤ length source
     → messageLength t at ≡ length (messageOf source (aAt t at) (bAt t at) F)
 unfolding messageLength
 message-sum source t at F s o h =
     let x : tagsTo t (endAt t at) - tagsTo t (at + 1) ≡ length (tagsOf F) = omega (arith, tags-sum source t (at + 1) (endAt t at) F s o) in
-    let y : dataTo t (endAt t at) - dataTo t (at + 1) ≡ length (dataOf source F) = omega (arith, data-sum source t (at + 1) (endAt t at) F s o) in
-    let z : length (oscString (part source (aAt t at) (bAt t at))) ≡ stringLength (bAt t at) = length-string _ ∙ rw (length-part source (aAt t at) (bAt t at) h) in
+    let y : dataTo t (endAt t at) - dataTo t (at + 1) ≡ length (dataOf source F) = omega
+    (arith, data-sum source t (at + 1) (endAt t at) F s o) in
+    let z : length (oscString (part source (aAt t at) (bAt t at))) ≡ stringLength (bAt t at) = length-string _
+    ∙ rw (length-part source (aAt t at) (bAt t at) h) in
     rw (length-message, x, y, z)
 
 -- ---- the elements of a bundle
@@ -215,7 +229,8 @@ unfolding sumTo
 sum-none g = refl
 
 -- the sum over all records is the length of the packet as an element
-pub packet-sum : (source t : List ℕ) (count k a b : ℕ) (inside : Forest) → Spans t 0 count (node k a b inside nil) → Obeys source 35 (node k a b inside nil)
+pub packet-sum : (source t : List ℕ) (count k a b : ℕ) (inside : Forest) → Spans t 0 count (node k a b inside nil)
+    → Obeys source 35 (node k a b inside nil)
     → sumTo (elementLength t) count ≡ 4 + length (packetOf source k a b inside)
 packet-sum source t count k a b inside s o =
     let l : length (elementsOf source (node k a b inside nil)) ≡ 4 + length (packetOf source k a b inside) + 0
@@ -225,15 +240,18 @@ packet-sum source t count k a b inside s o =
 -- ---- what the measuring functions answer
 
 -- one argument further
-pub argument-passed : (t : List ℕ) (i : ℕ) {r : Record} {sort : Sort} {x y : ℕ} → r ≡ recordAt t i → sort ≡ sortOf (r .kind) → x ≡ tagLength sort → y ≡ dataLength sort (r .b)
+pub argument-passed : (t : List ℕ) (i : ℕ) {r : Record} {sort : Sort} {x y : ℕ} → r ≡ recordAt t i → sort ≡ sortOf (r .kind)
+    → x ≡ tagLength sort → y ≡ dataLength sort (r .b)
     → (tagsTo t (i + 1) ≡ tagsTo t i + x) × (dataTo t (i + 1) ≡ dataTo t i + y)
 argument-passed t i {r} {sort} {x} {y} e s p q =
     let u : x ≡ tagLength (sortOf (kindAt t i)) = p ∙ ap tagLength s ∙ ap (λ (z : Record). tagLength (sortOf (z .kind))) e in
-    let v : y ≡ dataLength (sortOf (kindAt t i)) (bAt t i) = q ∙ ap (λ (z : Sort). dataLength z (r .b)) s ∙ ap (λ (z : Record). dataLength (sortOf (z .kind)) (z .b)) e in
+    let v : y ≡ dataLength (sortOf (kindAt t i)) (bAt t i) = q ∙ ap (λ (z : Sort). dataLength z (r .b)) s
+    ∙ ap (λ (z : Record). dataLength (sortOf (z .kind)) (z .b)) e in
     (rw u (sum-more (λ j. tagLength (sortOf (kindAt t j))) i), rw v (sum-more (λ j. dataLength (sortOf (kindAt t j)) (bAt t j)) i))
 
 -- a message's numbers, once its records are passed
-pub message-measured : (t : List ℕ) (at i tags content : ℕ) {r : Record} → r ≡ recordAt t at → at + 1 ≤ i → i ≡ r .end → tagsTo t i + 1 ≡ tagsTo t (at + 1) + tags
+pub message-measured : (t : List ℕ) (at i tags content : ℕ) {r : Record} → r ≡ recordAt t at → at + 1 ≤ i → i ≡ r .end
+    → tagsTo t i + 1 ≡ tagsTo t (at + 1) + tags
     → dataTo t i ≡ dataTo t (at + 1) + content → stringLength (r .b) + stringLength tags + content ≡ messageLength t at
 unfolding messageLength
 message-measured t at i tags content {r} e h ei x y =

@@ -1,4 +1,4 @@
--- What the survey of a table has found, record by record. Assumes nothing.
+-- What the survey of a table has found, record by record.
 use mathlib.Core.Path.{_≡_, refl, sym, ap, _∙_}
 use mathlib.Core.Bool.{true, false, cond, false≢true}
 use mathlib.Core.Logic.{⊎-elim}
@@ -41,7 +41,8 @@ pub record Placed (t : List ℕ) (at hi : ℕ) : Type 0 where
 
 pub placed-is : (t : List ℕ) (at hi : ℕ) → placed t at hi ≡ true → Placed t at hi
 placed-is t at hi e =
-    let z : eqb (zerosAt t at) 0 ≡ true = then-only (eqb (zerosAt t at) 0) (cond (ltb at (endAt t at)) (leb (endAt t at) hi) false) e false≢true in
+    let z : eqb (zerosAt t at) 0 ≡ true = then-only (eqb (zerosAt t at) 0) (cond (ltb at (endAt t at)) (leb (endAt t at) hi) false) e
+    false≢true in
     let f : cond (ltb at (endAt t at)) (leb (endAt t at) hi) false ≡ true = rw z at e in
     let o : ltb at (endAt t at) ≡ true = then-only (ltb at (endAt t at)) (leb (endAt t at) hi) f false≢true in
     record { zeros = eqb-true (zerosAt t at) 0 z; on = ltb-true at (endAt t at) o; within = leb-true (endAt t at) hi (rw o at f) }
@@ -56,7 +57,8 @@ unfolding sortOf classOf
 leaf-no-packet source k a b class s o =
     ⊎-elim
     (λ q. absurd (known-class source a b class o (let e : Leaf Unknown ≡ Leaf class = rw q at s in cc)))
-    (λ n. ⊎-elim (λ q. absurd (known-class source a b class o (let e : Leaf Unknown ≡ Leaf class = rw q at s in cc))) (λ m. rw (ne-eqb k 35 n, ne-eqb k 47 m)) (is-or k 47))
+    (λ n. ⊎-elim (λ q. absurd (known-class source a b class o (let e : Leaf Unknown ≡ Leaf class = rw q at s in cc)))
+    (λ m. rw (ne-eqb k 35 n, ne-eqb k 47 m)) (is-or k 47))
     (is-or k 35)
 
 module _ (source : List ℕ) (k a b : ℕ) (class : Class) (s : sortOf k ≡ Leaf class) (o : leafOk source class a b ≡ true) where
@@ -103,7 +105,8 @@ found-more {t} {source} {container} {at} {hi} {inside} {rest} p s f =
       spans = (refl, refl, refl, s .found .spans, f .spans);
       obeys = (s .rules, s .range, s .may, s .found .obeys, f .obeys);
       zeros = λ i l h. ⊎-elim
-          (λ (q : i < endAt t at). ⊎-elim (λ (m : at < i). s .found .zeros i (omega arith) q) (λ (m : i ≤ at). let e : at ≡ i = omega arith in rw e at (p .zeros)) (lt-or-le at i))
+          (λ (q : i < endAt t at). ⊎-elim (λ (m : at < i). s .found .zeros i (omega arith) q)
+          (λ (m : i ≤ at). let e : at ≡ i = omega arith in rw e at (p .zeros)) (lt-or-le at i))
           (λ (q : endAt t at ≤ i). f .zeros i q h)
           (lt-or-le i (endAt t at));
     }
@@ -117,13 +120,15 @@ in-array source (node k a b inside rest) o = (o .0, o .1, o .2, o .3, in-array s
 -- ---- arguments
 
 -- what was read of a record, and its sort
-module _ (t source : List ℕ) (at : ℕ) {k e a b : ℕ} {sort : Sort} (ke : k ≡ kindAt t at) (ee : e ≡ endAt t at) (ae : a ≡ aAt t at) (be : b ≡ bAt t at)
+module _ (t source : List ℕ) (at : ℕ) {k e a b : ℕ} {sort : Sort} (ke : k ≡ kindAt t at) (ee : e ≡ endAt t at) (ae : a ≡ aAt t at)
+    (be : b ≡ bAt t at)
     (se : sort ≡ sortOf k) where
   sort-is : {x : Sort} → sort ≡ x → sortOf (kindAt t at) ≡ x
   sort-is q = sym (se ∙ ap sortOf ke) ∙ q
 
   -- an argument that is no array, and contains nothing
-  pub argument-leaf : {class : Class} → sort ≡ Leaf class → e ≡ at + 1 → leafOk source class a b ≡ true → Argument t source at 1 (argumentLength class b)
+  pub argument-leaf : {class : Class} → sort ≡ Leaf class → e ≡ at + 1 → leafOk source class a b ≡ true
+      → Argument t source at 1 (argumentLength class b)
   argument-leaf {class} q l h =
       let s = sort-is q in
       let o : leafOk source class (aAt t at) (bAt t at) ≡ true = rw (ae, be) at h in
@@ -166,7 +171,13 @@ pub arguments-more : {t source : List ℕ} {at hi n m tags content : ℕ} → Pl
 arguments-more {t} {source} {at} p x w =
     let f = found-more p (x .stands) (w .found) in
     let q : Parts source 47 (kindAt t at) (aAt t at) (bAt t at) (x .inside) (w .forest)
-    = record { rules = x .stands .rules; range = x .stands .range; may = x .stands .may; in-obeys = x .stands .found .obeys; rest-obeys = w .found .obeys } in
+    = record {
+      rules = x .stands .rules;
+      range = x .stands .range;
+      may = x .stands .may;
+      in-obeys = x .stands .found .obeys;
+      rest-obeys = w .found .obeys;
+    } in
     record {
       forest = node (kindAt t at) (aAt t at) (bAt t at) (x .inside) (w .forest);
       found = f;
@@ -188,7 +199,14 @@ pub record Behind (t source : List ℕ) (lo hi at n m : ℕ) : Type 0 where
 
 pub behind-none : (t source : List ℕ) (lo hi : ℕ) → lo ≤ hi → Behind t source lo hi lo 0 0
 behind-none t source lo hi h =
-    record { before = λ tags content w. let e : 0 + tags ≡ tags = omega arith in let f : 0 + content ≡ content = omega arith in rw (e, f) w; passed = omega arith; within = h; few = omega arith; short = omega arith }
+    record {
+      before = λ tags content w. let e : 0 + tags ≡ tags = omega arith in let f : 0 + content ≡ content = omega arith in
+          rw (e, f) w;
+      passed = omega arith;
+      within = h;
+      few = omega arith;
+      short = omega arith;
+    }
 
 module _ {t source : List ℕ} {lo hi at n m : ℕ} (b : Behind t source lo hi at n m) where
   pub behind-more : (x y : ℕ) → Placed t at hi → Argument t source at x y → x ≤ 2 * (endAt t at - at) → m + y ≤ 65539
@@ -215,7 +233,8 @@ module _ {t source : List ℕ} {lo hi at n m : ℕ} (b : Behind t source lo hi a
 -- ---- packets
 
 -- a message, by what was read of its record
-pub message-found : (t source : List ℕ) (at : ℕ) {a b e x y tags content : ℕ} → a ≡ aAt t at → b ≡ bAt t at → e ≡ endAt t at → textOk source a b ≡ true
+pub message-found : (t source : List ℕ) (at : ℕ) {a b e x y tags content : ℕ} → a ≡ aAt t at → b ≡ bAt t at → e ≡ endAt t at
+    → textOk source a b ≡ true
     → Arguments t source (at + 1) e tags content → x ≡ stringLength b → y ≡ stringLength (1 + tags) → Message t source at (x + y + content)
 message-found t source at {a} {b} {e} ae be ee r w xe ye =
     let i : inside source a b ≡ true = then-only (inside source a b) _ r false≢true in
@@ -259,7 +278,13 @@ elements-more {t} {source} {at} p x w =
       forest = node (kindAt t at) (aAt t at) (bAt t at) (x .inside) (w .forest);
       found = found-more p (x .stands) (w .found);
       shallow = omega (arith, x .shallow, w .shallow);
-      sized = omega (arith, simp (length-append, length-bytes) at (ap length (elements-is (kindAt t at) (aAt t at) (bAt t at) (x .inside) (w .forest) source)), x .sized, w .sized);
+      sized = omega (
+        arith,
+        simp (length-append, length-bytes) at
+            (ap length (elements-is (kindAt t at) (aAt t at) (bAt t at) (x .inside) (w .forest) source)),
+        x .sized,
+        w .sized,
+      );
     }
 
 pub elements-none : (t source : List ℕ) (at levels : ℕ) → Elements t source at at levels 0
@@ -275,10 +300,12 @@ pub record Ahead (t source : List ℕ) (levels lo hi at n : ℕ) : Type 0 where
   pub short : n ≤ 65539
 
 pub ahead-none : (t source : List ℕ) (levels lo hi : ℕ) → lo ≤ hi → Ahead t source levels lo hi lo 0
-ahead-none t source levels lo hi h = record { before = λ m w. let e : 0 + m ≡ m = omega arith in rw e w; passed = omega arith; within = h; short = omega arith }
+ahead-none t source levels lo hi h =
+    record { before = λ m w. let e : 0 + m ≡ m = omega arith in rw e w; passed = omega arith; within = h; short = omega arith }
 
 module _ {t source : List ℕ} {levels lo hi at n : ℕ} (b : Ahead t source levels lo hi at n) where
-  pub ahead-more : (x : ℕ) → Placed t at hi → Element t source at levels x → n + x ≤ 65539 → Ahead t source levels lo hi (endAt t at) (n + x)
+  pub ahead-more : (x : ℕ) → Placed t at hi → Element t source at levels x → n + x ≤ 65539
+      → Ahead t source levels lo hi (endAt t at) (n + x)
   ahead-more x p a h =
       record {
         before = λ m w. let e : n + x + m ≡ n + (x + m) = omega arith in rw e (b .before (x + m) (elements-more p a w));
@@ -304,7 +331,21 @@ tree-surveyed {t} {source} {count} {n} some few fits e w =
     let is : w .forest ≡ node (kindAt t 0) (aAt t 0) (bAt t 0) (u .inside) nil = u .is ∙ rw r in
     record {
       inside = u .inside;
-      tree = record { spans = rw is at (w .found .spans); obeys = rw is at (w .found .obeys); few = few; fits = fits; zeros = λ i h. w .found .zeros i (omega arith) h };
+      tree = record {
+        spans = rw is at (w .found .spans);
+        obeys = rw is at (w .found .obeys);
+        few = few;
+        fits = fits;
+        zeros = λ i h.
+            w .found .zeros i (omega arith) h;
+      };
       shallow = rw is at (w .shallow);
-      sized = omega (arith, simp (length-append, length-bytes) at (ap length (ap (elementsOf source) is ∙ elements-is (kindAt t 0) (aAt t 0) (bAt t 0) (u .inside) nil source)), ap length (no-elements source), w .sized);
+      sized = omega (
+        arith,
+        simp (length-append, length-bytes) at
+            (ap length (ap (elementsOf source) is ∙ elements-is (kindAt t 0) (aAt t 0) (bAt t 0) (u .inside) nil source)),
+        ap length
+            (no-elements source),
+        w .sized,
+      );
     }

@@ -1,5 +1,5 @@
 -- The bytes of a packet, in the words of the OSC 1.0 specification: a function of the tree and the source that its ranges are in.
--- Document 01, "How bytes are written". Assumes nothing.
+-- Document 01, "How bytes are written".
 use mathlib.Core.Bool.{cond}
 use mathlib.Core.List.{List, [], _∷_, _++_}
 use Prim.Native.Nat.{ℕ, _-_, _%_}

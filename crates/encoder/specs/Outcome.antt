@@ -1,4 +1,4 @@
--- What the encoders answer and leave in the output: document 01, "Refusal numbers" (the encode order) and "How bytes are written". Assumes nothing.
+-- What the encoders answer and leave in the output: document 01, "Refusal numbers" (the encode order) and "How bytes are written".
 use mathlib.Core.Path.{_≡_}
 use mathlib.Core.Bool.{cond}
 use mathlib.Core.List.{List, _++_}
@@ -29,7 +29,8 @@ refuse r out = record { answer = Refused r; out = out }
 unfoldable pub write : List ℕ → List ℕ → Outcome
 write bs out =
     cond (leb (length bs) 65535)
-    (cond (leb (length bs) (length out)) (record { answer = Written (length bs); out = bs ++ drop (length bs) out }) (refuse OutputShort out))
+    (cond (leb (length bs) (length out)) (record { answer = Written (length bs); out = bs ++ drop (length bs) out })
+    (refuse OutputShort out))
     (refuse TooLong out)
 
 -- the bytes of a packet as `encode` frames it: as they are

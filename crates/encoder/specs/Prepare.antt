@@ -1,4 +1,4 @@
--- What is known before a byte is written: the refusals 11 and 9, and the length of the packet. Assumes nothing.
+-- What is known before a byte is written: the refusals 11 and 9, and the length of the packet.
 use mathlib.Core.Path.{_≡_}
 use mathlib.Core.Bool.{true}
 use mathlib.Core.List.{List}
@@ -31,7 +31,9 @@ Writes frame source t out r = (F : Forest) → Spans t 1 (endAt t 0) F → r ≡
 -- 11 for a table that is not well formed, then 9 for a tree that is deeper than 64, then the length
 pub data Prepares (t : List ℕ) (count : ℕ) (source : List ℕ) (r : Prepared) : Type 0 where
   malformed : (WellFormed t count source → ⊥) → r ≡ Refused BadTable → Prepares t count source r
-  deep : (inside : Forest) → IsTree t count source (kindAt t 0) (aAt t 0) (bAt t 0) inside → 64 < depth (node (kindAt t 0) (aAt t 0) (bAt t 0) inside nil)
+  deep : (inside : Forest) → IsTree t count source (kindAt t 0) (aAt t 0) (bAt t 0) inside
+      → 64 < depth (node (kindAt t 0) (aAt t 0) (bAt t 0) inside nil)
       → r ≡ Refused TooDeep → Prepares t count source r
-  ready : (inside : Forest) → IsTree t count source (kindAt t 0) (aAt t 0) (bAt t 0) inside → depth (node (kindAt t 0) (aAt t 0) (bAt t 0) inside nil) ≤ 64
+  ready : (inside : Forest) → IsTree t count source (kindAt t 0) (aAt t 0) (bAt t 0) inside
+      → depth (node (kindAt t 0) (aAt t 0) (bAt t 0) inside nil) ≤ 64
       → (n : ℕ) → r ≡ Length n → Sized source t n → Prepares t count source r

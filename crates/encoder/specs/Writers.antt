@@ -1,4 +1,4 @@
--- What the writers are given, and what they leave: document 01, "written from the current position of the output onward". Assumes nothing.
+-- What the writers are given, and what they leave: document 01, "written from the current position of the output onward".
 use mathlib.Core.Path.{_≡_}
 use mathlib.Core.Bool.{Bool, true, false}
 use mathlib.Core.List.{List, _∷_}

@@ -1,4 +1,4 @@
--- What holds of a choice by a test, and of two choices by one test; and two numbers compared. Assumes nothing.
+-- What holds of a choice by a test, and of two choices by one test; and two numbers compared.
 use mathlib.Core.Path.{_≡_, refl}
 use mathlib.Core.Bool.{Bool, true, false, cond}
 use mathlib.Core.Logic.{_⊎_, inl, inr}

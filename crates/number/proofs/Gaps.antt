@@ -1,5 +1,5 @@
 -- Two ways to write a slice in steps: a gap that is left and filled afterwards, as the size of a bundle element, and a slice that is
--- written on. Assumes nothing.
+-- written on.
 use mathlib.Core.Path.{_≡_, sym, ap, _∙_}
 use mathlib.Core.List.{List, _++_, append-assoc}
 use Prim.Native.Nat.{ℕ, _+_, _-_, _≤_}
@@ -34,7 +34,8 @@ written-over bs hs cs {o₀} {o} {ds} k w e l v =
 pub gap-filled : {bs o₀ o cs p ds q : List ℕ} {k g n : ℕ} → Filled bs o₀ o k → k + g ≤ length o₀ → length ds ≡ g
     → Filled cs (midOf (k + g) (length o - (k + g)) o) p n
     → Wrote ds (midOf k (length (putMid (k + g) (length o - (k + g)) o p) - k) (putMid (k + g) (length o - (k + g)) o p)) q
-    → Filled (bs ++ (ds ++ cs)) o₀ (putMid k (length (putMid (k + g) (length o - (k + g)) o p) - k) (putMid (k + g) (length o - (k + g)) o p) q) (k + g + n)
+    → Filled (bs ++ (ds ++ cs)) o₀
+    (putMid k (length (putMid (k + g) (length o - (k + g)) o p) - k) (putMid (k + g) (length o - (k + g)) o p) q) (k + g + n)
 gap-filled {bs} {o₀} {o} {cs} {p} {ds} {q} {k} {g} {n} f h l c v =
     let b = filled-lent (gap-left g f h) c in
     record {

@@ -1,4 +1,4 @@
--- `padded` is the lowest multiple of 4 that is not below its argument. Assumes nothing.
+-- `padded` is the lowest multiple of 4 that is not below its argument.
 use mathlib.Core.Path.{_≡_}
 use Prim.Native.Nat.{ℕ, _+_, _%_, _<_, _≤_}
 use native.Mathlib.Omega.{arith}

@@ -1,9 +1,9 @@
 -- Big-endian numbers of any width: how far they reach, one byte more read or written, and that each way undoes the other.
--- Assumes nothing.
 use mathlib.Core.Path.{_≡_, refl, _∙_, sym, ap}
 use mathlib.Core.List.{List, [], _∷_, _++_, append-nil}
 use Prim.Native.Nat.{ℕ, zero, suc, _+_, _*_, _/_, _%_, _^_, _<_, _≤_}
-use native.Mathlib.Nat.{pow-suc, pow-zero, pow-le-pow-right, div-add-mod', add-zero, zero-add, add-suc, suc-add, add-mul, mul-assoc, mul-comm}
+use native.Mathlib.Nat.{pow-suc, pow-zero, pow-le-pow-right, div-add-mod', add-zero, zero-add, add-suc, suc-add, add-mul, mul-assoc}
+use native.Mathlib.Nat.{mul-comm}
 use native.Mathlib.Numerals.{add-one}
 use native.Mathlib.Omega.{arith}
 use lib.Dec.{lit<}
@@ -39,7 +39,8 @@ from-is (y ∷ s) x =
     let p = 256 ^ length s in
     let a : from (x * 256 + y) s ≡ (x * 256 + y) * p + from 0 s = from-is s (x * 256 + y) in
     let b : from (0 * 256 + y) s ≡ (0 * 256 + y) * p + from 0 s = from-is s (0 * 256 + y) in
-    let d : (x * 256 + y) * p ≡ x * (p * 256) + y * p = add-mul (x * 256) y p ∙ ap (λ (k : ℕ). k + y * p) (mul-assoc x 256 p ∙ ap (λ (k : ℕ). x * k) (mul-comm 256 p)) in
+    let d : (x * 256 + y) * p ≡ x * (p * 256) + y * p = add-mul (x * 256) y p
+    ∙ ap (λ (k : ℕ). k + y * p) (mul-assoc x 256 p ∙ ap (λ (k : ℕ). x * k) (mul-comm 256 p)) in
     let e : (0 * 256 + y) * p ≡ y * p = ap (λ (k : ℕ). k * p) (omega arith) in
     rw pow-suc (omega arith)
 

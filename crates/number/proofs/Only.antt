@@ -1,4 +1,4 @@
--- No second outcome satisfies a contract of this crate. Assumes nothing.
+-- No second outcome satisfies a contract of this crate.
 use mathlib.Core.Path.{_≡_, sym, _∙_}
 use Prim.Native.Nat.{ℕ}
 use Rattle.number.specs.declared.Padded.{Padded}

@@ -1,4 +1,4 @@
--- Parts of a slice, as they are lent and as they come back; and a part of bytes is bytes. Assumes nothing.
+-- Parts of a slice, as they are lent and as they come back; and a part of bytes is bytes.
 use mathlib.Core.Path.{_≡_, ap, _∙_}
 use mathlib.Core.List.{List, [], _∷_, _++_, append-nil}
 use Prim.Native.Nat.{ℕ, zero, suc, _+_, _-_, _<_, _≤_}

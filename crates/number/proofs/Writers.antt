@@ -1,5 +1,4 @@
 -- Writers that fill the front of a slice, one after another: each is lent the later part, or a part that was written before.
--- Assumes nothing.
 use mathlib.Core.Path.{_≡_, refl, sym, ap, _∙_}
 use mathlib.Core.List.{List, [], _∷_, _++_, append-assoc}
 use Prim.Native.Nat.{ℕ, suc, _+_, _-_, _<_, _≤_}
@@ -96,7 +95,8 @@ wrote-over {o₀} {o} {p} hs was bs cs k w e s v =
     let front : take k o ≡ hs = ap (take k) eo ∙ take-at hs (was ++ (bs ++ D)) k e in
     let n : length (hs ++ cs) ≡ k + length cs = simp length-append (omega arith) in
     let later : drop (k + length cs) o ≡ bs ++ D =
-    sym (drop-drop (length cs) k o) ∙ ap (λ (l : List ℕ). drop (length cs) (drop k l)) eo ∙ ap (drop (length cs)) (drop-at hs (was ++ (bs ++ D)) k e)
+    sym (drop-drop (length cs) k o) ∙ ap (λ (l : List ℕ). drop (length cs) (drop k l)) eo
+    ∙ ap (drop (length cs)) (drop-at hs (was ++ (bs ++ D)) k e)
     ∙ drop-at was (bs ++ D) (length cs) s in
     let v′ : Wrote (hs ++ cs) o p = rw front at v in
     record {

@@ -1,4 +1,4 @@
--- Big-endian numbers of any width: document 01, "The node table" and rule 4 of "How bytes are read". Assumes nothing.
+-- Big-endian numbers of any width: document 01, "The node table" and rule 4 of "How bytes are read".
 use mathlib.Core.List.{List, [], _∷_, _++_}
 use Prim.Native.Nat.{ℕ, zero, suc, _+_, _*_, _/_, _%_}
 use lib.ListN.{take}

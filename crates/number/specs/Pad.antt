@@ -1,4 +1,4 @@
--- Padding to a multiple of 4: document 01, `pad` and refusal 14. Assumes nothing.
+-- Padding to a multiple of 4: document 01, `pad` and refusal 14.
 use mathlib.Core.Bool.{cond}
 use Prim.Native.Nat.{ℕ, _+_, _*_, _/_}
 use lib.Dec.{leb}

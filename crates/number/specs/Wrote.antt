@@ -1,5 +1,4 @@
 -- What a writer leaves in the slice that it was lent: document 01, "written from the current position of the output onward".
--- Assumes nothing.
 use mathlib.Core.Path.{_≡_}
 use Prim.Native.Nat.{ℕ, _≤_}
 use mathlib.Core.List.{List, _++_}

@@ -1,5 +1,5 @@
 -- An answer is taken apart as include/osc.h does it: the three parts of a decoder's number, and the two of an encoder's, are what was put
--- into it, so no two answers have one number. Assumes nothing.
+-- into it, so no two answers have one number.
 use mathlib.Core.Path.{_≡_, sym, subst}
 use mathlib.Core.List.{List}
 use Prim.Native.Nat.{ℕ, _/_, _%_, _≤_}
@@ -58,7 +58,8 @@ encoded-small : (frame : ℕ → List ℕ → List ℕ) (source out : List ℕ) 
     → Small (encoded frame source out kind a b inside .answer)
 unfolding encoded
 encoded-small frame source out kind a b inside =
-    by-le (λ (o : Outcome). Small (o .answer)) (depth (node kind a b inside nil)) 64 (λ h. write-small (frame kind (packetOf source kind a b inside)) out) (λ h. tt)
+    by-le (λ (o : Outcome). Small (o .answer)) (depth (node kind a b inside nil)) 64
+    (λ h. write-small (frame kind (packetOf source kind a b inside)) out) (λ h. tt)
 
 encodes-small : {frame : ℕ → List ℕ → List ℕ} {table : List ℕ} {count : ℕ} {source out : List ℕ} {r : Outcome}
     → Encodes frame table count source out r → Small (r .answer)
@@ -82,7 +83,8 @@ encoded-apart (encodes.Refused r) h = (omega arith, omega arith)
 -- of `osc_encode` and `osc_encode_tcp`
 pub told-apart : (frame : ℕ → List ℕ → List ℕ) (table : List ℕ) (count : ℕ) (source out₀ : List ℕ) (told : ℕ) (out : List ℕ)
     → (t : Tells (Encodes frame table count source out₀) told out) → EncodedParts (t .answer) told
-told-apart frame table count source out₀ told out t = subst (EncodedParts (t .answer)) (sym (t .number)) (encoded-apart (t .answer) (encodes-small (t .outcome)))
+told-apart frame table count source out₀ told out t =
+    subst (EncodedParts (t .answer)) (sym (t .number)) (encoded-apart (t .answer) (encodes-small (t .outcome)))
 
 -- of `osc_encode_string`
 pub string-told-apart : (text out₀ : List ℕ) (told : ℕ) (out : List ℕ) → (t : Tells (λ o. o ≡ stringOutcome text out₀) told out)

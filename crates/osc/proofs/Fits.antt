@@ -1,4 +1,4 @@
--- What a decoder answers fits the bits that it has at the boundary: a tree takes at least as many bytes as it has nodes. Assumes nothing.
+-- What a decoder answers fits the bits that it has at the boundary: a tree takes at least as many bytes as it has nodes.
 use mathlib.Core.List.{List}
 use Prim.Native.Nat.{ℕ, _≤_}
 use native.Mathlib.Omega.{arith}
@@ -18,7 +18,8 @@ module _ (capacity limit : ℕ) where
   fits : (rule : List ℕ → Whole) → ((msg : List ℕ) → WholeIn (length msg) (rule msg)) → (msg : List ℕ)
       → Fits (length msg) (decoded rule capacity limit msg)
   fits rule counts msg =
-      by-decoded (Fits (length msg)) rule capacity limit msg (λ g. tt) (λ g. tt) (λ g k. limited-fits (length msg) (rule msg) k (counts msg))
+      by-decoded (Fits (length msg)) rule capacity limit msg (λ g. tt) (λ g. tt)
+      (λ g k. limited-fits (length msg) (rule msg) k (counts msg))
 
   pub fits-udp : (msg : List ℕ) → Fits (length msg) (decoded udp capacity limit msg)
   fits-udp = fits udp udp-in

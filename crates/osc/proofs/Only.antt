@@ -1,4 +1,4 @@
--- No second outcome meets a contract of the boundary: neither another number nor other bytes in what was lent. Assumes nothing.
+-- No second outcome meets a contract of the boundary: neither another number nor other bytes in what was lent.
 use mathlib.Core.Path.{_≡_, ap, sym, _∙_}
 use mathlib.Core.List.{List}
 use Prim.Native.Nat.{ℕ}

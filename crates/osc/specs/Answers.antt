@@ -1,4 +1,4 @@
--- The C boundary: every answer as one number of 64 bits, as include/osc.h has it. Assumes nothing.
+-- The C boundary: every answer as one number of 64 bits, as include/osc.h has it.
 use mathlib.Core.Path.{_≡_}
 use mathlib.Core.Bool.{cond}
 use mathlib.Core.List.{List}

@@ -1,4 +1,4 @@
--- A refusal's number says which refusal it is, and no second number satisfies the contract of `number_of`. Assumes nothing.
+-- A refusal's number says which refusal it is, and no second number satisfies the contract of `number_of`.
 use mathlib.Core.Path.{_≡_, refl, sym, ap, _∙_}
 use mathlib.Core.Bool.{cond}
 use Prim.Native.Nat.{ℕ}
@@ -6,7 +6,8 @@ use lib.Dec.{eqb}
 use Rattle.refusal.specs.Refusal.{numberOf}
 use Rattle.refusal.specs.declared.Fault.the-variants.{Empty, RunsOut, NotUtf8, BadStart, NotOpen, UnknownTag, NotScalar}
 use Rattle.refusal.specs.declared.Refusal.{Refusal}
-use Rattle.refusal.specs.declared.Refusal.the-variants.{TooLong, Unreadable, TooDeep, TableFull, BadTable, OutputShort, DepthLimit, PadOverflow}
+use Rattle.refusal.specs.declared.Refusal.the-variants.{TooLong, Unreadable, TooDeep, TableFull, BadTable, OutputShort, DepthLimit}
+use Rattle.refusal.specs.declared.Refusal.the-variants.{PadOverflow}
 
 -- the refusal of a number
 which : ℕ → Refusal

@@ -1,9 +1,10 @@
--- The numbers of document 01's "Refusal numbers", one to each case. Assumes nothing.
+-- The numbers of document 01's "Refusal numbers", one to each case.
 use Prim.Native.Nat.{ℕ}
 use Rattle.refusal.specs.declared.Fault.{Fault}
 use Rattle.refusal.specs.declared.Fault.the-variants.{Empty, RunsOut, NotUtf8, BadStart, NotOpen, UnknownTag, NotScalar}
 use Rattle.refusal.specs.declared.Refusal.{Refusal}
-use Rattle.refusal.specs.declared.Refusal.the-variants.{TooLong, Unreadable, TooDeep, TableFull, BadTable, OutputShort, DepthLimit, PadOverflow}
+use Rattle.refusal.specs.declared.Refusal.the-variants.{TooLong, Unreadable, TooDeep, TableFull, BadTable, OutputShort, DepthLimit}
+use Rattle.refusal.specs.declared.Refusal.the-variants.{PadOverflow}
 
 -- the refusals that bytes alone give: 2 to 8, in the table's order
 abbrev pub faultNumber : Fault → ℕ

@@ -1,4 +1,4 @@
--- The walk along a row of records that looks for bundles nested too deep. Assumes nothing.
+-- The walk along a row of records that looks for bundles nested too deep.
 use mathlib.Core.Path.{_≡_, refl, sym, ap, subst, _∙_}
 use mathlib.Core.Bool.{Bool, true, false}
 use mathlib.Core.List.{List}
@@ -52,46 +52,57 @@ next-read : (t : List ℕ) (hi at : ℕ) (G : Forest) → at < hi → Spans t at
 unfolding depth
 next-read t hi at G h s =
     let u = cut t at hi G h s in
-    record { inside = u .inside; rest = u .rest; in-spans = u .in-spans; rest-spans = u .rest-spans; deep = ap depth (u .is); on = u .on; within = u .within }
+    record {
+      inside = u .inside;
+      rest = u .rest;
+      in-spans = u .in-spans;
+      rest-spans = u .rest-spans;
+      deep = ap depth (u .is);
+      on = u .on;
+      within = u .within;
+    }
 
-module _ {t : List ℕ} {hi limit : ℕ} {F : Forest} {at : ℕ} {r : Record} (p : Passed t hi limit F at) (e : r ≡ recordAt t at) (h : at < hi) where
-  next : Next t hi at (p .rest) r
-  next = subst (Next t hi at (p .rest)) (sym e) (next-read t hi at (p .rest) h (p .spans))
+module _ {t : List ℕ} {hi limit : ℕ} {F : Forest} {at : ℕ} {r : Record} (p : Passed t hi limit F at) (e : r ≡ recordAt t at) (h : at < hi)
+  where
+    next : Next t hi at (p .rest) r
+    next = subst (Next t hi at (p .rest)) (sym e) (next-read t hi at (p .rest) h (p .spans))
 
-  pub next-row : {lo : ℕ} → Row t lo hi → Row t (at + 1) (r .end)
-  next-row w = record { forest = next .inside; spans = next .in-spans; table = omega (arith, w .table, next .within) }
+    pub next-row : {lo : ℕ} → Row t lo hi → Row t (at + 1) (r .end)
+    next-row w = record { forest = next .inside; spans = next .in-spans; table = omega (arith, w .table, next .within) }
 
-  pub next-on : (at < r .end) × (r .end ≤ hi)
-  next-on = (next .on, next .within)
+    pub next-on : (at < r .end) × (r .end ≤ hi)
+    next-on = (next .on, next .within)
 
-  is-deep : ltb limit (depth F) ≡ ltb limit (max (level (r .kind) (depth (next .inside))) (depth (next .rest)))
-  is-deep = p .same ∙ ap (ltb limit) (next .deep)
+    is-deep : ltb limit (depth F) ≡ ltb limit (max (level (r .kind) (depth (next .inside))) (depth (next .rest)))
+    is-deep = p .same ∙ ap (ltb limit) (next .deep)
 
-  -- the node is not too deep
-  passed : ((G : Forest) → Spans t (at + 1) (r .end) G → level (r .kind) (depth G) ≤ limit) → Passed t hi limit F (r .end)
-  passed low =
-      record {
-        rest = next .rest;
-        spans = next .rest-spans;
-        same = is-deep ∙ over-right limit (level (r .kind) (depth (next .inside))) (depth (next .rest)) (low (next .inside) (next .in-spans));
-      }
+    -- the node is not too deep
+    passed : ((G : Forest) → Spans t (at + 1) (r .end) G → level (r .kind) (depth G) ≤ limit) → Passed t hi limit F (r .end)
+    passed low =
+        record {
+          rest = next .rest;
+          spans = next .rest-spans;
+          same = is-deep ∙ over-right limit (level (r .kind) (depth (next .inside))) (depth (next .rest))
+              (low (next .inside) (next .in-spans));
+        }
 
-  found : ((G : Forest) → Spans t (at + 1) (r .end) G → limit < level (r .kind) (depth G)) → true ≡ ltb limit (depth F)
-  found high =
-      sym (is-deep ∙ over-left limit (level (r .kind) (depth (next .inside))) (depth (next .rest)) (high (next .inside) (next .in-spans)))
+    found : ((G : Forest) → Spans t (at + 1) (r .end) G → limit < level (r .kind) (depth G)) → true ≡ ltb limit (depth F)
+    found high =
+        sym (is-deep ∙ over-left limit (level (r .kind) (depth (next .inside))) (depth (next .rest)) (high (next .inside) (next .in-spans)))
 
-  -- no bundle
-  pub passed-other : (r .kind ≡ 35 → ⊥) → Passed t hi limit F (r .end)
-  passed-other k = passed (λ G s. rw (ne-eqb (r .kind) 35 k) (omega arith))
+    -- no bundle
+    pub passed-other : (r .kind ≡ 35 → ⊥) → Passed t hi limit F (r .end)
+    passed-other k = passed (λ G s. rw (ne-eqb (r .kind) 35 k) (omega arith))
 
-  -- a bundle, where none may be
-  pub found-here : r .kind ≡ 35 → limit ≡ 0 → true ≡ ltb limit (depth F)
-  found-here k z = found (λ G s. rw k (omega arith))
+    -- a bundle, where none may be
+    pub found-here : r .kind ≡ 35 → limit ≡ 0 → true ≡ ltb limit (depth F)
+    found-here k z = found (λ G s. rw k (omega arith))
 
-  -- a bundle whose elements are one level nearer to the limit
-  module _ (k : r .kind ≡ 35) (z : limit ≡ 0 → ⊥) {x : Bool} (d : (G : Forest) → Spans t (at + 1) (r .end) G → x ≡ ltb (limit - 1) (depth G)) where
-    pub found-inside : x ≡ true → true ≡ ltb limit (depth F)
-    found-inside y = found (λ G s. let l : limit - 1 < depth G = ltb-true (limit - 1) (depth G) (sym (d G s) ∙ y) in rw k (omega arith))
+    -- a bundle whose elements are one level nearer to the limit
+    module _ (k : r .kind ≡ 35) (z : limit ≡ 0 → ⊥) {x : Bool}
+        (d : (G : Forest) → Spans t (at + 1) (r .end) G → x ≡ ltb (limit - 1) (depth G)) where
+      pub found-inside : x ≡ true → true ≡ ltb limit (depth F)
+      found-inside y = found (λ G s. let l : limit - 1 < depth G = ltb-true (limit - 1) (depth G) (sym (d G s) ∙ y) in rw k (omega arith))
 
-    pub passed-bundle : x ≡ false → Passed t hi limit F (r .end)
-    passed-bundle y = passed (λ G s. let l : depth G ≤ limit - 1 = ltb-false (limit - 1) (depth G) (sym (d G s) ∙ y) in rw k (omega arith))
+      pub passed-bundle : x ≡ false → Passed t hi limit F (r .end)
+      passed-bundle y = passed (λ G s. let l : depth G ≤ limit - 1 = ltb-false (limit - 1) (depth G) (sym (d G s) ∙ y) in rw k (omega arith))

@@ -1,5 +1,5 @@
 -- Examples, computed: the table of document 01's P3 is a tree's over its packet, so it is well formed; with a wrong end, or a range past
--- the packet, it is not. Assumes nothing.
+-- the packet, it is not.
 use mathlib.Core.Path.{_≡_, refl, sym}
 use mathlib.Core.Bool.{true, false, true≢false}
 use mathlib.Core.List.{List, [], _∷_}

@@ -1,4 +1,4 @@
--- From the records' rules to a tree that obeys them, and back. Assumes nothing.
+-- From the records' rules to a tree that obeys them, and back.
 use mathlib.Core.Path.{_≡_, refl}
 use mathlib.Core.Bool.{true}
 use mathlib.Core.Logic.{⊎-elim}
@@ -111,7 +111,8 @@ kept-of t source container lo hi (node k a b inside rest) s o i l h =
     (λ g. ⊎-elim (λ q. kept-up (omega arith) (deep (omega arith) q)) (λ q. later q h) (lt-or-le i (endAt t lo)))
     (eq-or-lt-of-le l)
 
-pub formed-of : {t : List ℕ} {count : ℕ} {source : List ℕ} {k a b : ℕ} {inside : Forest} → IsTree t count source k a b inside → WellFormed t count source
+pub formed-of : {t : List ℕ} {count : ℕ} {source : List ℕ} {k a b : ℕ} {inside : Forest} → IsTree t count source k a b inside
+    → WellFormed t count source
 unfolding Spans Obeys allowed
 formed-of {t} {count} {source} {k} {a} {b} {inside} w =
     let s = w .spans in

@@ -1,4 +1,4 @@
--- The bytes of a row of records are those of its forest, and a table that holds a forest's bytes holds the forest. Assumes nothing.
+-- The bytes of a row of records are those of its forest, and a table that holds a forest's bytes holds the forest.
 use mathlib.Core.Path.{_≡_, refl, sym, ap, _∙_}
 use mathlib.Core.Logic.{⊎-elim}
 use mathlib.Core.List.{List, [], _∷_, _++_, append-assoc}
@@ -48,7 +48,8 @@ module _ (t : List ℕ) (small : (i : ℕ) → getD t i 0 < 256) where
       let b = number-bytes t small 4 (p + 12) (startOf (i + 1)) (omega arith) h in
       drop-cons t p 0 (omega arith)
       ∙ ap (λ (l : List ℕ). getD t p 0 ∷ l) (ap (λ (n : ℕ). drop n t) (sym (add-one p)) ∙ x)
-      ∙ ap (λ (l : List ℕ). getD t p 0 ∷ 0 ∷ 0 ∷ 0 ∷ l) (e ∙ ap (λ (l : List ℕ). bytes 4 (endAt t i) ++ l) (a ∙ ap (λ (l : List ℕ). bytes 4 (aAt t i) ++ l) b))
+      ∙ ap (λ (l : List ℕ). getD t p 0 ∷ 0 ∷ 0 ∷ 0 ∷ l)
+      (e ∙ ap (λ (l : List ℕ). bytes 4 (endAt t i) ++ l) (a ∙ ap (λ (l : List ℕ). bytes 4 (aAt t i) ++ l) b))
       ∙ sym (record-before (kindAt t i) (endAt t i) (aAt t i) (bAt t i) (drop (startOf (i + 1)) t))
 
   -- the bytes from record lo on are those of the forest, and then those from record hi on
@@ -63,7 +64,8 @@ module _ (t : List ℕ) (small : (i : ℕ) → getD t i 0 < 256) where
       let r = spans-records (endAt t lo) hi rest (s .4) le z in
       record-bytes lo (omega arith) (z lo (omega arith))
       ∙ rw (records-before, x, ← s .0, ← s .1, ← s .2)
-      (ap (λ (l : List ℕ). recordOf (kindAt t lo) (endAt t lo) (aAt t lo) (bAt t lo) ++ l) (i ∙ ap (λ (l : List ℕ). recordsOf (lo + 1) inside ++ l) r))
+      (ap (λ (l : List ℕ). recordOf (kindAt t lo) (endAt t lo) (aAt t lo) (bAt t lo) ++ l)
+      (i ∙ ap (λ (l : List ℕ). recordsOf (lo + 1) inside ++ l) r))
 
 -- ---- and back
 
@@ -110,7 +112,8 @@ records-held t more lo hi (node k a b inside rest) f n small h =
     let end = lo + 1 + size inside in
     let h₀ = h ∙ records-before lo k a b inside rest more in
     let h₁ = further t (recordOf k end a b) _ (startOf lo) 16 (startOf (lo + 1)) (omega arith) (length-record k end a b) h₀ in
-    let h₂ = further t (recordsOf (lo + 1) inside) _ (startOf (lo + 1)) (startOf (size inside)) (startOf end) (omega arith) (length-records (lo + 1) inside) h₁ in
+    let h₂ = further t (recordsOf (lo + 1) inside) _ (startOf (lo + 1)) (startOf (size inside)) (startOf end) (omega arith)
+    (length-records (lo + 1) inside) h₁ in
     let r = record-read t _ lo k end a b (omega arith) (f .0) (f .1) h₀ in
     let x = records-held t _ (lo + 1) end inside (f .2) refl (omega arith) h₁ in
     let y = records-held t more end hi rest (f .3) (omega arith) small h₂ in

@@ -1,4 +1,4 @@
--- No second outcome meets the contract of `table::is_well_formed`, nor that of `table::deeper_than`. Assumes nothing.
+-- No second outcome meets the contract of `table::is_well_formed`, nor that of `table::deeper_than`.
 use mathlib.Core.Path.{_≡_, sym, _∙_}
 use mathlib.Core.Bool.{Bool}
 use mathlib.Core.List.{List}

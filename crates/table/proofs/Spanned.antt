@@ -1,4 +1,4 @@
--- The forest that spans a row of records: its size, its first node, and that there is no other. Assumes nothing.
+-- The forest that spans a row of records: its size, its first node, and that there is no other.
 use mathlib.Core.Path.{_≡_, refl}
 use mathlib.Core.Bool.{true}
 use mathlib.Core.List.{List}
@@ -28,7 +28,8 @@ pub record Cut (t : List ℕ) (lo hi : ℕ) (F : Forest) : Type 0 where
   pub on : lo < endAt t lo
   pub within : endAt t lo ≤ hi
 
-cut-node : (t : List ℕ) (lo hi k a b : ℕ) (inside rest : Forest) → Spans t lo hi (node k a b inside rest) → Cut t lo hi (node k a b inside rest)
+cut-node : (t : List ℕ) (lo hi k a b : ℕ) (inside rest : Forest) → Spans t lo hi (node k a b inside rest)
+    → Cut t lo hi (node k a b inside rest)
 unfolding Spans
 cut-node t lo hi k a b inside rest s =
     let i : lo + 1 + size inside ≡ endAt t lo = spans-size t (lo + 1) (endAt t lo) inside (s .3) in
@@ -60,7 +61,8 @@ no-more t lo hi (node k a b inside rest) h s =
 pub spans-unique : (t : List ℕ) (lo hi : ℕ) (F G : Forest) → Spans t lo hi F → Spans t lo hi G → F ≡ G
 unfolding Spans
 spans-unique t lo hi nil G x y = let e : G ≡ nil = no-more t lo hi G (omega (arith, x)) y in rw e
-spans-unique t lo hi (node k a b inside rest) nil x y = absurd (omega (arith, y, cut-node t lo hi k a b inside rest x .on, cut-node t lo hi k a b inside rest x .within))
+spans-unique t lo hi (node k a b inside rest) nil x y =
+    absurd (omega (arith, y, cut-node t lo hi k a b inside rest x .on, cut-node t lo hi k a b inside rest x .within))
 spans-unique t lo hi (node k a b inside rest) (node k′ a′ b′ inside′ rest′) x y =
     let i = spans-unique t (lo + 1) (endAt t lo) inside inside′ (x .3) (y .3) in
     let r = spans-unique t (endAt t lo) hi rest rest′ (x .4) (y .4) in

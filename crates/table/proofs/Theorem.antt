@@ -1,4 +1,4 @@
--- What a well-formed table is: the records of one tree that obeys document 01's rules, and of no other. Assumes nothing.
+-- What a well-formed table is: the records of one tree that obeys document 01's rules, and of no other.
 use mathlib.Core.Path.{_≡_, ap, _∙_}
 use mathlib.Core.List.{List, _++_}
 use Prim.Native.Nat.{ℕ, _*_, _≤_, _<_}

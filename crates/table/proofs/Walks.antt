@@ -1,4 +1,4 @@
--- The walk along a container's children, and a record's tests: what each shows of the rules. Assumes nothing.
+-- The walk along a container's children, and a record's tests: what each shows of the rules.
 use mathlib.Core.Path.{_≡_, sym, subst, _∙_}
 use mathlib.Core.Bool.{Bool, true, false, true≢false}
 use mathlib.Core.List.{List}
@@ -43,7 +43,8 @@ module _ {t : List ℕ} {container lo hi at : ℕ} (w : Walked t container lo hi
 
   module _ {r : Record} (e : r ≡ recordAt t at) (h : at < hi) where
     first : Tiles t container lo hi → (allowed container (r .kind) ≡ true) × (at < r .end) × Tiles t container (r .end) hi
-    first x = subst (λ (s : Record). (allowed container (s .kind) ≡ true) × (at < s .end) × Tiles t container (s .end) hi) (sym e) (tiles-cut h (w .on x))
+    first x = subst (λ (s : Record). (allowed container (s .kind) ≡ true) × (at < s .end) × Tiles t container (s .end) hi) (sym e)
+        (tiles-cut h (w .on x))
 
     pub not-allowed : allowed container (r .kind) ≡ false → Decides false (Tiles t container lo hi)
     not-allowed n = no (λ x. true≢false (sym (first x .0) ∙ n))
@@ -79,10 +80,12 @@ record Rules (t : List ℕ) (count : ℕ) (source : List ℕ) (i : ℕ) (r : Rec
 
 module _ {t : List ℕ} {count : ℕ} {source : List ℕ} {i : ℕ} {r : Record} (e : r ≡ recordAt t i) where
   of-node : NodeOk t count source i → Rules t count source i r
-  of-node x = subst (Rules t count source i) (sym e) (record { zeros = x .zeros; rules = x .rules; range = x .range; within = x .within; tiles = x .tiles })
+  of-node x = subst (Rules t count source i) (sym e)
+      (record { zeros = x .zeros; rules = x .rules; range = x .range; within = x .within; tiles = x .tiles })
 
   to-node : Rules t count source i r → NodeOk t count source i
-  to-node y = let x = subst (Rules t count source i) e y in record { zeros = x .zeros; rules = x .rules; range = x .range; within = x .within; tiles = x .tiles }
+  to-node y = let x = subst (Rules t count source i) e y in
+      record { zeros = x .zeros; rules = x .rules; range = x .range; within = x .within; tiles = x .tiles }
 
   pub not-zeros : (r .zeros ≡ 0 → ⊥) → Decides false (NodeOk t count source i)
   not-zeros n = no (λ x. n (of-node x .zeros))

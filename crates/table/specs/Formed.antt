@@ -1,4 +1,4 @@
--- When a table is well formed: document 01, "The node table", record by record. Assumes nothing.
+-- When a table is well formed: document 01, "The node table", record by record.
 use mathlib.Core.Path.{_≡_}
 use mathlib.Core.Bool.{Bool, true, false, not, cond}
 use mathlib.Core.List.{List, [], _∷_}
@@ -34,7 +34,8 @@ isPacket kind = among kind (35 ∷ 47 ∷ [])
 unfoldable pub allowed : ℕ → ℕ → Bool
 allowed container kind = cond (eqb container 35) (isPacket kind) (cond (among container (47 ∷ 91 ∷ [])) (not (isPacket kind)) false)
 
--- nodes of kinds that the container may have stand from lo to hi: "each contained node starts where the one before it ends, and the last ends where its container ends"
+-- nodes of kinds that the container may have stand from lo to hi: "each contained node starts where the one before it ends, and the
+-- last ends where its container ends"
 pub data Tiles (t : List ℕ) (container : ℕ) : ℕ → ℕ → Type 0 where
   done : {i : ℕ} → Tiles t container i i
   step : {i j : ℕ} → i < j → allowed container (kindAt t i) ≡ true → i < endAt t i → Tiles t container (endAt t i) j → Tiles t container i j

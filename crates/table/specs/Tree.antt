@@ -1,4 +1,4 @@
--- The tree of a table: document 01, "The node table", as one tree that obeys the containment rules. Assumes nothing.
+-- The tree of a table: document 01, "The node table", as one tree that obeys the containment rules.
 use mathlib.Core.Path.{_≡_}
 use mathlib.Core.Bool.{true}
 use mathlib.Core.List.{List}

@@ -1,4 +1,4 @@
--- `untilNul` at a NUL, at another byte and at the end; and it counts no more bytes than there are. Assumes nothing.
+-- `untilNul` at a NUL, at another byte and at the end; and it counts no more bytes than there are.
 use mathlib.Core.Path.{_≡_}
 use mathlib.Core.Bool.{Bool, true, false, cond}
 use mathlib.Core.List.{List, [], _∷_}

@@ -1,4 +1,4 @@
--- No second outcome satisfies the contract of `read_osc_string`. Assumes nothing.
+-- No second outcome satisfies the contract of `read_osc_string`.
 use mathlib.Core.Path.{_≡_}
 use mathlib.Core.List.{List}
 use Prim.Native.Nat.{ℕ}

@@ -1,4 +1,4 @@
--- Bytes that are not special: how `plain` counts them, and that a text's UTF-8 test may begin after them. Assumes nothing.
+-- Bytes that are not special: how `plain` counts them, and that a text's UTF-8 test may begin after them.
 use mathlib.Core.Path.{_≡_, refl, sym, ap, _∙_}
 use mathlib.Core.Bool.{Bool, true, false, cond}
 use mathlib.Core.List.{List, [], _∷_}

@@ -1,4 +1,4 @@
--- The four answers of `textOf`, each by the tests that lead to it; n is where the text ends. Assumes nothing.
+-- The four answers of `textOf`, each by the tests that lead to it; n is where the text ends.
 use mathlib.Core.Path.{_≡_, subst, _∙_}
 use mathlib.Core.Bool.{Bool, true, false}
 use mathlib.Core.List.{List}

@@ -1,4 +1,4 @@
--- A text that was found lies in its part, and is UTF-8. Assumes nothing.
+-- A text that was found lies in its part, and is UTF-8.
 use mathlib.Core.Path.{_≡_, sym, subst}
 use mathlib.Core.Bool.{true}
 use mathlib.Core.List.{List}

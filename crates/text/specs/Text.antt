@@ -1,4 +1,4 @@
--- An OSC string: document 01, "How bytes are read", rule 1. Assumes nothing.
+-- An OSC string: document 01, "How bytes are read", rule 1.
 use mathlib.Core.Bool.{cond}
 use mathlib.Core.List.{List, [], _∷_}
 use Prim.Native.Nat.{ℕ, suc, _+_, _-_}

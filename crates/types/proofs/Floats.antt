@@ -1,4 +1,4 @@
--- Floats and their bits, at either width: what the test for a NaN's pattern says. Assumes nothing.
+-- Floats and their bits, at either width: what the test for a NaN's pattern says.
 use mathlib.Core.Path.{_≡_, refl, _∙_, sym, subst}
 use mathlib.Core.Bool.{Bool, true, false, not, false≢true}
 use Prim.Native.Nat.{ℕ}

@@ -1,4 +1,4 @@
--- A forest with one node more at its end: how many nodes it has, and which records. Assumes nothing.
+-- A forest with one node more at its end: how many nodes it has, and which records.
 use mathlib.Core.Path.{_≡_}
 use mathlib.Core.List.{_++_, append-assoc}
 use Prim.Native.Nat.{ℕ, _+_}

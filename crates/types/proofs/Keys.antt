@@ -1,4 +1,4 @@
--- What the arms of a `match` say of a tag. Assumes nothing.
+-- What the arms of a `match` say of a tag.
 use mathlib.Core.Path.{_≡_, refl, ap, sym, _∙_}
 use mathlib.Core.Bool.{false}
 use mathlib.Core.List.{List, [], _∷_}

@@ -1,11 +1,12 @@
--- A value of a kind that is no text, blob or address names no text. Assumes nothing.
+-- A value of a kind that is no text, blob or address names no text.
 use mathlib.Core.Path.{_≡_, refl}
 use mathlib.Core.List.{List, [], _∷_}
 use Prim.Native.Nat.{ℕ}
 use types.Run.{OneOf, miss}
 use denote.Enum.Declared.{tagOf}
 use Rattle.types.specs.declared.value.OscType.{OscType}
-use Rattle.types.specs.declared.value.OscType.the-variants.{Message, Bundle, Int, Float, String, Blob, Time, Long, Double, Char, Color, Midi, Bool, Nil, Inf, Array}
+use Rattle.types.specs.declared.value.OscType.the-variants.{Message, Bundle, Int, Float, String, Blob, Time, Long, Double, Char}
+use Rattle.types.specs.declared.value.OscType.the-variants.{Color, Midi, Bool, Nil, Inf, Array}
 use Rattle.types.specs.Look.{textOf}
 use Rattle.types.proofs.value.OscType as kinds
 

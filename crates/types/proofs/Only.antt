@@ -1,4 +1,4 @@
--- No second outcome satisfies a contract of this crate's public calls. Assumes nothing.
+-- No second outcome satisfies a contract of this crate's public calls.
 use mathlib.Core.Path.{_≡_}
 use mathlib.Core.List.{List}
 use Prim.Native.Nat.{ℕ}

@@ -1,4 +1,4 @@
--- A record as it is written and as it is read, and how many bytes the records of a forest take. Assumes nothing.
+-- A record as it is written and as it is read, and how many bytes the records of a forest take.
 use mathlib.Core.Path.{_≡_, refl}
 use mathlib.Core.List.{List, [], _∷_, _++_, append-assoc}
 use Prim.Native.Nat.{ℕ, _+_, _-_, _*_, _%_, _^_, _<_, _≤_}

@@ -1,4 +1,4 @@
--- The tree of a packet, and the trees of a list: document 01, "The node table". Assumes nothing.
+-- The tree of a packet, and the trees of a list: document 01, "The node table".
 use mathlib.Core.Bool.{cond}
 use Prim.Native.Nat.{ℕ, _+_, max}
 use lib.Dec.{eqb}

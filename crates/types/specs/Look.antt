@@ -1,4 +1,4 @@
--- Looking at a record, and at the text that its value names: document 01, "Looking at a record". Assumes nothing.
+-- Looking at a record, and at the text that its value names: document 01, "Looking at a record".
 use mathlib.Core.Bool.{cond, _&&_}
 use mathlib.Core.List.{List}
 use Prim.Native.Nat.{ℕ, _+_, _/_}
@@ -8,7 +8,8 @@ use Rattle.refusal.specs.declared.Refusal.the-variants.{BadTable}
 use Rattle.types.specs.Records.{recordSize, kindAt, zerosAt, aAt, bAt}
 use Rattle.types.specs.Value.{ownRules, valueOf}
 use Rattle.types.specs.declared.value.OscType.{OscType}
-use Rattle.types.specs.declared.value.OscType.the-variants.{Message, Bundle, Int, Float, String, Blob, Time, Long, Double, Char, Color, Midi, Bool, Nil, Inf, Array}
+use Rattle.types.specs.declared.value.OscType.the-variants.{Message, Bundle, Int, Float, String, Blob, Time, Long, Double, Char}
+use Rattle.types.specs.declared.value.OscType.the-variants.{Color, Midi, Bool, Nil, Inf, Array}
 use Rattle.types.specs.declared.look.Looked.{Looked}
 use Rattle.types.specs.declared.look.Looked.the-variants.{Value, Refused}
 

@@ -1,4 +1,4 @@
--- The node table as bytes: document 01, "The node table". Assumes nothing.
+-- The node table as bytes: document 01, "The node table".
 use mathlib.Core.List.{List, [], _∷_, _++_}
 use Prim.Native.Nat.{ℕ, _+_, _*_}
 use lib.ListN.{drop, getD}

@@ -1,4 +1,4 @@
--- The tags of document 01, "The node table": what the kind of an argument, which is also its type tag, stands for. Assumes nothing.
+-- The tags of document 01, "The node table": what the kind of an argument, which is also its type tag, stands for.
 use mathlib.Core.Bool.{Bool, false, cond, _||_, _&&_}
 use mathlib.Core.List.{List, [], _∷_}
 use Prim.Native.Nat.{ℕ}

@@ -1,4 +1,4 @@
--- A record as a value: document 01, "The node table" and "Looking at a record". Assumes nothing.
+-- A record as a value: document 01, "The node table" and "Looking at a record".
 use mathlib.Core.Bool.{Bool, true, false, cond, _&&_}
 use mathlib.Core.List.{[], _∷_}
 use Prim.Native.Nat.{ℕ, _+_, _*_, _/_, _%_}

@@ -1,4 +1,4 @@
--- The first octet of a character says how many octets it has, and a text holds its first character whole. Assumes nothing.
+-- The first octet of a character says how many octets it has, and a text holds its first character whole.
 use mathlib.Core.Path.{_≡_, refl, _∙_, ap}
 use mathlib.Core.Bool.{true}
 use mathlib.Core.List.{List, [], _∷_}

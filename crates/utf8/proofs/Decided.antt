@@ -1,4 +1,4 @@
--- What an answer that decides a statement is, and what it shows. Assumes nothing.
+-- What an answer that decides a statement is, and what it shows.
 use mathlib.Core.Path.{_≡_, refl, sym, _∙_}
 use mathlib.Core.Bool.{Bool, true, false, true≢false, false≢true}
 use Rattle.utf8.specs.Utf8.{Decides}

@@ -1,5 +1,4 @@
 -- `utf8` is the grammar of RFC 3629, section 4: what it accepts is in the grammar, and it accepts all that is.
--- Assumes nothing.
 use mathlib.Core.Path.{_≡_, refl, sym}
 use mathlib.Core.Bool.{Bool, true, false}
 use mathlib.Core.List.{List, [], _∷_, _++_}
@@ -70,7 +69,8 @@ data Ready (row : List Range) (rows : List (List Range)) : Type 0 where
   new : Among [] rows → Among row chars → Ready row rows
 
 -- a row of two lists joined is in one of them
-either : {row : List Range} {rows : List (List Range)} (more : List (List Range)) → (Among row more → Ready row rows) → Among row (more ++ rows) → Ready row rows
+either : {row : List Range} {rows : List (List Range)} (more : List (List Range)) → (Among row more → Ready row rows)
+    → Among row (more ++ rows) → Ready row rows
 either [] f m = old m
 either (one ∷ more) f here = f here
 either (one ∷ more) f (there m) = either more (λ n. f (there n)) m
@@ -103,7 +103,8 @@ data Rest (rows : List (List Range)) : List ℕ → Type 0 where
   rest : {row : List Range} {a b : List ℕ} → Among row rows → Fit row a → Octets b → Rest rows (a ++ b)
 
 -- an octet before a rest: it goes on with a row at hand, or begins a character
-back : {rows : List (List Range)} {x : ℕ} {row : List Range} {a b : List ℕ} → Fit row a → Octets b → Opens (ready (whole rows) rows) x row → Rest rows (x ∷ (a ++ b))
+back : {rows : List (List Range)} {x : ℕ} {row : List Range} {a b : List ℕ} → Fit row a → Octets b → Opens (ready (whole rows) rows) x row
+    → Rest rows (x ∷ (a ++ b))
 back {rows} {x} {row} {a} {b} f o (opens r i m) = go (ready-from (whole rows) (whole-from rows) m)
   where
     go : Ready (r ∷ row) rows → Rest rows (x ∷ (a ++ b))
@@ -130,7 +131,8 @@ through b (next {r = r} {x = x} i f) k rows m = through b f k (step rows x) (ope
 -- so do the octets of a character, where one may begin
 opening : {row : List Range} {a : List ℕ} (b : List ℕ) → Among row chars → Fit row a → Accepts [] b → Accepts [] (a ++ b)
 opening b n end k rows m = k rows m
-opening b n (next {r = r} {x = x} i f) k rows m = through b f k (step rows x) (opened-into r x i (ready-new rows (whole rows) (whole-into m) n))
+opening b n (next {r =
+    r} {x = x} i f) k rows m = through b f k (step rows x) (opened-into r x i (ready-new rows (whole rows) (whole-into m) n))
 
 -- whole characters are accepted wherever one may begin
 complete : {s : List ℕ} → Octets s → Accepts [] s

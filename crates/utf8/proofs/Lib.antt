@@ -1,4 +1,4 @@
--- The laws of `utf8`: of answers, of its tables, of the grammar, of the automaton and of characters. Assumes nothing.
+-- The laws of `utf8`: of answers, of its tables, of the grammar, of the automaton and of characters.
 pub mod Decided
 pub mod Table
 pub mod Same

@@ -1,5 +1,4 @@
 -- No second outcome meets the contract of `utf8::is_utf8`, nor that of `utf8::lead`.
--- Assumes nothing.
 use mathlib.Core.Path.{_≡_, sym, _∙_}
 use mathlib.Core.Bool.{Bool}
 use mathlib.Core.List.{List}

@@ -1,4 +1,4 @@
--- Octets below 0x80: they are characters by themselves, whatever follows. Assumes nothing.
+-- Octets below 0x80: they are characters by themselves, whatever follows.
 use mathlib.Core.Path.{_≡_, refl, sym, ap, subst, _∙_}
 use mathlib.Core.Bool.{Bool, true, false, cond}
 use mathlib.Core.List.{List, [], _∷_, _++_, append-nil}
@@ -17,7 +17,8 @@ use Rattle.utf8.proofs.Same.{same-rows, same-rows→eq}
 use Rattle.utf8.proofs.Table.{at}
 
 -- one octet more, which is greater than those before it or is not
-pub higher : (top : ℕ) (s : List ℕ) (i : ℕ) → i < length s → top < getD s i 0 → highest (getD s i 0) (drop (i + 1) s) ≡ highest top (drop i s)
+pub higher : (top : ℕ) (s : List ℕ) (i : ℕ) → i < length s → top < getD s i 0
+    → highest (getD s i 0) (drop (i + 1) s) ≡ highest top (drop i s)
 higher top s i h k =
     let x : ℕ = getD s i 0 in
     rw (drop-cons s i 0, add-one) (ap (λ (t : Bool). highest (cond t x top) (drop (suc i) s)) (sym (lt-ltb top x k)))

@@ -1,5 +1,4 @@
 -- Tests whether two lists of rows of ranges are equal, and whether two answers are; what passes them is equal.
--- Assumes nothing.
 use mathlib.Core.Path.{_≡_, refl, ap₂}
 use mathlib.Core.Bool.{Bool, true, false, _&&_}
 use mathlib.Core.List.{List, [], _∷_}

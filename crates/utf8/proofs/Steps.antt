@@ -1,5 +1,4 @@
 -- The automaton on octets: a turn of the loop, and its end.
--- Assumes nothing.
 use mathlib.Core.Path.{_≡_, sym, ap, subst, _∙_}
 use mathlib.Core.Bool.{Bool}
 use mathlib.Core.List.{List}

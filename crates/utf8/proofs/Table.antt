@@ -1,5 +1,4 @@
 -- A rule of a table, proved at every index by one test that antt computes.
--- Assumes nothing.
 use mathlib.Core.Path.{_≡_, subst, sym}
 use mathlib.Core.Logic.{⊎-elim}
 use mathlib.Core.Bool.{Bool, true, _&&_}

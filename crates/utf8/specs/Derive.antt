@@ -1,6 +1,5 @@
 -- RFC 3629, section 4, read from the left, octet by octet. What may still come is a list of rows: the rest of a character by one of
 -- them, and then whole characters. `utf8` is membership in the grammar (`octets`, in proofs/Grammar.antt).
--- Assumes nothing.
 use mathlib.Core.Bool.{Bool, true, false, _&&_}
 use mathlib.Core.List.{List, [], _∷_, _++_}
 use Prim.Native.Nat.{ℕ}

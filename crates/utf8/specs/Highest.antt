@@ -1,5 +1,4 @@
 -- The greatest octet, by which UTF8-1 alone is told from the rest of RFC 3629, section 4 (`plain`, in proofs/Plain.antt).
--- Assumes nothing.
 use mathlib.Core.Bool.{cond}
 use mathlib.Core.List.{List, [], _∷_}
 use Prim.Native.Nat.{ℕ}

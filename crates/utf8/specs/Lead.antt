@@ -1,5 +1,4 @@
 -- How many octets a character has, by its first octet: RFC 3629, section 4 (`char-length`, in proofs/Chars.antt).
--- Assumes nothing.
 use mathlib.Core.Bool.{cond}
 use Prim.Native.Nat.{ℕ}
 use lib.Dec.{ltb}

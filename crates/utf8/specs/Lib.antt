@@ -1,4 +1,4 @@
--- What the contracts of `utf8` say, and what its proofs cite. Assumes nothing.
+-- What the contracts of `utf8` say, and what its proofs cite.
 pub mod Utf8
 pub mod Derive
 pub mod States

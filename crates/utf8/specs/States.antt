@@ -1,5 +1,4 @@
 -- The automaton's classes and states, in the words of the grammar of RFC 3629, section 4.
--- Assumes nothing.
 use mathlib.Core.Bool.{Bool, true, false}
 use mathlib.Core.List.{List, [], _∷_}
 use Prim.Native.Nat.{ℕ, suc}

@@ -1,5 +1,4 @@
 -- RFC 3629, section 4: the syntax of UTF-8 byte sequences. The ABNF's alternatives for a character are data, row beside row.
--- Assumes nothing.
 use mathlib.Core.Path.{_≡_}
 use mathlib.Core.Bool.{Bool, true}
 use mathlib.Core.List.{List, [], _∷_, _++_}

@@ -1,40 +1,42 @@
 -- `encoder::encode` meets its contract.
--- Assumes nothing.
 use Rattle.encoder.specs.Outcome.{plain}
 use Rattle.encoder.proofs.Answers.{refused, planned, encoded-plain}
 use borrow.Author.Needs.{needs}
 use Rattle.encoder.proofs.encode.Statement.{statement}
 use Rattle.encoder.proofs.encode.Tie as tie
 
-prepare-requires : tie.Need-prepare-requires
-prepare-requires c κs = search needs
-
-enum-known-refusal : tie.Need-enum-known-refusal
-enum-known-refusal c = search needs
-
-enum-known-n : tie.Need-enum-known-n
-enum-known-n c = search needs
-
 encode-into-requires : tie.Need-encode-into-requires
-encode-into-requires c κs = (planned (c .before .before .before .before .before .before .before .before .args .table .now) (c .before .before .before .before .before .before .before .before .args .count) (c .before .before .before .before .before .before .before .before .args .source .now) (c .before .before .before .before .prepare .ensures) (c .before .before .n .given .1)) .sized
+encode-into-requires c κs =
+    let p2 = c .before .before in
+    let p4 = p2 .before .before in
+    let p8 = p4 .before .before .before .before in
+    (planned (p8 .args .table .now) (p8 .args .count) (p8 .args .source .now) (p4 .prepare .ensures) (p2 .n .given .1)) .sized
 
 returns : tie.Need-returns
-returns c = refused plain (c .before .before .before .before .before .before .before .args .table .now) (c .before .before .before .before .before .before .before .args .count) (c .before .before .before .before .before .before .before .args .source .now) (c .before .before .before .before .before .before .before .args .out .now) (c .before .before .before .prepare .ensures) (c .before .refusal .given .1)
-
-same-length : tie.Need-same-length
-same-length c = search needs
+returns c =
+    let p3 = c .before .before .before in
+    let p7 = p3 .before .before .before .before in
+    refused plain (p7 .args .table .now) (p7 .args .count) (p7 .args .source .now) (p7 .args .out .now) (p3 .prepare .ensures)
+    (c .before .refusal .given .1)
 
 returns-2 : tie.Need-returns-2
-returns-2 c = encoded-plain (c .before .before .before .before .before .before .before .before .before .before .before .args .out .now) (planned (c .before .before .before .before .before .before .before .before .before .before .before .args .table .now) (c .before .before .before .before .before .before .before .before .before .before .before .args .count) (c .before .before .before .before .before .before .before .before .before .before .before .args .source .now) (c .before .before .before .before .before .before .before .prepare .ensures) (c .before .before .before .before .before .n .given .1)) (c .before .before .encode-into .ensures)
+returns-2 c =
+    let p2 = c .before .before in
+    let p5 = p2 .before .before .before in
+    let p7 = p5 .before .before in
+    let p11 = p7 .before .before .before .before in
+    encoded-plain (p11 .args .out .now)
+    (planned (p11 .args .table .now) (p11 .args .count) (p11 .args .source .now) (p7 .prepare .ensures) (p5 .n .given .1))
+    (p2 .encode-into .ensures)
 
 pub encode-spec : {M : Type 1} → statement M
 encode-spec =
     tie.close
     (tie.spec
-    prepare-requires
-    enum-known-refusal
-    enum-known-n
+    (λ c κs. search needs)
+    (λ c. search needs)
+    (λ c. search needs)
     encode-into-requires
     returns
-    same-length
+    (λ c. search needs)
     returns-2)

@@ -1,5 +1,4 @@
 -- `encoder::encode_message_tcp` meets its contract: the length, and the packet in the later part.
--- Assumes nothing.
 use Prim.Native.Nat.{_-_}
 use native.Mathlib.Omega.{arith}
 use lib.ListN.{length}
@@ -12,56 +11,50 @@ use Rattle.encoder.proofs.encode_message_tcp.Statement.{statement}
 use Rattle.encoder.proofs.encode_message_tcp.Tie as tie
 
 returns : tie.Need-returns
-returns c = λ F s. element-long (c .before .before .before .before .pre) F s (c .before .before .before .before .args .out .now) (c .if1 .taken)
-
-add-if2 : tie.Need-add-if2
-add-if2 c = search needs
+returns c =
+    let p4 = c .before .before .before .before in
+    λ F s. element-long (p4 .pre) F s (p4 .args .out .now) (c .if1 .taken)
 
 returns-2 : tie.Need-returns-2
-returns-2 c = λ F s. element-short (c .before .before .before .before .before .pre) F s (c .before .before .before .before .before .args .out .now) (c .before .if1 .left) (c .if2 .taken)
-
-cast-put-u32 : tie.Need-cast-put-u32
-cast-put-u32 c = search needs
-
-put-u32-requires : tie.Need-put-u32-requires
-put-u32-requires c κs = search needs
-
-sub-encode-packet : tie.Need-sub-encode-packet
-sub-encode-packet c = search needs
-
-part-encode-packet-start : tie.Need-part-encode-packet-start
-part-encode-packet-start c = search needs
-
-part-encode-packet-end : tie.Need-part-encode-packet-end
-part-encode-packet-end c = search needs
+returns-2 c =
+    let p5 = c .before .before .before .before .before in
+    λ F s. element-short (p5 .pre) F s (p5 .args .out .now) (c .before .if1 .left) (c .if2 .taken)
 
 encode-packet-requires : tie.Need-encode-packet-requires
 encode-packet-requires c κs =
-    let o = c .before .before .before .put-u32 .last .0 in
-    ready (c .before .before .before .before .before .before .before .before .before .before .pre) (length (midOf 4 (length o - 4) o)) (omega arith) (rw length-lent (omega (arith, wrote-length _ _ _ (c .before .before .before .put-u32 .ensures))))
+    let p3 = c .before .before .before in
+    let p10 = p3 .before .before .before .before .before .before .before in
+    let o = p3 .put-u32 .last .0 in
+    ready (p10 .pre) (length (midOf 4 (length o - 4) o)) (omega arith)
+    (rw length-lent (omega (arith, wrote-length _ _ _ (p3 .put-u32 .ensures))))
 
 add-written : tie.Need-add-written
-add-written c = omega (arith, filled-le (c .before .before .encode-packet .ensures (c .before .before .before .before .before .before .before .before .before .before .before .before .before .pre .inside) (c .before .before .before .before .before .before .before .before .before .before .before .before .before .pre .spans)))
-
-same-length : tie.Need-same-length
-same-length c = search needs
+add-written c =
+    let p2 = c .before .before in
+    let p13 = p2 .before .before .before .before .before .before .before .before .before .before .before in
+    omega (arith, filled-le (p2 .encode-packet .ensures (p13 .pre .inside) (p13 .pre .spans)))
 
 returns-3 : tie.Need-returns-3
-returns-3 c = λ F s. element-written (c .before .before .before .before .before .before .before .before .before .before .before .before .before .pre) F s (c .before .before .before .before .before .before .before .before .before .before .before .before .before .args .out .now) (c .before .before .before .before .before .before .before .before .before .if1 .left) (c .before .before .before .before .before .before .put-u32 .ensures) (c .before .before .encode-packet .ensures)
+returns-3 c =
+    let p2 = c .before .before in
+    let p6 = p2 .before .before .before .before in
+    let p9 = p6 .before .before .before in
+    let p13 = p9 .before .before .before .before in
+    λ F s. element-written (p13 .pre) F s (p13 .args .out .now) (p9 .if1 .left) (p6 .put-u32 .ensures) (p2 .encode-packet .ensures)
 
 pub encode-message-tcp-spec : {M : Type 1} → statement M
 encode-message-tcp-spec =
     tie.close
     (tie.spec
     returns
-    add-if2
+    (λ c. search needs)
     returns-2
-    cast-put-u32
-    put-u32-requires
-    sub-encode-packet
-    part-encode-packet-start
-    part-encode-packet-end
+    (λ c. search needs)
+    (λ c κs. search needs)
+    (λ c. search needs)
+    (λ c. search needs)
+    (λ c. search needs)
     encode-packet-requires
     add-written
-    same-length
+    (λ c. search needs)
     returns-3)

@@ -1,5 +1,4 @@
 -- `encoder::encode_string` meets its contract.
--- Assumes nothing.
 use native.Mathlib.Omega.{arith}
 use Rattle.encoder.specs.Osc.{oscString}
 use Rattle.encoder.proofs.Lengths.{length-string}
@@ -8,43 +7,47 @@ use borrow.Author.Needs.{needs}
 use Rattle.encoder.proofs.encode_string.Statement.{statement}
 use Rattle.encoder.proofs.encode_string.Tie as tie
 
-is-utf8-requires : tie.Need-is-utf8-requires
-is-utf8-requires c κs = search needs
-
 returns : tie.Need-returns
-returns c = not-text (c .before .before .before .before .args .text .now) (c .before .before .before .before .args .out .now) (c .before .is-utf8 .ensures) (c .if1 .taken)
+returns c =
+    let p4 = c .before .before .before .before in
+    not-text (p4 .args .text .now) (p4 .args .out .now) (c .before .is-utf8 .ensures) (c .if1 .taken)
 
 returns-2 : tie.Need-returns-2
-returns-2 c = text-outcome (c .before .before .before .before .before .args .text .now) (c .before .before .before .before .before .args .out .now) (c .before .before .is-utf8 .ensures) (c .before .if1 .left) (write-long (oscString (c .before .before .before .before .before .args .text .now)) (c .before .before .before .before .before .args .out .now) (omega (arith, length-string (c .before .before .before .before .before .args .text .now))))
-
-sub-if3 : tie.Need-sub-if3
-sub-if3 c = search needs
-
-add-if3 : tie.Need-add-if3
-add-if3 c = search needs
+returns-2 c =
+    let p2 = c .before .before in
+    let p5 = p2 .before .before .before in
+    text-outcome (p5 .args .text .now) (p5 .args .out .now) (p2 .is-utf8 .ensures) (c .before .if1 .left)
+    (write-long (oscString (p5 .args .text .now)) (p5 .args .out .now) (omega (arith, length-string (p5 .args .text .now))))
 
 returns-3 : tie.Need-returns-3
-returns-3 c = text-outcome (c .before .before .before .before .before .before .args .text .now) (c .before .before .before .before .before .before .args .out .now) (c .before .before .before .is-utf8 .ensures) (c .before .before .if1 .left) (write-short (oscString (c .before .before .before .before .before .before .args .text .now)) (c .before .before .before .before .before .before .args .out .now) (omega (arith, length-string (c .before .before .before .before .before .before .args .text .now))) (omega (arith, length-string (c .before .before .before .before .before .before .args .text .now))))
-
-encode-string-into-requires : tie.Need-encode-string-into-requires
-encode-string-into-requires c κs = search needs
-
-same-length : tie.Need-same-length
-same-length c = search needs
+returns-3 c =
+    let p2 = c .before .before in
+    let p3 = p2 .before in
+    let p6 = p3 .before .before .before in
+    text-outcome (p6 .args .text .now) (p6 .args .out .now) (p3 .is-utf8 .ensures) (p2 .if1 .left)
+    (write-short (oscString (p6 .args .text .now)) (p6 .args .out .now) (omega (arith, length-string (p6 .args .text .now)))
+    (omega (arith, length-string (p6 .args .text .now))))
 
 returns-4 : tie.Need-returns-4
-returns-4 c = text-outcome (c .before .before .before .before .before .before .before .before .before .before .args .text .now) (c .before .before .before .before .before .before .before .before .before .before .args .out .now) (c .before .before .before .before .before .before .before .is-utf8 .ensures) (c .before .before .before .before .before .before .if1 .left) (written (oscString (c .before .before .before .before .before .before .before .before .before .before .args .text .now)) (c .before .before .before .before .before .before .before .before .before .before .args .out .now) (omega (arith, length-string (c .before .before .before .before .before .before .before .before .before .before .args .text .now))) (c .before .before .encode-string-into .ensures))
+returns-4 c =
+    let p2 = c .before .before in
+    let p6 = p2 .before .before .before .before in
+    let p7 = p6 .before in
+    let p10 = p7 .before .before .before in
+    text-outcome (p10 .args .text .now) (p10 .args .out .now) (p7 .is-utf8 .ensures) (p6 .if1 .left)
+    (written (oscString (p10 .args .text .now)) (p10 .args .out .now) (omega (arith, length-string (p10 .args .text .now)))
+    (p2 .encode-string-into .ensures))
 
 pub encode-string-spec : {M : Type 1} → statement M
 encode-string-spec =
     tie.close
     (tie.spec
-    is-utf8-requires
+    (λ c κs. search needs)
     returns
     returns-2
-    sub-if3
-    add-if3
+    (λ c. search needs)
+    (λ c. search needs)
     returns-3
-    encode-string-into-requires
-    same-length
+    (λ c κs. search needs)
+    (λ c. search needs)
     returns-4)

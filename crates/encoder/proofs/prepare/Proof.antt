@@ -1,13 +1,9 @@
 -- `encoder::prepare` meets its contract: where the survey is not sure, the full check is.
--- Assumes nothing.
 use native.Mathlib.Omega.{arith}
 use borrow.Author.Needs.{needs}
 use Rattle.encoder.proofs.Answers.{survey-some, survey-ready, bad-table, rooted, too-deep, measurable, some-length, measured}
 use Rattle.encoder.proofs.prepare.Statement.{statement}
 use Rattle.encoder.proofs.prepare.Tie as tie
-
-survey-requires : tie.Need-survey-requires
-survey-requires c κs = search needs
 
 sub-t7 : tie.Need-sub-t7
 sub-t7 c = omega (arith, survey-some (c .before .survey .ensures (omega (arith, c .if1 .taken))))
@@ -15,35 +11,57 @@ sub-t7 c = omega (arith, survey-some (c .before .survey .ensures (omega (arith, 
 returns : tie.Need-returns
 returns c = survey-ready (c .before .survey .ensures (omega (arith, c .if1 .taken))) (omega (arith, c .if1 .taken))
 
-is-well-formed-requires : tie.Need-is-well-formed-requires
-is-well-formed-requires c κs = search needs
-
 returns-2 : tie.Need-returns-2
-returns-2 c = bad-table (c .before .before .before .before .before .before .args .table .now) (c .before .before .before .before .before .before .args .count) (c .before .before .before .before .before .before .args .source .now) (c .before .is-well-formed .ensures) (c .if2 .taken)
+returns-2 c =
+    let p6 = c .before .before .before .before .before .before in
+    bad-table (p6 .args .table .now) (p6 .args .count) (p6 .args .source .now) (c .before .is-well-formed .ensures) (c .if2 .taken)
 
 deeper-than-requires : tie.Need-deeper-than-requires
-deeper-than-requires c κs = rooted (c .before .before .before .before .before .before .args .table .now) (c .before .before .before .before .before .before .args .count) (c .before .before .before .before .before .before .args .source .now) (c .before .is-well-formed .ensures) (c .if2 .left)
+deeper-than-requires c κs =
+    let p6 = c .before .before .before .before .before .before in
+    rooted (p6 .args .table .now) (p6 .args .count) (p6 .args .source .now) (c .before .is-well-formed .ensures) (c .if2 .left)
 
 returns-3 : tie.Need-returns-3
-returns-3 c = too-deep (c .before .before .before .before .before .before .before .before .args .table .now) (c .before .before .before .before .before .before .before .before .args .count) (c .before .before .before .before .before .before .before .before .args .source .now) (c .before .before .before .is-well-formed .ensures) (c .before .before .if2 .left) (c .before .deeper-than .ensures) (c .if3 .taken)
+returns-3 c =
+    let p2 = c .before .before in
+    let p3 = p2 .before in
+    let p8 = p3 .before .before .before .before .before in
+    too-deep (p8 .args .table .now) (p8 .args .count) (p8 .args .source .now) (p3 .is-well-formed .ensures) (p2 .if2 .left)
+    (c .before .deeper-than .ensures) (c .if3 .taken)
 
 measure-requires : tie.Need-measure-requires
-measure-requires c κs = measurable (c .before .before .before .before .before .before .before .before .args .table .now) (c .before .before .before .before .before .before .before .before .args .count) (c .before .before .before .before .before .before .before .before .args .source .now) (c .before .before .before .is-well-formed .ensures) (c .before .before .if2 .left)
+measure-requires c κs =
+    let p2 = c .before .before in
+    let p3 = p2 .before in
+    let p8 = p3 .before .before .before .before .before in
+    measurable (p8 .args .table .now) (p8 .args .count) (p8 .args .source .now) (p3 .is-well-formed .ensures) (p2 .if2 .left)
 
 sub-length : tie.Need-sub-length
-sub-length c = some-length (c .before .before .before .before .before .before .before .before .before .args .table .now) (c .before .before .before .before .before .before .before .before .before .args .count) (c .before .before .before .before .before .before .before .before .before .args .source .now) (c .before .before .before .before .is-well-formed .ensures) (c .before .before .before .if2 .left) (c .before .before .deeper-than .ensures) (c .measure .ensures)
+sub-length c =
+    let p2 = c .before .before in
+    let p3 = p2 .before in
+    let p4 = p3 .before in
+    let p9 = p4 .before .before .before .before .before in
+    some-length (p9 .args .table .now) (p9 .args .count) (p9 .args .source .now) (p4 .is-well-formed .ensures) (p3 .if2 .left)
+    (p2 .deeper-than .ensures) (c .measure .ensures)
 
 returns-4 : tie.Need-returns-4
-returns-4 c = measured (c .before .before .before .before .before .before .before .before .before .args .table .now) (c .before .before .before .before .before .before .before .before .before .args .count) (c .before .before .before .before .before .before .before .before .before .args .source .now) (c .before .before .before .before .is-well-formed .ensures) (c .before .before .before .if2 .left) (c .before .before .deeper-than .ensures) (c .measure .ensures) (c .before .if3 .left)
+returns-4 c =
+    let p2 = c .before .before in
+    let p3 = p2 .before in
+    let p4 = p3 .before in
+    let p9 = p4 .before .before .before .before .before in
+    measured (p9 .args .table .now) (p9 .args .count) (p9 .args .source .now) (p4 .is-well-formed .ensures) (p3 .if2 .left)
+    (p2 .deeper-than .ensures) (c .measure .ensures) (c .before .if3 .left)
 
 pub prepare-spec : {M : Type 1} → statement M
 prepare-spec =
     tie.close
     (tie.spec
-    survey-requires
+    (λ c κs. search needs)
     sub-t7
     returns
-    is-well-formed-requires
+    (λ c κs. search needs)
     returns-2
     deeper-than-requires
     returns-3

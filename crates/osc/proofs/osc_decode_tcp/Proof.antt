@@ -1,4 +1,4 @@
--- `osc::osc_decode_tcp` meets its contract: the answer fits its bits. Assumes nothing.
+-- `osc::osc_decode_tcp` meets its contract: the answer fits its bits.
 use mathlib.Core.Path.{ap, sym, _∙_, subst}
 use borrow.Author.Needs.{needs}
 use Rattle.decoder.specs.Framing.{tcp}
@@ -9,21 +9,17 @@ use Rattle.osc.proofs.Fits.{fits-tcp}
 use Rattle.osc.proofs.osc_decode_tcp.Statement.{statement}
 use Rattle.osc.proofs.osc_decode_tcp.Tie as tie
 
-decode-tcp-requires : tie.Need-decode-tcp-requires
-decode-tcp-requires c κs = search needs
-
 decoded-number-requires : tie.Need-decoded-number-requires
 decoded-number-requires c κs = subst (Fits _) (sym (c .before .before .decode-tcp .ensures .0)) (fits-tcp _ _ _)
-
-same-length : tie.Need-same-length
-same-length c = search needs
 
 returns : tie.Need-returns
 returns c = (
   c .decoded-number .ensures ∙ ap (decodedNumber _) (c .before .before .before .decode-tcp .ensures .0),
-  c .before .before .before .decode-tcp .ensures .1 ∙ ap (λ (r : Decoded). tabled r (forestOf (tcp (c .before .before .before .before .before .before .before .args .msg .now))) (c .before .before .before .before .before .before .before .args .table .now)) (c .before .before .before .decode-tcp .ensures .0),
+  c .before .before .before .decode-tcp .ensures .1
+      ∙ ap (λ (r : Decoded). tabled r (forestOf (tcp (c .before .before .before .before .before .before .before .args .msg .now)))
+      (c .before .before .before .before .before .before .before .args .table .now)) (c .before .before .before .decode-tcp .ensures .0),
 )
 
 pub osc-decode-tcp-spec : {M : Type 1} → statement M
 osc-decode-tcp-spec =
-    tie.close (tie.spec decode-tcp-requires decoded-number-requires same-length returns)
+    tie.close (tie.spec (λ c κs. search needs) decoded-number-requires (λ c. search needs) returns)

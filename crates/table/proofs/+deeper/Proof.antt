@@ -1,6 +1,5 @@
 -- `table::deeper` meets its contract. The loop's invariant: what is left is too deep exactly where the whole is. A call of itself has a
 -- lower limit, which is the measure; the loop's is how many records are left.
--- Assumes nothing.
 use Prim.Native.Nat.{ℕ, _<_, _-_}
 use native.Mathlib.Omega.{arith}
 use borrow.Author.Needs.{needs}
@@ -9,7 +8,8 @@ use borrow.Fn.PlainCycle.{Measures, is, falls, and}
 use Rattle.types.specs.Forest.{Forest}
 use Rattle.types.proofs.record.read_record.Reads as read-record-reads
 use Rattle.table.specs.Tree.{Spans}
-use Rattle.table.proofs.Depths.{Passed, passed-none, passed-all, next-row, next-on, passed-other, found-here, found-inside, passed-bundle}
+use Rattle.table.proofs.Depths.{Passed, passed-none, passed-all, next-row, next-on, passed-other, found-here, found-inside}
+use Rattle.table.proofs.Depths.{passed-bundle}
 use Rattle.table.proofs.deeper.Reads as deeper
 use Rattle.table.proofs.deeper.Kinds as deeper-kinds
 use Rattle.table.proofs.+deeper.Lts-deeper as deeper-lts
@@ -49,9 +49,9 @@ pub +deeper-spec : {M : Type 1} → statement M
     -- cast-end
     (λ c. search needs)
     -- returns: a bundle where none may be
-    (λ c. λ F s.
-    let l = c .before .before .before .before .before in
-    found-here (l .before .loop .inv F s) (c .before .before .before .before .read-record .ensures) (l .loop-test .taken) (c .before .if1 .taken) (c .if2 .taken))
+    (λ c. let p4 = c .before .before .before .before in let p5 = p4 .before in λ F s.
+    let l = p5 in
+    found-here (l .before .loop .inv F s) (p4 .read-record .ensures) (l .loop-test .taken) (c .before .if1 .taken) (c .if2 .taken))
     -- add-deeper
     (λ c. search needs)
     -- sub-deeper
@@ -60,14 +60,17 @@ pub +deeper-spec : {M : Type 1} → statement M
     (λ c κs.
     let g = c .before .before .before .before in
     let l = g .before in
-    let w = l .before .before .before .pre in
-    (omega (arith, w .0, c .if2 .left), next-row (l .before .loop .inv (w .1 .forest) (w .1 .spans)) (g .read-record .ensures) (l .loop-test .taken) (w .1)))
+    let w = l .before .before .before .pre in (
+      omega (arith, w .0, c .if2 .left),
+      next-row (l .before .loop .inv (w .1 .forest) (w .1 .spans)) (g .read-record .ensures)
+          (l .loop-test .taken) (w .1),
+    ))
     -- returns-2: a bundle inside is too deep
-    (λ c. λ F s.
-    let g = c .before .before .before .before .before .before in
+    (λ c. let p2 = c .before .before in let p3 = p2 .before in let p6 = p3 .before .before .before in λ F s.
+    let g = p6 in
     let l = g .before in
     found-inside (l .before .loop .inv F s) (g .read-record .ensures) (l .loop-test .taken)
-    (c .before .before .before .if1 .taken) (c .before .before .if2 .left) (c .before .deeper .ensures) (c .if3 .taken))
+    (p3 .if1 .taken) (p2 .if2 .left) (c .before .deeper .ensures) (c .if3 .taken))
     -- loop-less
     (λ c.
     let g = c .before .before .before .before .before .before in
@@ -75,11 +78,11 @@ pub +deeper-spec : {M : Type 1} → statement M
     let w = l .before .before .before .pre .1 in
     omega (arith, next-on (l .before .loop .inv (w .forest) (w .spans)) (g .read-record .ensures) (l .loop-test .taken)))
     -- loop-again: past a bundle
-    (λ c. λ F s.
-    let g = c .before .before .before .before .before .before in
+    (λ c. let p2 = c .before .before in let p3 = p2 .before in let p6 = p3 .before .before .before in λ F s.
+    let g = p6 in
     let l = g .before in
     passed-bundle (l .before .loop .inv F s) (g .read-record .ensures) (l .loop-test .taken)
-    (c .before .before .before .if1 .taken) (c .before .before .if2 .left) (c .before .deeper .ensures) (c .if3 .left))
+    (p3 .if1 .taken) (p2 .if2 .left) (c .before .deeper .ensures) (c .if3 .left))
     -- loop-less-2
     (λ c.
     let g = c .before .before .before in

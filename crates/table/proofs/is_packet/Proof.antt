@@ -1,5 +1,4 @@
 -- `table::is_packet` meets its contract: the arms of the `match` are the list of the definition.
--- Assumes nothing.
 use mathlib.Core.Path.{refl, sym}
 use mathlib.Core.Bool.{true}
 use mathlib.Core.List.{[], _∷_}

@@ -1,5 +1,4 @@
 -- `table::is_well_formed` meets its contract. The loop's invariant: every record before `i` is right. The measure is how many are left.
--- Assumes nothing.
 use mathlib.Core.Path.{sym, ap, _∙_}
 use mathlib.Core.Bool.{true≢false}
 use Prim.Native.Nat.{ℕ, _≤_, _<_, _-_}
@@ -25,50 +24,37 @@ returns c = no (λ w. omega (arith, w .some))
 returns-2 : tie.Need-returns-2 Inv-loop μ-loop
 returns-2 c = no (λ w. omega (arith, w .few))
 
-capacity-requires : tie.Need-capacity-requires Inv-loop μ-loop
-capacity-requires c κs = search needs
-
 returns-3 : tie.Need-returns-3 Inv-loop μ-loop
 returns-3 c = no (λ w. omega (arith, w .fits))
-
-read-record-requires : tie.Need-read-record-requires Inv-loop μ-loop
-read-record-requires c κs = search needs
-
-is-packet-requires : tie.Need-is-packet-requires Inv-loop μ-loop
-is-packet-requires c κs = search needs
 
 returns-4 : tie.Need-returns-4 Inv-loop μ-loop
 returns-4 c =
     let e = ap (λ (r : Record). isPacket (r .kind)) (c .before .before .read-record .ensures) in
     no (λ w. true≢false (sym (w .root) ∙ sym e ∙ sym (c .before .is-packet .ensures) ∙ not-true _ (c .if4 .taken)))
 
-cast-if5 : tie.Need-cast-if5 Inv-loop μ-loop
-cast-if5 c = search needs
-
 returns-5 : tie.Need-returns-5 Inv-loop μ-loop
-returns-5 c = no (λ w. c .if5 .taken (ap (λ (r : Record). r .end) (c .before .before .before .before .read-record .ensures) ∙ w .whole))
+returns-5 c =
+    let p4 = c .before .before .before .before in
+    no (λ w. c .if5 .taken (ap (λ (r : Record). r .end) (p4 .read-record .ensures) ∙ w .whole))
 
 loop-holds : tie.Need-loop-holds Inv-loop μ-loop
 loop-holds c = (search needs, λ j h. absurd (omega arith))
 
-node-ok-requires : tie.Need-node-ok-requires Inv-loop μ-loop
-node-ok-requires c κs = search needs
-
 returns-6 : tie.Need-returns-6 Inv-loop μ-loop
 returns-6 c = no (λ w. fails (c .before .node-ok .ensures) (not-true _ (c .if6 .taken)) (w .nodes _ (c .before .before .loop-test .taken)))
 
-add-i : tie.Need-add-i Inv-loop μ-loop
-add-i c = search needs
-
-loop-less : tie.Need-loop-less Inv-loop μ-loop
-loop-less c = search needs
-
 loop-again : tie.Need-loop-again Inv-loop μ-loop
-loop-again c = (search needs, below-more _ _ (c .before .before .before .loop .inv .1) (c .before .node-ok .ensures .sound (not-false _ (c .if6 .left))))
+loop-again c = (
+  search needs,
+  below-more _ _ (c .before .before .before .loop .inv .1)
+      (c .before .node-ok .ensures .sound (not-false _ (c .if6 .left))),
+)
 
 returns-7 : tie.Need-returns-7 Inv-loop μ-loop
 returns-7 c =
-    let p = c .before .before .before .before in
+    let p2 = c .before .before in
+    let p4 = p2 .before .before in
+    let p = p4 in
     let e = p .before .before .read-record .ensures in
     let k = p .before .before .before in
     yes (record {
@@ -76,7 +62,7 @@ returns-7 c =
       few = k .before .before .if2 .left;
       fits = omega (arith, k .if3 .left, k .before .capacity .ensures);
       root = sym (ap (λ (r : Record). isPacket (r .kind)) e) ∙ sym (p .before .is-packet .ensures) ∙ not-false _ (p .if4 .left);
-      whole = sym (ap (λ (r : Record). r .end) e) ∙ c .before .before .if5 .left;
+      whole = sym (ap (λ (r : Record). r .end) e) ∙ p2 .if5 .left;
       nodes = λ i h. c .before .loop .inv .1 i (omega arith);
     })
 
@@ -88,17 +74,17 @@ is-well-formed-spec =
     μ-loop
     returns
     returns-2
-    capacity-requires
+    (λ c κs. search needs)
     returns-3
-    read-record-requires
-    is-packet-requires
+    (λ c κs. search needs)
+    (λ c κs. search needs)
     returns-4
-    cast-if5
+    (λ c. search needs)
     returns-5
     loop-holds
-    node-ok-requires
+    (λ c κs. search needs)
     returns-6
-    add-i
-    loop-less
+    (λ c. search needs)
+    (λ c. search needs)
     loop-again
     returns-7)

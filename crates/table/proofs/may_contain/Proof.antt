@@ -1,5 +1,4 @@
 -- `table::may_contain` meets its contract, one arm of the `match` to a case of the definition.
--- Assumes nothing.
 use mathlib.Core.Path.{ap}
 use mathlib.Core.Bool.{not}
 use mathlib.Core.List.{[], _∷_}
@@ -11,12 +10,6 @@ use Rattle.table.specs.Formed.{allowed}
 use Rattle.table.proofs.may_contain.Statement.{statement}
 use Rattle.table.proofs.may_contain.Tie as tie
 
-is-packet-requires : tie.Need-is-packet-requires
-is-packet-requires c κs = search needs
-
-is-packet-requires-2 : tie.Need-is-packet-requires-2
-is-packet-requires-2 c κs = search needs
-
 returns : tie.Need-returns
 unfolding allowed
 returns c = rw (c .before .match .keys1) (c .is-packet .ensures)
@@ -25,7 +18,8 @@ returns-2 : tie.Need-returns-2
 unfolding allowed
 returns-2 c =
     let e = ap not (c .is-packet2 .ensures) in
-    by-keys (λ (k : ℕ). allowed k (c .before .before .args .kind)) (not (c .is-packet2 .result)) (47 ∷ 91 ∷ []) (e, (e, tt)) _ (c .before .match .keys2)
+    by-keys (λ (k : ℕ). allowed k (c .before .before .args .kind)) (not (c .is-packet2 .result)) (47 ∷ 91 ∷ []) (e, (e, tt)) _
+    (c .before .match .keys2)
 
 returns-3 : tie.Need-returns-3
 unfolding allowed
@@ -33,4 +27,4 @@ returns-3 c = rw (ne-eqb _ _ (c .match .rest .0 .1), not-among (47 ∷ 91 ∷ []
 
 pub may-contain-spec : {M : Type 1} → statement M
 may-contain-spec =
-    tie.close (tie.spec is-packet-requires is-packet-requires-2 returns returns-2 returns-3)
+    tie.close (tie.spec (λ c κs. search needs) (λ c κs. search needs) returns returns-2 returns-3)

@@ -1,5 +1,4 @@
 -- `table::range_ok` meets its contract, one arm of the `match` to a case of the definition.
--- Assumes nothing.
 use mathlib.Core.List.{[], _∷_}
 use Prim.Native.Nat.{ℕ}
 use borrow.Author.Needs.{needs}
@@ -9,18 +8,13 @@ use Rattle.table.specs.Formed.{rangeOk}
 use Rattle.table.proofs.range_ok.Statement.{statement}
 use Rattle.table.proofs.range_ok.Tie as tie
 
-text-ok-requires : tie.Need-text-ok-requires
-text-ok-requires c κs = search needs
-
-lies-in-requires : tie.Need-lies-in-requires
-lies-in-requires c κs = search needs
-
 returns : tie.Need-returns
 unfolding rangeOk
 returns c =
     let a = c .before .before .before .args in
     let e = c .text-ok .ensures in
-    by-keys (λ (k : ℕ). rangeOk (a .source .now) k (a .a) (a .b)) (c .text-ok .result) (47 ∷ 115 ∷ []) (e, (e, tt)) _ (c .before .match .keys1)
+    by-keys (λ (k : ℕ). rangeOk (a .source .now) k (a .a) (a .b)) (c .text-ok .result) (47 ∷ 115 ∷ []) (e, (e, tt)) _
+    (c .before .match .keys1)
 
 returns-2 : tie.Need-returns-2
 unfolding rangeOk
@@ -31,4 +25,4 @@ unfolding rangeOk
 returns-3 c = rw (not-among (47 ∷ 115 ∷ []) _ (c .match .rest .0 .1), ne-eqb _ _ (c .match .rest .1))
 
 pub range-ok-spec : {M : Type 1} → statement M
-range-ok-spec = tie.close (tie.spec text-ok-requires lies-in-requires returns returns-2 returns-3)
+range-ok-spec = tie.close (tie.spec (λ c κs. search needs) (λ c κs. search needs) returns returns-2 returns-3)

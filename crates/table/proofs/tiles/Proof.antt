@@ -1,6 +1,5 @@
 -- `table::tiles` meets its contract. The loop's invariant: what is left of the children decides about all of them.
 -- The measure is how many records are left.
--- Assumes nothing.
 use mathlib.Core.Path.{sym, _∙_}
 use Prim.Native.Nat.{_-_}
 use native.Mathlib.Omega.{arith}
@@ -19,34 +18,33 @@ abbrev μ-loop : tie.MeasureT-loop
 loop-holds : tie.Need-loop-holds Inv-loop μ-loop
 loop-holds c = walk
 
-read-record-requires : tie.Need-read-record-requires Inv-loop μ-loop
-read-record-requires c κs = search needs
-
-may-contain-requires : tie.Need-may-contain-requires Inv-loop μ-loop
-may-contain-requires c κs = search needs
-
 returns : tie.Need-returns Inv-loop μ-loop
 returns c =
-    let l = c .before .before .before .before in
-    not-allowed (l .loop .inv) (c .before .before .read-record .ensures) (c .before .before .before .loop-test .taken)
+    let p2 = c .before .before in
+    let p3 = p2 .before in
+    let p4 = p3 .before in
+    let l = p4 in
+    not-allowed (l .loop .inv) (p2 .read-record .ensures) (p3 .loop-test .taken)
     (sym (c .before .may-contain .ensures) ∙ not-true _ (c .if1 .taken))
-
-cast-next : tie.Need-cast-next Inv-loop μ-loop
-cast-next c = search needs
 
 returns-2 : tie.Need-returns-2 Inv-loop μ-loop
 returns-2 c =
-    let l = c .before .before .before .before .before .before in
-    ends-early (l .loop .inv) (c .before .before .before .before .read-record .ensures) (c .before .before .before .before .before .loop-test .taken) (omega arith)
-
-loop-less : tie.Need-loop-less Inv-loop μ-loop
-loop-less c = search needs
+    let p4 = c .before .before .before .before in
+    let p5 = p4 .before in
+    let p6 = p5 .before in
+    let l = p6 in
+    ends-early (l .loop .inv) (p4 .read-record .ensures) (p5 .loop-test .taken) (omega arith)
 
 loop-again : tie.Need-loop-again Inv-loop μ-loop
 loop-again c =
-    let l = c .before .before .before .before .before .before in
-    walked-on (l .loop .inv) (c .before .before .before .before .read-record .ensures) (c .before .before .before .before .before .loop-test .taken)
-    (sym (c .before .before .before .may-contain .ensures) ∙ not-false _ (c .before .before .if1 .left)) (c .if2 .left)
+    let p2 = c .before .before in
+    let p3 = p2 .before in
+    let p4 = p3 .before in
+    let p5 = p4 .before in
+    let p6 = p5 .before in
+    let l = p6 in
+    walked-on (l .loop .inv) (p4 .read-record .ensures) (p5 .loop-test .taken)
+    (sym (p3 .may-contain .ensures) ∙ not-false _ (p2 .if1 .left)) (c .if2 .left)
 
 returns-3 : tie.Need-returns-3 Inv-loop μ-loop
 returns-3 c = walked-end (c .before .loop .inv) (c .loop-test .left)
@@ -58,11 +56,11 @@ tiles-spec =
     Inv-loop
     μ-loop
     loop-holds
-    read-record-requires
-    may-contain-requires
+    (λ c κs. search needs)
+    (λ c κs. search needs)
     returns
-    cast-next
+    (λ c. search needs)
     returns-2
-    loop-less
+    (λ c. search needs)
     loop-again
     returns-3)

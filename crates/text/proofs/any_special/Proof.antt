@@ -1,5 +1,4 @@
 -- `text::any_special` meets its contract. The invariant: a special byte was met where fewer than `i` are passed.
--- Assumes nothing.
 use mathlib.Core.Path.{_≡_, sym, _∙_}
 use mathlib.Core.Logic.{⊎-elim}
 use Prim.Native.Nat.{_<_, _≤_, _-_}
@@ -22,22 +21,12 @@ abbrev μ-loop : tie.MeasureT-loop
 loop-holds : tie.Need-loop-holds Inv-loop μ-loop
 loop-holds c = (search needs, sym (le-ltb (plain (c .before .args .input .now)) 0 (omega arith)))
 
-shared-slice-read-is-special : tie.Need-shared-slice-read-is-special Inv-loop μ-loop
-shared-slice-read-is-special c = search needs
-
-is-special-requires : tie.Need-is-special-requires Inv-loop μ-loop
-is-special-requires c κs = search needs
-
-add-i : tie.Need-add-i Inv-loop μ-loop
-add-i c = search needs
-
-loop-less : tie.Need-loop-less Inv-loop μ-loop
-loop-less c = search needs
-
 loop-again : tie.Need-loop-again Inv-loop μ-loop
 loop-again c =
-    let l = c .before .before .before .before .loop in
-    let input = c .before .before .before .before .before .before .args .input .now in
+    let p4 = c .before .before .before .before in
+    let p6 = p4 .before .before in
+    let l = p4 .loop in
+    let input = p6 .args .input .now in
     let within : l .i < length input = omega arith in (
       search needs,
       ⊎-elim
@@ -59,9 +48,9 @@ any-special-spec =
     Inv-loop
     μ-loop
     loop-holds
-    shared-slice-read-is-special
-    is-special-requires
-    add-i
-    loop-less
+    (λ c. search needs)
+    (λ c κs. search needs)
+    (λ c. search needs)
+    (λ c. search needs)
     loop-again
     returns)

@@ -1,5 +1,4 @@
 -- `text::is_special` meets its contract.
--- Assumes nothing.
 use borrow.Author.Tests.{eq-eqb, ne-eqb}
 use Rattle.text.proofs.is_special.Statement.{statement}
 use Rattle.text.proofs.is_special.Tie as tie

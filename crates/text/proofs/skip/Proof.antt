@@ -1,5 +1,4 @@
 -- `text::skip` meets its contract. The invariant is what it ensures, of the bytes before `at`.
--- Assumes nothing.
 use mathlib.Core.Path.{sym, _∙_}
 use Prim.Native.Nat.{_-_}
 use native.Mathlib.Omega.{arith}
@@ -17,42 +16,20 @@ Inv-loop input n at₀ at = Passed at input
 abbrev μ-loop : tie.MeasureT-loop
 μ-loop input n at₀ at = length input - at
 
-loop-holds : tie.Need-loop-holds Inv-loop μ-loop
-loop-holds c = search needs
-
-sub-loop : tie.Need-sub-loop Inv-loop μ-loop
-sub-loop c = search needs
-
-sub-any-special : tie.Need-sub-any-special Inv-loop μ-loop
-sub-any-special c = search needs
-
-part-any-special-start : tie.Need-part-any-special-start Inv-loop μ-loop
-part-any-special-start c = search needs
-
-part-any-special-end : tie.Need-part-any-special-end Inv-loop μ-loop
-part-any-special-end c = search needs
-
 any-special-requires : tie.Need-any-special-requires Inv-loop μ-loop
 any-special-requires c κs =
-    rw (tail (c .before .before .before .before .args .input .now) (c .before .before .loop .at)) (omega (arith, length-drop (c .before .before .loop .at) (c .before .before .before .before .args .input .now)))
-
-returns : tie.Need-returns Inv-loop μ-loop
-returns c = search needs
-
-add-at : tie.Need-add-at Inv-loop μ-loop
-add-at c = search needs
-
-loop-less : tie.Need-loop-less Inv-loop μ-loop
-loop-less c = search needs
+    let p2 = c .before .before in
+    let p4 = p2 .before .before in
+    rw (tail (p4 .args .input .now) (p2 .loop .at)) (omega (arith, length-drop (p2 .loop .at) (p4 .args .input .now)))
 
 loop-again : tie.Need-loop-again Inv-loop μ-loop
 loop-again c =
-    let l = c .before .before .before .before .loop in
-    let input = c .before .before .before .before .before .before .args .input .now in
-    block input (l .at) _ (l .inv) (omega (arith, length-drop (l .at) input)) (rw tail at (sym (c .before .any-special .ensures) ∙ c .if1 .left))
-
-returns-2 : tie.Need-returns-2 Inv-loop μ-loop
-returns-2 c = search needs
+    let p4 = c .before .before .before .before in
+    let p6 = p4 .before .before in
+    let l = p4 .loop in
+    let input = p6 .args .input .now in
+    block input (l .at) _ (l .inv) (omega (arith, length-drop (l .at) input))
+    (rw tail at (sym (c .before .any-special .ensures) ∙ c .if1 .left))
 
 pub skip-spec : {M : Type 1} → statement M
 skip-spec =
@@ -60,14 +37,14 @@ skip-spec =
     (tie.spec
     Inv-loop
     μ-loop
-    loop-holds
-    sub-loop
-    sub-any-special
-    part-any-special-start
-    part-any-special-end
+    (λ c. search needs)
+    (λ c. search needs)
+    (λ c. search needs)
+    (λ c. search needs)
+    (λ c. search needs)
     any-special-requires
-    returns
-    add-at
-    loop-less
+    (λ c. search needs)
+    (λ c. search needs)
+    (λ c. search needs)
     loop-again
-    returns-2)
+    (λ c. search needs))

@@ -1,5 +1,4 @@
 -- `utf8::highest` meets its contract. The invariant: `top` and the bytes that are left have the greatest of all.
--- Assumes nothing.
 use mathlib.Core.Path.{_≡_, refl, sym, ap, _∙_}
 use mathlib.Core.Logic.{⊎-elim}
 use Prim.Native.Nat.{ℕ, _+_, _≤_, _-_}
@@ -20,26 +19,19 @@ abbrev μ-loop : tie.MeasureT-loop
 loop-holds : tie.Need-loop-holds Inv-loop μ-loop
 loop-holds c = (search needs, refl)
 
-shared-slice-read-if1 : tie.Need-shared-slice-read-if1 Inv-loop μ-loop
-shared-slice-read-if1 c = search needs
-
-shared-slice-read-top : tie.Need-shared-slice-read-top Inv-loop μ-loop
-shared-slice-read-top c = search needs
-
-add-i : tie.Need-add-i Inv-loop μ-loop
-add-i c = search needs
-
-loop-less : tie.Need-loop-less Inv-loop μ-loop
-loop-less c = search needs
-
 loop-again : tie.Need-loop-again Inv-loop μ-loop
 loop-again c =
-    let l = c .before .before .before .loop in
-    let s = c .before .before .before .before .args .s .now in (
+    let p2 = c .before .before in
+    let p3 = p2 .before in
+    let p4 = p3 .before in
+    let l = p3 .loop in
+    let s = p4 .args .s .now in (
       search needs,
       ⊎-elim
-          (λ w. ap (λ (top : ℕ). highest top (drop (l .i + 1) s)) (w .2) ∙ higher (l .top) s (l .i) (c .before .before .loop-test .taken) (w .0 .taken) ∙ l .inv .1)
-          (λ w. ap (λ (top : ℕ). highest top (drop (l .i + 1) s)) (w .1) ∙ no-higher (l .top) s (l .i) (c .before .before .loop-test .taken) (w .0 .left) ∙ l .inv .1)
+          (λ w. ap (λ (top : ℕ). highest top (drop (l .i + 1) s)) (w .2) ∙ higher (l .top) s (l .i) (p2 .loop-test .taken) (w .0 .taken)
+          ∙ l .inv .1)
+          (λ w. ap (λ (top : ℕ). highest top (drop (l .i + 1) s)) (w .1) ∙ no-higher (l .top) s (l .i) (p2 .loop-test .taken) (w .0 .left)
+          ∙ l .inv .1)
           (c .if1 .came),
     )
 
@@ -55,9 +47,9 @@ highest-spec =
     Inv-loop
     μ-loop
     loop-holds
-    shared-slice-read-if1
-    shared-slice-read-top
-    add-i
-    loop-less
+    (λ c. search needs)
+    (λ c. search needs)
+    (λ c. search needs)
+    (λ c. search needs)
     loop-again
     returns)

@@ -1,5 +1,4 @@
 -- `utf8::lead` meets its contract: each arm by the law of the octets that reach it.
--- Assumes nothing.
 use Rattle.utf8.proofs.Chars.{one, two, three, four}
 use Rattle.utf8.proofs.lead.Statement.{statement}
 use Rattle.utf8.proofs.lead.Tie as tie

@@ -1,6 +1,5 @@
 -- `utf8::walk` meets its contract. The loop's invariant: the state answers on the bytes that are left as the start does on all.
 -- The measure is how many are left.
--- Assumes nothing.
 use mathlib.Core.Path.{_≡_, refl, _∙_}
 use Prim.Native.Nat.{_≤_, _<_, _-_}
 use native.Mathlib.Omega.{arith}
@@ -22,12 +21,6 @@ abbrev μ-loop : tie.MeasureT-loop
 loop-holds : tie.Need-loop-holds Inv-loop μ-loop
 loop-holds c = (search needs, search needs, refl)
 
-mul-state : tie.Need-mul-state Inv-loop μ-loop
-mul-state c = search needs
-
-shared-slice-read-state : tie.Need-shared-slice-read-state Inv-loop μ-loop
-shared-slice-read-state c = search needs
-
 cast-state : tie.Need-cast-state Inv-loop μ-loop
 cast-state c = omega (arith, c .shared-slice-known .given (c .before .before .loop .i))
 
@@ -45,19 +38,22 @@ array-read-state-2 c = omega (arith, class-rule _ (c .shared-slice-known .given 
 
 cast-state-3 : tie.Need-cast-state-3 Inv-loop μ-loop
 cast-state-3 c =
-    let l = c .before .before .loop in
-    omega (arith, turn (l .state) (c .before .before .before .args .s .now) (l .i) (l .inv .1) (c .shared-slice-known .given (l .i) .fits) (c .before .loop-test .taken) .0)
-
-add-i : tie.Need-add-i Inv-loop μ-loop
-add-i c = search needs
-
-loop-less : tie.Need-loop-less Inv-loop μ-loop
-loop-less c = search needs
+    let p2 = c .before .before in
+    let p3 = p2 .before in
+    let l = p2 .loop in
+    omega (
+      arith,
+      turn (l .state) (p3 .args .s .now) (l .i) (l .inv .1) (c .shared-slice-known .given (l .i) .fits)
+          (c .before .loop-test .taken) .0,
+    )
 
 loop-again : tie.Need-loop-again Inv-loop μ-loop
 loop-again c =
-    let l = c .before .before .loop in
-    let (small, same) = turn (l .state) (c .before .before .before .args .s .now) (l .i) (l .inv .1) (c .shared-slice-known .given (l .i) .fits) (c .before .loop-test .taken) in
+    let p2 = c .before .before in
+    let p3 = p2 .before in
+    let l = p2 .loop in
+    let (small, same) = turn (l .state) (p3 .args .s .now) (l .i) (l .inv .1) (c .shared-slice-known .given (l .i) .fits)
+    (c .before .loop-test .taken) in
     (search needs, small, same ∙ l .inv .2)
 
 returns : tie.Need-returns Inv-loop μ-loop
@@ -72,15 +68,15 @@ walk-spec =
     Inv-loop
     μ-loop
     loop-holds
-    mul-state
-    shared-slice-read-state
+    (λ c. search needs)
+    (λ c. search needs)
     cast-state
     array-read-state
     cast-state-2
     add-state
     array-read-state-2
     cast-state-3
-    add-i
-    loop-less
+    (λ c. search needs)
+    (λ c. search needs)
     loop-again
     returns)

@@ -1,5 +1,4 @@
 -- `arguments::argument::read_char` meets its contract.
--- Assumes nothing.
 use mathlib.Core.Path.{sym, _∙_}
 use Rattle.arguments.proofs.Argued.{scalar-short, scalar-given, not-scalar}
 use borrow.Author.Needs.{needs}
@@ -9,20 +8,18 @@ use Rattle.arguments.proofs.argument.read_char.Tie as tie
 returns : tie.Need-returns
 returns c base pos = scalar-short _ base pos (c .if1 .taken)
 
-be-u32-requires : tie.Need-be-u32-requires
-be-u32-requires c κs = search needs
-
-is-scalar-requires : tie.Need-is-scalar-requires
-is-scalar-requires c κs = search needs
-
 returns-2 : tie.Need-returns-2
 returns-2 c base pos =
-    scalar-given _ base pos (c .before .before .before .if1 .left) (c .before .before .be-u32 .ensures) (sym (c .before .is-scalar .ensures) ∙ c .if2 .taken)
+    let p2 = c .before .before in
+    let p3 = p2 .before in
+    scalar-given _ base pos (p3 .if1 .left) (p2 .be-u32 .ensures) (sym (c .before .is-scalar .ensures) ∙ c .if2 .taken)
 
 returns-3 : tie.Need-returns-3
 returns-3 c base pos =
-    not-scalar _ base pos (c .before .before .before .if1 .left) (c .before .before .be-u32 .ensures) (sym (c .before .is-scalar .ensures) ∙ c .if2 .left)
+    let p2 = c .before .before in
+    let p3 = p2 .before in
+    not-scalar _ base pos (p3 .if1 .left) (p2 .be-u32 .ensures) (sym (c .before .is-scalar .ensures) ∙ c .if2 .left)
 
 pub read-char-spec : {M : Type 1} → statement M
 read-char-spec =
-    tie.close (tie.spec returns be-u32-requires is-scalar-requires returns-2 returns-3)
+    tie.close (tie.spec returns (λ c κs. search needs) (λ c κs. search needs) returns-2 returns-3)

@@ -1,5 +1,4 @@
 -- `arguments::argument::read_eight` meets its contract.
--- Assumes nothing.
 use Rattle.arguments.proofs.Argued.{eight-short, eight-given}
 use borrow.Author.Needs.{needs}
 use Rattle.arguments.proofs.argument.read_eight.Statement.{statement}
@@ -8,14 +7,8 @@ use Rattle.arguments.proofs.argument.read_eight.Tie as tie
 returns : tie.Need-returns
 returns c base pos = eight-short _ base pos (c .if1 .taken)
 
-be-u32-requires : tie.Need-be-u32-requires
-be-u32-requires c κs = search needs
-
-be-u32-requires-2 : tie.Need-be-u32-requires-2
-be-u32-requires-2 c κs = search needs
-
 returns-2 : tie.Need-returns-2
 returns-2 c base pos = eight-given _ base pos (c .before .before .if1 .left) (c .before .be-u32 .ensures) (c .be-u322 .ensures)
 
 pub read-eight-spec : {M : Type 1} → statement M
-read-eight-spec = tie.close (tie.spec returns be-u32-requires be-u32-requires-2 returns-2)
+read-eight-spec = tie.close (tie.spec returns (λ c κs. search needs) (λ c κs. search needs) returns-2)

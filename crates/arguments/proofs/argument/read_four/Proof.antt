@@ -1,5 +1,4 @@
 -- `arguments::argument::read_four` meets its contract.
--- Assumes nothing.
 use Rattle.arguments.proofs.Argued.{four-short, four-given}
 use borrow.Author.Needs.{needs}
 use Rattle.arguments.proofs.argument.read_four.Statement.{statement}
@@ -8,11 +7,8 @@ use Rattle.arguments.proofs.argument.read_four.Tie as tie
 returns : tie.Need-returns
 returns c base pos = four-short _ base pos (c .if1 .taken)
 
-be-u32-requires : tie.Need-be-u32-requires
-be-u32-requires c κs = search needs
-
 returns-2 : tie.Need-returns-2
 returns-2 c base pos = four-given _ base pos (c .before .if1 .left) (c .be-u32 .ensures)
 
 pub read-four-spec : {M : Type 1} → statement M
-read-four-spec = tie.close (tie.spec returns be-u32-requires returns-2)
+read-four-spec = tie.close (tie.spec returns (λ c κs. search needs) returns-2)

@@ -1,5 +1,4 @@
 -- `arguments::fill::put_at` meets its contract.
--- Assumes nothing.
 use Prim.Native.Nat.{_*_}
 use native.Mathlib.Omega.{arith}
 use Rattle.types.specs.Records.{recordSize}
@@ -8,35 +7,20 @@ use borrow.Author.Needs.{needs}
 use Rattle.arguments.proofs.fill.put_at.Statement.{statement}
 use Rattle.arguments.proofs.fill.put_at.Tie as tie
 
-mul-put-record : tie.Need-mul-put-record
-mul-put-record c = search needs
-
-sub-put-record : tie.Need-sub-put-record
-sub-put-record c = search needs
-
-part-put-record-start : tie.Need-part-put-record-start
-part-put-record-start c = search needs
-
-part-put-record-end : tie.Need-part-put-record-end
-part-put-record-end c = search needs
-
-put-record-requires : tie.Need-put-record-requires
-put-record-requires c κs = search needs
-
-same-length : tie.Need-same-length
-same-length c = search needs
-
 returns : tie.Need-returns
-returns c = wrote-at (c .before .before .before .before .before .args .table .now) (recordSize * c .before .before .before .before .before .args .n) (omega (arith, c .before .before .before .before .before .pre)) (c .before .before .put-record .ensures)
+returns c =
+    let p2 = c .before .before in
+    let p5 = p2 .before .before .before in
+    wrote-at (p5 .args .table .now) (recordSize * p5 .args .n) (omega (arith, p5 .pre)) (p2 .put-record .ensures)
 
 pub put-at-spec : {M : Type 1} → statement M
 put-at-spec =
     tie.close
     (tie.spec
-    mul-put-record
-    sub-put-record
-    part-put-record-start
-    part-put-record-end
-    put-record-requires
-    same-length
+    (λ c. search needs)
+    (λ c. search needs)
+    (λ c. search needs)
+    (λ c. search needs)
+    (λ c κs. search needs)
+    (λ c. search needs)
     returns)

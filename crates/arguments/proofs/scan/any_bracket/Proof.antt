@@ -1,5 +1,5 @@
--- `arguments::scan::any_bracket` meets its contract. The invariant: a bracket was met, or is among the tags that are left, where there is one.
--- Assumes nothing.
+-- `arguments::scan::any_bracket` meets its contract. The invariant: a bracket was met, or is among the tags that are left, where
+-- there is one.
 use mathlib.Core.Path.{_≡_, refl, sym, ap, _∙_}
 use mathlib.Core.Bool.{Bool, _||_}
 use mathlib.Core.Logic.{⊎-elim}
@@ -21,24 +21,15 @@ abbrev μ-loop : tie.MeasureT-loop
 loop-holds : tie.Need-loop-holds Inv-loop μ-loop
 loop-holds c = (search needs, refl)
 
-shared-slice-read-is-bracket : tie.Need-shared-slice-read-is-bracket Inv-loop μ-loop
-shared-slice-read-is-bracket c = search needs
-
-is-bracket-requires : tie.Need-is-bracket-requires Inv-loop μ-loop
-is-bracket-requires c κs = search needs
-
-add-i : tie.Need-add-i Inv-loop μ-loop
-add-i c = search needs
-
-loop-less : tie.Need-loop-less Inv-loop μ-loop
-loop-less c = search needs
-
 loop-again : tie.Need-loop-again Inv-loop μ-loop
 loop-again c =
-    let l = c .before .before .before .before .loop in
-    let tags = c .before .before .before .before .before .before .args .tags .now in
+    let p3 = c .before .before .before in
+    let p4 = p3 .before in
+    let p6 = p4 .before .before in
+    let l = p4 .loop in
+    let tags = p6 .args .tags .now in
     let left : Bool → Bool = λ any. any || brackets (drop (l .i + 1) tags) in
-    let within = c .before .before .before .loop-test .taken in (
+    let within = p3 .loop-test .taken in (
       search needs,
       ⊎-elim
           (λ w. ap left (w .1) ∙ bracket-met tags (l .i) within (l .any) (sym (c .before .is-bracket .ensures) ∙ w .0 .taken) ∙ l .inv .1)
@@ -58,9 +49,9 @@ any-bracket-spec =
     Inv-loop
     μ-loop
     loop-holds
-    shared-slice-read-is-bracket
-    is-bracket-requires
-    add-i
-    loop-less
+    (λ c. search needs)
+    (λ c κs. search needs)
+    (λ c. search needs)
+    (λ c. search needs)
     loop-again
     returns)

@@ -1,5 +1,4 @@
 -- `arguments::scan::is_bracket` meets its contract.
--- Assumes nothing.
 use mathlib.Core.Path.{refl, sym}
 use mathlib.Core.Bool.{true}
 use mathlib.Core.List.{[], _∷_}

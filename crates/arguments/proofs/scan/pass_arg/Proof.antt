@@ -1,5 +1,4 @@
 -- `arguments::scan::pass_arg` meets its contract.
--- Assumes nothing.
 use mathlib.Core.Path.{refl, sym, ap, _∙_}
 use lib.ListN.{drop}
 use Rattle.number.specs.Number.{number}
@@ -10,40 +9,18 @@ use borrow.Author.Needs.{needs}
 use Rattle.arguments.proofs.scan.pass_arg.Statement.{statement}
 use Rattle.arguments.proofs.scan.pass_arg.Tie as tie
 
-enum-told : tie.Need-enum-told
-enum-told c = search needs
-
-pass-bytes-requires : tie.Need-pass-bytes-requires
-pass-bytes-requires c κs = search needs
-
-enum-told-2 : tie.Need-enum-told-2
-enum-told-2 c = search needs
-
-pass-bytes-requires-2 : tie.Need-pass-bytes-requires-2
-pass-bytes-requires-2 c κs = search needs
-
-enum-told-3 : tie.Need-enum-told-3
-enum-told-3 c = search needs
-
-read-rare-requires : tie.Need-read-rare-requires
-read-rare-requires c κs = search needs
-
-enum-known-used : tie.Need-enum-known-used
-enum-known-used c = search needs
-
-enum-known-fault : tie.Need-enum-known-fault
-enum-known-fault c = search needs
-
 returns : tie.Need-returns
 unfolding argOf
 returns c =
-    let l = c .before .before .before .before .args .input .now in
+    let p4 = c .before .before .before .before in
+    let l = p4 .args .input .now in
     used-of-class l 0 _ (c .before .enum-told .given .1) (c .pass-bytes .ensures (number 4 l) 0)
 
 returns-2 : tie.Need-returns-2
 unfolding argOf
 returns-2 c =
-    let l = c .before .before .before .before .args .input .now in
+    let p4 = c .before .before .before .before in
+    let l = p4 .args .input .now in
     used-of-class l 0 _ (c .before .enum-told2 .given .1) (c .pass-bytes2 .ensures (number 4 l) (number 4 (drop 4 l)))
 
 returns-3 : tie.Need-returns-3
@@ -60,14 +37,14 @@ pub pass-arg-spec : {M : Type 1} → statement M
 pass-arg-spec =
     tie.close
     (tie.spec
-    enum-told
-    pass-bytes-requires
-    enum-told-2
-    pass-bytes-requires-2
-    enum-told-3
-    read-rare-requires
-    enum-known-used
-    enum-known-fault
+    (λ c. search needs)
+    (λ c κs. search needs)
+    (λ c. search needs)
+    (λ c κs. search needs)
+    (λ c. search needs)
+    (λ c κs. search needs)
+    (λ c. search needs)
+    (λ c. search needs)
     returns
     returns-2
     returns-3

@@ -1,5 +1,4 @@
 -- `arguments::scan::pass_bytes` meets its contract.
--- Assumes nothing.
 use borrow.Author.Tests.{le-leb, lt-leb}
 use Rattle.arguments.proofs.scan.pass_bytes.Statement.{statement}
 use Rattle.arguments.proofs.scan.pass_bytes.Tie as tie

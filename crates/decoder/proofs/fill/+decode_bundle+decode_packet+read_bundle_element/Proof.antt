@@ -1,12 +1,13 @@
 -- `decoder::fill`: packet, bundle and element meet their contracts. The measure is the number of bytes left; in a bundle the table,
 -- completed by what is left, is the table at the end.
--- Assumes nothing.
 use Rattle.number.proofs.be_u32.Reads as be-u32-reads
 use Rattle.decoder.proofs.fill.decode_message.Reads as decode-message-reads
 use Rattle.types.proofs.record.put_record.Reads as put-record-reads
 use Rattle.decoder.proofs.heads.read_size.Reads as read-size-reads
 use Rattle.decoder.proofs.heads.read_start.Reads as read-start-reads
-use Rattle.decoder.proofs.Fills.{fills-none, message-room, bundle-room, packet-fills-message, packet-fills-bundle, element-room, element-fills, contents-room, Filling, filling-start, filling-fits, filling-step, next-fits, filling-on, filling-done}
+use Rattle.decoder.proofs.Fills.{fills-none, message-room, bundle-room, packet-fills-message, packet-fills-bundle, element-room}
+use Rattle.decoder.proofs.Fills.{element-fills, contents-room, Filling, filling-start, filling-fits, filling-step, next-fits}
+use Rattle.decoder.proofs.Fills.{filling-on, filling-done}
 use Rattle.decoder.proofs.Extents.{packet-refused, element-runs-out, part-4}
 use Rattle.decoder.proofs.Bundles.{bundle-short}
 use Rattle.decoder.proofs.Fronts.{message-start-in, bundle-start-in, size-in}
@@ -80,7 +81,8 @@ read-bundle-element-below t =
     read-bundle-element.Pre
 
 abbrev decode-bundle-Inv-loop : decode-bundle-lts.InvT-loop
-decode-bundle-Inv-loop input base pos table₀ index rest₀ at₀ count₀ table rest at count = (at + length rest ≡ pos + length input) × (pos + 8 ≤ at) × Filling base input pos index table₀ table rest at count
+decode-bundle-Inv-loop input base pos table₀ index rest₀ at₀ count₀ table rest at count =
+    (at + length rest ≡ pos + length input) × (pos + 8 ≤ at) × Filling base input pos index table₀ table rest at count
 
 abbrev decode-bundle-μ-loop : decode-bundle-lts.MeasureT-loop
 decode-bundle-μ-loop input base pos table₀ index rest₀ at₀ count₀ table rest at count = length rest
@@ -104,29 +106,174 @@ pub +decode-bundle+decode-packet+read-bundle-element-spec : {M : Type 1} → sta
     (λ c. search needs)
     (λ c. search needs)
     (λ c. search needs)
-    (λ c. (omega (arith, (c .rest .given .2)), search needs, filling-start (c .before .before .before .before .args .base) (c .before .before .before .before .args .input .now) (c .before .before .before .before .args .pos) (c .before .before .before .before .args .index) (c .before .before .before .before .args .table .now)))
-    (λ c. omega (arith, filling-fits (c .before .before .before .before .before .args .base) (c .before .before .before .before .before .args .input .now) (c .before .before .before .before .before .args .pos) (c .before .before .before .before .before .args .index) (c .before .before .before .before .before .args .table .now) (c .loop .table) (c .loop .rest .now) (c .loop .at) (c .loop .count) (c .loop .inv .2) (contents-room (c .before .before .before .before .before .args .base) (c .before .before .before .before .before .args .input .now) (c .before .before .before .before .before .args .pos) (c .before .before .if1 .left) (c .before .before .before .before .before .pre .1 .1))))
-    (λ c. omega (arith, filling-fits (c .before .before .before .before .before .args .base) (c .before .before .before .before .before .args .input .now) (c .before .before .before .before .before .args .pos) (c .before .before .before .before .before .args .index) (c .before .before .before .before .before .args .table .now) (c .loop .table) (c .loop .rest .now) (c .loop .at) (c .loop .count) (c .loop .inv .2) (contents-room (c .before .before .before .before .before .args .base) (c .before .before .before .before .before .args .input .now) (c .before .before .before .before .before .args .pos) (c .before .before .if1 .left) (c .before .before .before .before .before .pre .1 .1))))
-    (λ c. omega (arith, filling-fits (c .before .before .before .before .before .args .base) (c .before .before .before .before .before .args .input .now) (c .before .before .before .before .before .args .pos) (c .before .before .before .before .before .args .index) (c .before .before .before .before .before .args .table .now) (c .loop .table) (c .loop .rest .now) (c .loop .at) (c .loop .count) (c .loop .inv .2) (contents-room (c .before .before .before .before .before .args .base) (c .before .before .before .before .before .args .input .now) (c .before .before .before .before .before .args .pos) (c .before .before .if1 .left) (c .before .before .before .before .before .pre .1 .1))))
+    (λ c. let p4 = c .before .before .before .before in (
+      omega (arith, (c .rest .given .2)),
+      search needs,
+      filling-start (p4 .args .base) (p4 .args .input .now) (p4 .args .pos)
+          (p4 .args .index) (p4 .args .table .now),
+    ))
+    (λ c. let p2 = c .before .before in let p5 = p2 .before .before .before in
+    omega (
+      arith,
+      filling-fits (p5 .args .base) (p5 .args .input .now) (p5 .args .pos) (p5 .args .index) (p5 .args .table .now)
+          (c .loop .table) (c .loop .rest .now) (c .loop .at) (c .loop .count) (c .loop .inv .2)
+          (contents-room (p5 .args .base) (p5 .args .input .now) (p5 .args .pos) (p2 .if1 .left) (p5 .pre .1 .1)),
+    ))
+    (λ c. let p2 = c .before .before in let p5 = p2 .before .before .before in
+    omega (
+      arith,
+      filling-fits (p5 .args .base) (p5 .args .input .now) (p5 .args .pos) (p5 .args .index) (p5 .args .table .now)
+          (c .loop .table) (c .loop .rest .now) (c .loop .at) (c .loop .count) (c .loop .inv .2)
+          (contents-room (p5 .args .base) (p5 .args .input .now) (p5 .args .pos) (p2 .if1 .left) (p5 .pre .1 .1)),
+    ))
+    (λ c. let p2 = c .before .before in let p5 = p2 .before .before .before in
+    omega (
+      arith,
+      filling-fits (p5 .args .base) (p5 .args .input .now) (p5 .args .pos) (p5 .args .index) (p5 .args .table .now)
+          (c .loop .table) (c .loop .rest .now) (c .loop .at) (c .loop .count) (c .loop .inv .2)
+          (contents-room (p5 .args .base) (p5 .args .input .now) (p5 .args .pos) (p2 .if1 .left) (p5 .pre .1 .1)),
+    ))
     (λ c. search needs)
-    (λ c. omega (arith, filling-fits (c .before .before .before .before .before .before .args .base) (c .before .before .before .before .before .before .args .input .now) (c .before .before .before .before .before .before .args .pos) (c .before .before .before .before .before .before .args .index) (c .before .before .before .before .before .before .args .table .now) (c .before .loop .table) (c .before .loop .rest .now) (c .before .loop .at) (c .before .loop .count) (c .before .loop .inv .2) (contents-room (c .before .before .before .before .before .before .args .base) (c .before .before .before .before .before .before .args .input .now) (c .before .before .before .before .before .before .args .pos) (c .before .before .before .if1 .left) (c .before .before .before .before .before .before .pre .1 .1))))
-    (λ c κs. (omega (arith, (c .before .loop .inv .0), (c .before .loop .inv .1)), (omega (arith, (c .before .loop .inv .0), (c .before .before .before .before .before .before .pre .1 .0)), next-fits (c .before .before .before .before .before .before .args .base) (c .before .before .before .before .before .before .args .input .now) (c .before .before .before .before .before .before .args .pos) (c .before .before .before .before .before .before .args .index) (c .before .before .before .before .before .before .args .table .now) (c .before .loop .table) (c .before .loop .rest .now) (c .before .loop .at) (c .before .loop .count) (c .before .loop .inv .2) (contents-room (c .before .before .before .before .before .before .args .base) (c .before .before .before .before .before .before .args .input .now) (c .before .before .before .before .before .before .args .pos) (c .before .before .before .if1 .left) (c .before .before .before .before .before .before .pre .1 .1)))))
+    (λ c. let p3 = c .before .before .before in let p6 = p3 .before .before .before in
+    omega (
+      arith,
+      filling-fits (p6 .args .base) (p6 .args .input .now) (p6 .args .pos) (p6 .args .index) (p6 .args .table .now)
+          (c .before .loop .table) (c .before .loop .rest .now) (c .before .loop .at) (c .before .loop .count) (c .before .loop .inv .2)
+          (contents-room (p6 .args .base) (p6 .args .input .now) (p6 .args .pos) (p3 .if1 .left) (p6 .pre .1 .1)),
+    ))
+    (λ c κs. let p3 = c .before .before .before in let p6 = p3 .before .before .before in (
+      omega (arith, (c .before .loop .inv .0), (c .before .loop .inv .1)),
+      (
+        omega (arith, (c .before .loop .inv .0), (p6 .pre .1 .0)),
+        next-fits (p6 .args .base) (p6 .args .input .now) (p6 .args .pos)
+            (p6 .args .index) (p6 .args .table .now) (c .before .loop .table) (c .before .loop .rest .now) (c .before .loop .at)
+            (c .before .loop .count) (c .before .loop .inv .2)
+            (contents-room (p6 .args .base) (p6 .args .input .now) (p6 .args .pos) (p3 .if1 .left) (p6 .pre .1 .1)),
+      ),
+    ))
     (λ c. search needs)
-    (λ c. omega (arith, filling-step (c .before .before .before .before .before .before .before .before .before .before .before .before .args .base) (c .before .before .before .before .before .before .before .before .before .before .before .before .args .input .now) (c .before .before .before .before .before .before .before .before .before .before .before .before .args .pos) (c .before .before .before .before .before .before .before .before .before .before .before .before .args .index) (c .before .before .before .before .before .before .before .before .before .before .before .before .args .table .now) (c .before .before .before .before .before .before .before .loop .table) (c .before .before .before .before .before .before .before .loop .rest .now) (c .before .before .before .before .before .before .before .loop .at) (c .before .before .before .before .before .before .before .loop .count) (c .before .before .before .before .before .before .before .loop .inv .2) (contents-room (c .before .before .before .before .before .before .before .before .before .before .before .before .args .base) (c .before .before .before .before .before .before .before .before .before .before .before .before .args .input .now) (c .before .before .before .before .before .before .before .before .before .before .before .before .args .pos) (c .before .before .before .before .before .before .before .before .before .if1 .left) (c .before .before .before .before .before .before .before .before .before .before .before .before .pre .1 .1)) (c .before .before .before .before .before .read-bundle-element .ensures) (c .before .n .given .1), (c .before .before .before .before .before .before .before .loop .inv .0), (c .before .before .before .before .before .before .before .loop .inv .1), filling-fits (c .before .before .before .before .before .before .before .before .before .before .before .before .args .base) (c .before .before .before .before .before .before .before .before .before .before .before .before .args .input .now) (c .before .before .before .before .before .before .before .before .before .before .before .before .args .pos) (c .before .before .before .before .before .before .before .before .before .before .before .before .args .index) (c .before .before .before .before .before .before .before .before .before .before .before .before .args .table .now) (c .before .before .before .before .before .before .before .loop .table) (c .before .before .before .before .before .before .before .loop .rest .now) (c .before .before .before .before .before .before .before .loop .at) (c .before .before .before .before .before .before .before .loop .count) (c .before .before .before .before .before .before .before .loop .inv .2) (contents-room (c .before .before .before .before .before .before .before .before .before .before .before .before .args .base) (c .before .before .before .before .before .before .before .before .before .before .before .before .args .input .now) (c .before .before .before .before .before .before .before .before .before .before .before .before .args .pos) (c .before .before .before .before .before .before .before .before .before .if1 .left) (c .before .before .before .before .before .before .before .before .before .before .before .before .pre .1 .1))))
-    (λ c. omega (arith, filling-step (c .before .before .before .before .before .before .before .before .before .before .before .before .args .base) (c .before .before .before .before .before .before .before .before .before .before .before .before .args .input .now) (c .before .before .before .before .before .before .before .before .before .before .before .before .args .pos) (c .before .before .before .before .before .before .before .before .before .before .before .before .args .index) (c .before .before .before .before .before .before .before .before .before .before .before .before .args .table .now) (c .before .before .before .before .before .before .before .loop .table) (c .before .before .before .before .before .before .before .loop .rest .now) (c .before .before .before .before .before .before .before .loop .at) (c .before .before .before .before .before .before .before .loop .count) (c .before .before .before .before .before .before .before .loop .inv .2) (contents-room (c .before .before .before .before .before .before .before .before .before .before .before .before .args .base) (c .before .before .before .before .before .before .before .before .before .before .before .before .args .input .now) (c .before .before .before .before .before .before .before .before .before .before .before .before .args .pos) (c .before .before .before .before .before .before .before .before .before .if1 .left) (c .before .before .before .before .before .before .before .before .before .before .before .before .pre .1 .1)) (c .before .before .before .before .before .read-bundle-element .ensures) (c .before .n .given .1), (c .before .before .before .before .before .before .before .loop .inv .0), (c .before .before .before .before .before .before .before .loop .inv .1), filling-fits (c .before .before .before .before .before .before .before .before .before .before .before .before .args .base) (c .before .before .before .before .before .before .before .before .before .before .before .before .args .input .now) (c .before .before .before .before .before .before .before .before .before .before .before .before .args .pos) (c .before .before .before .before .before .before .before .before .before .before .before .before .args .index) (c .before .before .before .before .before .before .before .before .before .before .before .before .args .table .now) (c .before .before .before .before .before .before .before .loop .table) (c .before .before .before .before .before .before .before .loop .rest .now) (c .before .before .before .before .before .before .before .loop .at) (c .before .before .before .before .before .before .before .loop .count) (c .before .before .before .before .before .before .before .loop .inv .2) (contents-room (c .before .before .before .before .before .before .before .before .before .before .before .before .args .base) (c .before .before .before .before .before .before .before .before .before .before .before .before .args .input .now) (c .before .before .before .before .before .before .before .before .before .before .before .before .args .pos) (c .before .before .before .before .before .before .before .before .before .if1 .left) (c .before .before .before .before .before .before .before .before .before .before .before .before .pre .1 .1))))
-    (λ c. omega (arith, filling-step (c .before .before .before .before .before .before .before .before .before .before .before .before .args .base) (c .before .before .before .before .before .before .before .before .before .before .before .before .args .input .now) (c .before .before .before .before .before .before .before .before .before .before .before .before .args .pos) (c .before .before .before .before .before .before .before .before .before .before .before .before .args .index) (c .before .before .before .before .before .before .before .before .before .before .before .before .args .table .now) (c .before .before .before .before .before .before .before .loop .table) (c .before .before .before .before .before .before .before .loop .rest .now) (c .before .before .before .before .before .before .before .loop .at) (c .before .before .before .before .before .before .before .loop .count) (c .before .before .before .before .before .before .before .loop .inv .2) (contents-room (c .before .before .before .before .before .before .before .before .before .before .before .before .args .base) (c .before .before .before .before .before .before .before .before .before .before .before .before .args .input .now) (c .before .before .before .before .before .before .before .before .before .before .before .before .args .pos) (c .before .before .before .before .before .before .before .before .before .if1 .left) (c .before .before .before .before .before .before .before .before .before .before .before .before .pre .1 .1)) (c .before .before .before .before .before .read-bundle-element .ensures) (c .before .n .given .1), (c .before .before .before .before .before .before .before .loop .inv .0), (c .before .before .before .before .before .before .before .loop .inv .1), filling-fits (c .before .before .before .before .before .before .before .before .before .before .before .before .args .base) (c .before .before .before .before .before .before .before .before .before .before .before .before .args .input .now) (c .before .before .before .before .before .before .before .before .before .before .before .before .args .pos) (c .before .before .before .before .before .before .before .before .before .before .before .before .args .index) (c .before .before .before .before .before .before .before .before .before .before .before .before .args .table .now) (c .before .before .before .before .before .before .before .loop .table) (c .before .before .before .before .before .before .before .loop .rest .now) (c .before .before .before .before .before .before .before .loop .at) (c .before .before .before .before .before .before .before .loop .count) (c .before .before .before .before .before .before .before .loop .inv .2) (contents-room (c .before .before .before .before .before .before .before .before .before .before .before .before .args .base) (c .before .before .before .before .before .before .before .before .before .before .before .before .args .input .now) (c .before .before .before .before .before .before .before .before .before .before .before .before .args .pos) (c .before .before .before .before .before .before .before .before .before .if1 .left) (c .before .before .before .before .before .before .before .before .before .before .before .before .pre .1 .1))))
-    (λ c. omega (arith, filling-step (c .before .before .before .before .before .before .before .before .before .before .before .before .args .base) (c .before .before .before .before .before .before .before .before .before .before .before .before .args .input .now) (c .before .before .before .before .before .before .before .before .before .before .before .before .args .pos) (c .before .before .before .before .before .before .before .before .before .before .before .before .args .index) (c .before .before .before .before .before .before .before .before .before .before .before .before .args .table .now) (c .before .before .before .before .before .before .before .loop .table) (c .before .before .before .before .before .before .before .loop .rest .now) (c .before .before .before .before .before .before .before .loop .at) (c .before .before .before .before .before .before .before .loop .count) (c .before .before .before .before .before .before .before .loop .inv .2) (contents-room (c .before .before .before .before .before .before .before .before .before .before .before .before .args .base) (c .before .before .before .before .before .before .before .before .before .before .before .before .args .input .now) (c .before .before .before .before .before .before .before .before .before .before .before .before .args .pos) (c .before .before .before .before .before .before .before .before .before .if1 .left) (c .before .before .before .before .before .before .before .before .before .before .before .before .pre .1 .1)) (c .before .before .before .before .before .read-bundle-element .ensures) (c .before .n .given .1), (c .before .before .before .before .before .before .before .loop .inv .0), (c .before .before .before .before .before .before .before .loop .inv .1), filling-fits (c .before .before .before .before .before .before .before .before .before .before .before .before .args .base) (c .before .before .before .before .before .before .before .before .before .before .before .before .args .input .now) (c .before .before .before .before .before .before .before .before .before .before .before .before .args .pos) (c .before .before .before .before .before .before .before .before .before .before .before .before .args .index) (c .before .before .before .before .before .before .before .before .before .before .before .before .args .table .now) (c .before .before .before .before .before .before .before .loop .table) (c .before .before .before .before .before .before .before .loop .rest .now) (c .before .before .before .before .before .before .before .loop .at) (c .before .before .before .before .before .before .before .loop .count) (c .before .before .before .before .before .before .before .loop .inv .2) (contents-room (c .before .before .before .before .before .before .before .before .before .before .before .before .args .base) (c .before .before .before .before .before .before .before .before .before .before .before .before .args .input .now) (c .before .before .before .before .before .before .before .before .before .before .before .before .args .pos) (c .before .before .before .before .before .before .before .before .before .if1 .left) (c .before .before .before .before .before .before .before .before .before .before .before .before .pre .1 .1))))
+    (λ c. let p5 = c .before .before .before .before .before in let p7 = p5 .before .before in let p9 = p7 .before .before in
+    let p12 = p9 .before .before .before in
+    omega (
+      arith,
+      filling-step (p12 .args .base) (p12 .args .input .now) (p12 .args .pos) (p12 .args .index) (p12 .args .table .now)
+          (p7 .loop .table) (p7 .loop .rest .now) (p7 .loop .at) (p7 .loop .count) (p7 .loop .inv .2)
+          (contents-room (p12 .args .base) (p12 .args .input .now) (p12 .args .pos) (p9 .if1 .left) (p12 .pre .1 .1))
+          (p5 .read-bundle-element .ensures) (c .before .n .given .1),
+      (p7 .loop .inv .0),
+      (p7 .loop .inv .1),
+      filling-fits (p12 .args .base)
+          (p12 .args .input .now) (p12 .args .pos) (p12 .args .index) (p12 .args .table .now) (p7 .loop .table) (p7 .loop .rest .now)
+          (p7 .loop .at) (p7 .loop .count) (p7 .loop .inv .2)
+          (contents-room (p12 .args .base) (p12 .args .input .now) (p12 .args .pos) (p9 .if1 .left) (p12 .pre .1 .1)),
+    ))
+    (λ c. let p5 = c .before .before .before .before .before in let p7 = p5 .before .before in let p9 = p7 .before .before in
+    let p12 = p9 .before .before .before in
+    omega (
+      arith,
+      filling-step (p12 .args .base) (p12 .args .input .now) (p12 .args .pos) (p12 .args .index) (p12 .args .table .now)
+          (p7 .loop .table) (p7 .loop .rest .now) (p7 .loop .at) (p7 .loop .count) (p7 .loop .inv .2)
+          (contents-room (p12 .args .base) (p12 .args .input .now) (p12 .args .pos) (p9 .if1 .left) (p12 .pre .1 .1))
+          (p5 .read-bundle-element .ensures) (c .before .n .given .1),
+      (p7 .loop .inv .0),
+      (p7 .loop .inv .1),
+      filling-fits (p12 .args .base)
+          (p12 .args .input .now) (p12 .args .pos) (p12 .args .index) (p12 .args .table .now) (p7 .loop .table) (p7 .loop .rest .now)
+          (p7 .loop .at) (p7 .loop .count) (p7 .loop .inv .2)
+          (contents-room (p12 .args .base) (p12 .args .input .now) (p12 .args .pos) (p9 .if1 .left) (p12 .pre .1 .1)),
+    ))
+    (λ c. let p5 = c .before .before .before .before .before in let p7 = p5 .before .before in let p9 = p7 .before .before in
+    let p12 = p9 .before .before .before in
+    omega (
+      arith,
+      filling-step (p12 .args .base) (p12 .args .input .now) (p12 .args .pos) (p12 .args .index) (p12 .args .table .now)
+          (p7 .loop .table) (p7 .loop .rest .now) (p7 .loop .at) (p7 .loop .count) (p7 .loop .inv .2)
+          (contents-room (p12 .args .base) (p12 .args .input .now) (p12 .args .pos) (p9 .if1 .left) (p12 .pre .1 .1))
+          (p5 .read-bundle-element .ensures) (c .before .n .given .1),
+      (p7 .loop .inv .0),
+      (p7 .loop .inv .1),
+      filling-fits (p12 .args .base)
+          (p12 .args .input .now) (p12 .args .pos) (p12 .args .index) (p12 .args .table .now) (p7 .loop .table) (p7 .loop .rest .now)
+          (p7 .loop .at) (p7 .loop .count) (p7 .loop .inv .2)
+          (contents-room (p12 .args .base) (p12 .args .input .now) (p12 .args .pos) (p9 .if1 .left) (p12 .pre .1 .1)),
+    ))
+    (λ c. let p5 = c .before .before .before .before .before in let p7 = p5 .before .before in let p9 = p7 .before .before in
+    let p12 = p9 .before .before .before in
+    omega (
+      arith,
+      filling-step (p12 .args .base) (p12 .args .input .now) (p12 .args .pos) (p12 .args .index) (p12 .args .table .now)
+          (p7 .loop .table) (p7 .loop .rest .now) (p7 .loop .at) (p7 .loop .count) (p7 .loop .inv .2)
+          (contents-room (p12 .args .base) (p12 .args .input .now) (p12 .args .pos) (p9 .if1 .left) (p12 .pre .1 .1))
+          (p5 .read-bundle-element .ensures) (c .before .n .given .1),
+      (p7 .loop .inv .0),
+      (p7 .loop .inv .1),
+      filling-fits (p12 .args .base)
+          (p12 .args .input .now) (p12 .args .pos) (p12 .args .index) (p12 .args .table .now) (p7 .loop .table) (p7 .loop .rest .now)
+          (p7 .loop .at) (p7 .loop .count) (p7 .loop .inv .2)
+          (contents-room (p12 .args .base) (p12 .args .input .now) (p12 .args .pos) (p9 .if1 .left) (p12 .pre .1 .1)),
+    ))
     (λ c. search needs)
-    (λ c. omega (arith, filling-step (c .before .before .before .before .before .before .before .before .before .before .before .before .before .args .base) (c .before .before .before .before .before .before .before .before .before .before .before .before .before .args .input .now) (c .before .before .before .before .before .before .before .before .before .before .before .before .before .args .pos) (c .before .before .before .before .before .before .before .before .before .before .before .before .before .args .index) (c .before .before .before .before .before .before .before .before .before .before .before .before .before .args .table .now) (c .before .before .before .before .before .before .before .before .loop .table) (c .before .before .before .before .before .before .before .before .loop .rest .now) (c .before .before .before .before .before .before .before .before .loop .at) (c .before .before .before .before .before .before .before .before .loop .count) (c .before .before .before .before .before .before .before .before .loop .inv .2) (contents-room (c .before .before .before .before .before .before .before .before .before .before .before .before .before .args .base) (c .before .before .before .before .before .before .before .before .before .before .before .before .before .args .input .now) (c .before .before .before .before .before .before .before .before .before .before .before .before .before .args .pos) (c .before .before .before .before .before .before .before .before .before .before .if1 .left) (c .before .before .before .before .before .before .before .before .before .before .before .before .before .pre .1 .1)) (c .before .before .before .before .before .before .read-bundle-element .ensures) (c .before .before .n .given .1), (c .rest2 .given .2)))
-    (λ c. let s = filling-step (c .before .before .before .before .before .before .before .before .before .before .before .before .before .args .base) (c .before .before .before .before .before .before .before .before .before .before .before .before .before .args .input .now) (c .before .before .before .before .before .before .before .before .before .before .before .before .before .args .pos) (c .before .before .before .before .before .before .before .before .before .before .before .before .before .args .index) (c .before .before .before .before .before .before .before .before .before .before .before .before .before .args .table .now) (c .before .before .before .before .before .before .before .before .loop .table) (c .before .before .before .before .before .before .before .before .loop .rest .now) (c .before .before .before .before .before .before .before .before .loop .at) (c .before .before .before .before .before .before .before .before .loop .count) (c .before .before .before .before .before .before .before .before .loop .inv .2) (contents-room (c .before .before .before .before .before .before .before .before .before .before .before .before .before .args .base) (c .before .before .before .before .before .before .before .before .before .before .before .before .before .args .input .now) (c .before .before .before .before .before .before .before .before .before .before .before .before .before .args .pos) (c .before .before .before .before .before .before .before .before .before .before .if1 .left) (c .before .before .before .before .before .before .before .before .before .before .before .before .before .pre .1 .1)) (c .before .before .before .before .before .before .read-bundle-element .ensures) (c .before .before .n .given .1) in (omega (arith, (c .rest2 .given .2), (c .before .before .before .before .before .before .before .before .loop .inv .0)), omega (arith, (c .before .before .before .before .before .before .before .before .loop .inv .1)), filling-on (c .before .before .before .before .before .before .before .before .before .before .before .before .before .args .base) (c .before .before .before .before .before .before .before .before .before .before .before .before .before .args .input .now) (c .before .before .before .before .before .before .before .before .before .before .before .before .before .args .pos) (c .before .before .before .before .before .before .before .before .before .before .before .before .before .args .index) (c .before .before .before .before .before .before .before .before .before .before .before .before .before .args .table .now) (c .before .before .before .before .before .before .before .before .loop .table) (c .before .before .before .before .before .before .before .before .loop .rest .now) (c .before .before .before .before .before .before .before .before .loop .at) (c .before .before .before .before .before .before .before .before .loop .count) (c .before .before .before .before .before .before .before .before .loop .inv .2) (contents-room (c .before .before .before .before .before .before .before .before .before .before .before .before .before .args .base) (c .before .before .before .before .before .before .before .before .before .before .before .before .before .args .input .now) (c .before .before .before .before .before .before .before .before .before .before .before .before .before .args .pos) (c .before .before .before .before .before .before .before .before .before .before .if1 .left) (c .before .before .before .before .before .before .before .before .before .before .before .before .before .pre .1 .1)) (c .before .before .before .before .before .before .read-bundle-element .ensures) (c .before .before .n .given .1)))
+    (λ c. let p2 = c .before .before in let p6 = p2 .before .before .before .before in let p8 = p6 .before .before in
+    let p10 = p8 .before .before in let p13 = p10 .before .before .before in
+    omega (
+      arith,
+      filling-step (p13 .args .base) (p13 .args .input .now) (p13 .args .pos) (p13 .args .index) (p13 .args .table .now)
+          (p8 .loop .table) (p8 .loop .rest .now) (p8 .loop .at) (p8 .loop .count) (p8 .loop .inv .2)
+          (contents-room (p13 .args .base) (p13 .args .input .now) (p13 .args .pos) (p10 .if1 .left) (p13 .pre .1 .1))
+          (p6 .read-bundle-element .ensures) (p2 .n .given .1),
+      (c .rest2 .given .2),
+    ))
+    (λ c. let p2 = c .before .before in let p6 = p2 .before .before .before .before in let p8 = p6 .before .before in
+    let p10 = p8 .before .before in let p13 = p10 .before .before .before in
+    let s = filling-step (p13 .args .base) (p13 .args .input .now) (p13 .args .pos) (p13 .args .index) (p13 .args .table .now)
+    (p8 .loop .table) (p8 .loop .rest .now) (p8 .loop .at) (p8 .loop .count) (p8 .loop .inv .2)
+    (contents-room (p13 .args .base) (p13 .args .input .now) (p13 .args .pos) (p10 .if1 .left) (p13 .pre .1 .1))
+    (p6 .read-bundle-element .ensures) (p2 .n .given .1) in (
+      omega (arith, (c .rest2 .given .2), (p8 .loop .inv .0)),
+      omega (arith, (p8 .loop .inv .1)),
+      filling-on (p13 .args .base)
+          (p13 .args .input .now) (p13 .args .pos) (p13 .args .index) (p13 .args .table .now) (p8 .loop .table) (p8 .loop .rest .now)
+          (p8 .loop .at) (p8 .loop .count) (p8 .loop .inv .2)
+          (contents-room (p13 .args .base) (p13 .args .input .now) (p13 .args .pos) (p10 .if1 .left) (p13 .pre .1 .1))
+          (p6 .read-bundle-element .ensures) (p2 .n .given .1),
+    ))
     (λ c. search needs)
-    (λ c. omega (arith, filling-fits (c .before .before .before .before .before .before .before .before .before .before .before .before .args .base) (c .before .before .before .before .before .before .before .before .before .before .before .before .args .input .now) (c .before .before .before .before .before .before .before .before .before .before .before .before .args .pos) (c .before .before .before .before .before .before .before .before .before .before .before .before .args .index) (c .before .before .before .before .before .before .before .before .before .before .before .before .args .table .now) (c .before .before .before .before .before .before .before .loop .table) (c .before .before .before .before .before .before .before .loop .rest .now) (c .before .before .before .before .before .before .before .loop .at) (c .before .before .before .before .before .before .before .loop .count) (c .before .before .before .before .before .before .before .loop .inv .2) (contents-room (c .before .before .before .before .before .before .before .before .before .before .before .before .args .base) (c .before .before .before .before .before .before .before .before .before .before .before .before .args .input .now) (c .before .before .before .before .before .before .before .before .before .before .before .before .args .pos) (c .before .before .before .before .before .before .before .before .before .if1 .left) (c .before .before .before .before .before .before .before .before .before .before .before .before .pre .1 .1))))
-    (λ c. omega (arith, filling-fits (c .before .before .before .before .before .before .before .before .before .before .before .before .args .base) (c .before .before .before .before .before .before .before .before .before .before .before .before .args .input .now) (c .before .before .before .before .before .before .before .before .before .before .before .before .args .pos) (c .before .before .before .before .before .before .before .before .before .before .before .before .args .index) (c .before .before .before .before .before .before .before .before .before .before .before .before .args .table .now) (c .before .before .before .before .before .before .before .loop .table) (c .before .before .before .before .before .before .before .loop .rest .now) (c .before .before .before .before .before .before .before .loop .at) (c .before .before .before .before .before .before .before .loop .count) (c .before .before .before .before .before .before .before .loop .inv .2) (contents-room (c .before .before .before .before .before .before .before .before .before .before .before .before .args .base) (c .before .before .before .before .before .before .before .before .before .before .before .before .args .input .now) (c .before .before .before .before .before .before .before .before .before .before .before .before .args .pos) (c .before .before .before .before .before .before .before .before .before .if1 .left) (c .before .before .before .before .before .before .before .before .before .before .before .before .pre .1 .1))))
+    (λ c. let p7 = c .before .before .before .before .before .before .before in let p9 = p7 .before .before in
+    let p12 = p9 .before .before .before in
+    omega (
+      arith,
+      filling-fits (p12 .args .base) (p12 .args .input .now) (p12 .args .pos) (p12 .args .index) (p12 .args .table .now)
+          (p7 .loop .table) (p7 .loop .rest .now) (p7 .loop .at) (p7 .loop .count) (p7 .loop .inv .2)
+          (contents-room (p12 .args .base) (p12 .args .input .now) (p12 .args .pos) (p9 .if1 .left) (p12 .pre .1 .1)),
+    ))
+    (λ c. let p7 = c .before .before .before .before .before .before .before in let p9 = p7 .before .before in
+    let p12 = p9 .before .before .before in
+    omega (
+      arith,
+      filling-fits (p12 .args .base) (p12 .args .input .now) (p12 .args .pos) (p12 .args .index) (p12 .args .table .now)
+          (p7 .loop .table) (p7 .loop .rest .now) (p7 .loop .at) (p7 .loop .count) (p7 .loop .inv .2)
+          (contents-room (p12 .args .base) (p12 .args .input .now) (p12 .args .pos) (p9 .if1 .left) (p12 .pre .1 .1)),
+    ))
     (λ c κs. search needs)
     (λ c κs. search needs)
-    (λ c κs. omega (arith, filling-fits (c .before .before .before .before .before .before .before .before .before .before .before .before .before .before .args .base) (c .before .before .before .before .before .before .before .before .before .before .before .before .before .before .args .input .now) (c .before .before .before .before .before .before .before .before .before .before .before .before .before .before .args .pos) (c .before .before .before .before .before .before .before .before .before .before .before .before .before .before .args .index) (c .before .before .before .before .before .before .before .before .before .before .before .before .before .before .args .table .now) (c .before .before .before .before .before .before .before .before .before .loop .table) (c .before .before .before .before .before .before .before .before .before .loop .rest .now) (c .before .before .before .before .before .before .before .before .before .loop .at) (c .before .before .before .before .before .before .before .before .before .loop .count) (c .before .before .before .before .before .before .before .before .before .loop .inv .2) (contents-room (c .before .before .before .before .before .before .before .before .before .before .before .before .before .before .args .base) (c .before .before .before .before .before .before .before .before .before .before .before .before .before .before .args .input .now) (c .before .before .before .before .before .before .before .before .before .before .before .before .before .before .args .pos) (c .before .before .before .before .before .before .before .before .before .before .before .if1 .left) (c .before .before .before .before .before .before .before .before .before .before .before .before .before .before .pre .1 .1)), (c .before .before .before .before .before .before .before .before .before .loop .inv .2 .some), (c .before .before .before .before .before .before .table .given)))
+    (λ c κs. let p6 = c .before .before .before .before .before .before in let p9 = p6 .before .before .before in
+    let p11 = p9 .before .before in let p14 = p11 .before .before .before in
+    omega (
+      arith,
+      filling-fits (p14 .args .base) (p14 .args .input .now) (p14 .args .pos) (p14 .args .index) (p14 .args .table .now)
+          (p9 .loop .table) (p9 .loop .rest .now) (p9 .loop .at) (p9 .loop .count) (p9 .loop .inv .2)
+          (contents-room (p14 .args .base) (p14 .args .input .now) (p14 .args .pos) (p11 .if1 .left) (p14 .pre .1 .1)),
+      (p9 .loop .inv .2 .some),
+      (p6 .table .given),
+    ))
     (λ c. search needs)
-    (λ c. filling-done (c .before .before .before .before .before .before .before .before .before .before .before .before .before .before .before .before .before .args .base) (c .before .before .before .before .before .before .before .before .before .before .before .before .before .before .before .before .before .args .input .now) (c .before .before .before .before .before .before .before .before .before .before .before .before .before .before .before .before .before .args .pos) (c .before .before .before .before .before .before .before .before .before .before .before .before .before .before .before .before .before .args .index) (c .before .before .before .before .before .before .before .before .before .before .before .before .before .before .before .before .before .args .table .now) (c .before .before .before .before .before .before .before .before .before .before .before .before .loop .table) (c .before .before .before .before .before .before .before .before .before .before .before .before .loop .rest .now) (c .before .before .before .before .before .before .before .before .before .before .before .before .loop .at) (c .before .before .before .before .before .before .before .before .before .before .before .before .loop .count) (c .before .before .before .before .before .before .before .before .before .before .before .before .loop .inv .2) (contents-room (c .before .before .before .before .before .before .before .before .before .before .before .before .before .before .before .before .before .args .base) (c .before .before .before .before .before .before .before .before .before .before .before .before .before .before .before .before .before .args .input .now) (c .before .before .before .before .before .before .before .before .before .before .before .before .before .before .before .before .before .args .pos) (c .before .before .before .before .before .before .before .before .before .before .before .before .before .before .if1 .left) (c .before .before .before .before .before .before .before .before .before .before .before .before .before .before .before .before .before .pre .1 .1)) (c .before .before .before .before .before .before .before .before .before .before .before .before .before .before .if1 .left) (c .before .before .before .before .before .before .before .before .before .before .read-bundle-element .ensures) (c .before .before .before .before .before .before .enum-told .given .1) (c .before .before .before .before .be-u32 .ensures) (c .before .before .before .be-u322 .ensures) (c .before .before .put-record .ensures)))
+    (λ c. let p2 = c .before .before in let p3 = p2 .before in let p4 = p3 .before in let p6 = p4 .before .before in
+    let p10 = p6 .before .before .before .before in let p12 = p10 .before .before in let p14 = p12 .before .before in
+    let p17 = p14 .before .before .before in
+    filling-done (p17 .args .base) (p17 .args .input .now) (p17 .args .pos) (p17 .args .index) (p17 .args .table .now) (p12 .loop .table)
+    (p12 .loop .rest .now) (p12 .loop .at) (p12 .loop .count) (p12 .loop .inv .2)
+    (contents-room (p17 .args .base) (p17 .args .input .now) (p17 .args .pos) (p14 .if1 .left) (p17 .pre .1 .1)) (p14 .if1 .left)
+    (p10 .read-bundle-element .ensures) (p6 .enum-told .given .1) (p4 .be-u32 .ensures) (p3 .be-u322 .ensures) (p2 .put-record .ensures)))
     (λ t. decode-packet-lts.spec (
       read-start-reads.Asked,
       read-start-reads.Learnt,
@@ -139,23 +286,85 @@ pub +decode-bundle+decode-packet+read-bundle-element-spec : {M : Type 1} → sta
     decode-packet.Post
     (λ c κs. search needs)
     (λ c. search needs)
-    (λ c. omega (arith, message-start-in (c .before .before .before .before .before .before .args .input .now) (c .before .before .before .before .before .before .args .pos) (sym (c .before .length .given .1) ∙ (c .before .before .before .read-start .ensures)), (c .before .before .before .before .before .before .pre .1 .0)))
-    (λ c. omega (arith, message-start-in (c .before .before .before .before .before .before .args .input .now) (c .before .before .before .before .before .before .args .pos) (sym (c .before .length .given .1) ∙ (c .before .before .before .read-start .ensures)), (c .before .before .before .before .before .before .pre .1 .0)))
-    (λ c. omega (arith, message-start-in (c .before .before .before .before .before .before .args .input .now) (c .before .before .before .before .before .before .args .pos) (sym (c .before .length .given .1) ∙ (c .before .before .before .read-start .ensures)), (c .before .before .before .before .before .before .pre .1 .0)))
+    (λ c. let p3 = c .before .before .before in let p6 = p3 .before .before .before in
+    omega (
+      arith,
+      message-start-in (p6 .args .input .now) (p6 .args .pos) (sym (c .before .length .given .1) ∙ (p3 .read-start .ensures)),
+      (p6 .pre .1 .0),
+    ))
+    (λ c. let p3 = c .before .before .before in let p6 = p3 .before .before .before in
+    omega (
+      arith,
+      message-start-in (p6 .args .input .now) (p6 .args .pos) (sym (c .before .length .given .1) ∙ (p3 .read-start .ensures)),
+      (p6 .pre .1 .0),
+    ))
+    (λ c. let p3 = c .before .before .before in let p6 = p3 .before .before .before in
+    omega (
+      arith,
+      message-start-in (p6 .args .input .now) (p6 .args .pos) (sym (c .before .length .given .1) ∙ (p3 .read-start .ensures)),
+      (p6 .pre .1 .0),
+    ))
     (λ c. search needs)
-    (λ c. omega (arith, message-start-in (c .before .before .before .before .before .before .before .args .input .now) (c .before .before .before .before .before .before .before .args .pos) (sym (c .before .before .length .given .1) ∙ (c .before .before .before .before .read-start .ensures)), (c .before .before .before .before .before .before .before .pre .1 .0)))
-    (λ c κs. let w = message-start-in (c .before .before .before .before .before .before .before .before .args .input .now) (c .before .before .before .before .before .before .before .before .args .pos) (sym (c .before .before .before .length .given .1) ∙ (c .before .before .before .before .before .read-start .ensures)) in ((omega (arith, (c .before .decode-message-arg .given .2), (c .before .before .before .before .before .before .before .before .pre .1 .0)), omega (arith, (c .before .before .before .before .before .before .before .before .pre .1 .0)), omega (arith, (c .before .before .before .before .before .before .before .before .pre .1 .0))), message-room (c .before .before .before .before .before .before .before .before .args .base) (c .before .before .before .before .before .before .before .before .args .input .now) _ (c .before .before .before .before .before .before .before .before .args .pos) (sym (c .before .before .before .length .given .1) ∙ (c .before .before .before .before .before .read-start .ensures)) (tail (c .before .before .before .before .before .before .before .before .args .input .now) (c .before .before .before .length .given .0 .1 .0)) (c .before .before .before .before .before .before .before .before .pre .1 .1)))
+    (λ c. let p2 = c .before .before in let p4 = p2 .before .before in let p7 = p4 .before .before .before in
+    omega (
+      arith,
+      message-start-in (p7 .args .input .now) (p7 .args .pos) (sym (p2 .length .given .1) ∙ (p4 .read-start .ensures)),
+      (p7 .pre .1 .0),
+    ))
+    (λ c κs. let p3 = c .before .before .before in let p5 = p3 .before .before in let p8 = p5 .before .before .before in
+    let w = message-start-in (p8 .args .input .now) (p8 .args .pos) (sym (p3 .length .given .1) ∙ (p5 .read-start .ensures)) in (
+      (
+        omega (arith, (c .before .decode-message-arg .given .2), (p8 .pre .1 .0)),
+        omega (arith, (p8 .pre .1 .0)),
+        omega
+            (arith, (p8 .pre .1 .0)),
+      ),
+      message-room (p8 .args .base) (p8 .args .input .now) _ (p8 .args .pos) (sym (p3 .length .given .1)
+          ∙ (p5 .read-start .ensures)) (tail (p8 .args .input .now) (p3 .length .given .0 .1 .0)) (p8 .pre .1 .1),
+    ))
     (λ c. search needs)
-    (λ c. omega (arith, bundle-start-in (c .before .before .before .before .before .before .args .input .now) (c .before .before .before .before .before .before .args .pos) (sym (c .before .used .given .1) ∙ (c .before .before .before .read-start .ensures)), (c .before .before .before .before .before .before .pre .1 .0)))
-    (λ c. omega (arith, bundle-start-in (c .before .before .before .before .before .before .args .input .now) (c .before .before .before .before .before .before .args .pos) (sym (c .before .used .given .1) ∙ (c .before .before .before .read-start .ensures)), (c .before .before .before .before .before .before .pre .1 .0)))
+    (λ c. let p3 = c .before .before .before in let p6 = p3 .before .before .before in
+    omega (
+      arith,
+      bundle-start-in (p6 .args .input .now) (p6 .args .pos) (sym (c .before .used .given .1) ∙ (p3 .read-start .ensures)),
+      (p6 .pre .1 .0),
+    ))
+    (λ c. let p3 = c .before .before .before in let p6 = p3 .before .before .before in
+    omega (
+      arith,
+      bundle-start-in (p6 .args .input .now) (p6 .args .pos) (sym (c .before .used .given .1) ∙ (p3 .read-start .ensures)),
+      (p6 .pre .1 .0),
+    ))
     (λ c. search needs)
-    (λ c. omega (arith, bundle-start-in (c .before .before .before .before .before .before .before .args .input .now) (c .before .before .before .before .before .before .before .args .pos) (sym (c .before .before .used .given .1) ∙ (c .before .before .before .before .read-start .ensures)), (c .before .before .before .before .before .before .before .pre .1 .0)))
-    (λ c κs. let w = bundle-start-in (c .before .before .before .before .before .before .before .before .args .input .now) (c .before .before .before .before .before .before .before .before .args .pos) (sym (c .before .before .before .used .given .1) ∙ (c .before .before .before .before .before .read-start .ensures)) in (omega (arith, (c .before .decode-bundle-arg .given .2)), (omega (arith, (c .before .decode-bundle-arg .given .2), (c .before .before .before .before .before .before .before .before .pre .1 .0)), bundle-room (c .before .before .before .before .before .before .before .before .args .base) (c .before .before .before .before .before .before .before .before .args .input .now) _ (c .before .before .before .before .before .before .before .before .args .pos) (sym (c .before .before .before .used .given .1) ∙ (c .before .before .before .before .before .read-start .ensures)) (tail (c .before .before .before .before .before .before .before .before .args .input .now) (c .before .before .before .used .given .0 .0)) (c .before .before .before .before .before .before .before .before .pre .1 .1))))
+    (λ c. let p2 = c .before .before in let p4 = p2 .before .before in let p7 = p4 .before .before .before in
+    omega (
+      arith,
+      bundle-start-in (p7 .args .input .now) (p7 .args .pos) (sym (p2 .used .given .1) ∙ (p4 .read-start .ensures)),
+      (p7 .pre .1 .0),
+    ))
+    (λ c κs. let p3 = c .before .before .before in let p5 = p3 .before .before in let p8 = p5 .before .before .before in
+    let w = bundle-start-in (p8 .args .input .now) (p8 .args .pos) (sym (p3 .used .given .1) ∙ (p5 .read-start .ensures)) in (
+      omega (arith, (c .before .decode-bundle-arg .given .2)),
+      (
+        omega (arith, (c .before .decode-bundle-arg .given .2), (p8 .pre .1 .0)),
+        bundle-room (p8 .args .base) (p8 .args .input .now) _
+            (p8 .args .pos) (sym (p3 .used .given .1) ∙ (p5 .read-start .ensures)) (tail (p8 .args .input .now) (p3 .used .given .0 .0))
+            (p8 .pre .1 .1),
+      ),
+    ))
     (λ c. search needs)
     (λ c. search needs)
-    (λ c. packet-fills-message (c .before .before .before .before .before .before .before .before .before .before .before .args .base) (c .before .before .before .before .before .before .before .before .before .before .before .args .input .now) _ (c .before .before .before .before .before .before .before .before .before .before .before .args .pos) (sym (c .before .before .before .before .before .before .length .given .1) ∙ (c .before .before .before .before .before .before .before .before .read-start .ensures)) (tail (c .before .before .before .before .before .before .before .before .before .before .before .args .input .now) (c .before .before .before .before .before .before .length .given .0 .1 .0)) (c .before .before .decode-message .ensures))
+    (λ c. let p2 = c .before .before in let p6 = p2 .before .before .before .before in let p8 = p6 .before .before in
+    let p11 = p8 .before .before .before in
+    packet-fills-message (p11 .args .base) (p11 .args .input .now) _ (p11 .args .pos)
+    (sym (p6 .length .given .1) ∙ (p8 .read-start .ensures)) (tail (p11 .args .input .now) (p6 .length .given .0 .1 .0))
+    (p2 .decode-message .ensures))
     (λ c. search needs)
-    (λ c. packet-fills-bundle (c .before .before .before .before .before .before .before .before .before .before .before .args .base) (c .before .before .before .before .before .before .before .before .before .before .before .args .input .now) _ (c .before .before .before .before .before .before .before .before .before .before .before .args .pos) (sym (c .before .before .before .before .before .before .used .given .1) ∙ (c .before .before .before .before .before .before .before .before .read-start .ensures)) (tail (c .before .before .before .before .before .before .before .before .before .before .before .args .input .now) (c .before .before .before .before .before .before .used .given .0 .0)) (c .before .before .decode-bundle .ensures))
+    (λ c. let p2 = c .before .before in let p6 = p2 .before .before .before .before in let p8 = p6 .before .before in
+    let p11 = p8 .before .before .before in
+    packet-fills-bundle (p11 .args .base) (p11 .args .input .now) _ (p11 .args .pos)
+    (sym (p6 .used .given .1) ∙ (p8 .read-start .ensures)) (tail (p11 .args .input .now) (p6 .used .given .0 .0))
+    (p2 .decode-bundle .ensures))
     (λ c. fills-none (packet-refused _ _ _ (sym (c .enum-told .given .1) ∙ (c .before .before .read-start .ensures)))))
     λ t. read-bundle-element-lts.spec
     (read-size-reads.Asked, read-size-reads.Learnt, decode-packet-below t, decode-packet.Post)
@@ -163,19 +372,40 @@ pub +decode-bundle+decode-packet+read-bundle-element-spec : {M : Type 1} → sta
     read-bundle-element.Post
     (λ c κs. search needs)
     (λ c. search needs)
-    (λ c. omega (arith, size-in (c .before .before .before .before .before .before .args .input .now) (sym (c .before .size .given .1) ∙ (c .before .before .before .read-size .ensures)), (c .before .before .before .before .before .before .pre .1 .0)))
+    (λ c. let p3 = c .before .before .before in let p6 = p3 .before .before .before in
+    omega (arith, size-in (p6 .args .input .now) (sym (c .before .size .given .1) ∙ (p3 .read-size .ensures)), (p6 .pre .1 .0)))
     (λ c. search needs)
     (λ c. search needs)
-    (λ c. omega (arith, size-in (c .before .before .before .before .before .before .args .input .now) (sym (c .before .size .given .1) ∙ (c .before .before .before .read-size .ensures)), (c .before .before .before .before .before .before .pre .1 .0)))
+    (λ c. let p3 = c .before .before .before in let p6 = p3 .before .before .before in
+    omega (arith, size-in (p6 .args .input .now) (sym (c .before .size .given .1) ∙ (p3 .read-size .ensures)), (p6 .pre .1 .0)))
     (λ c. search needs)
-    (λ c κs. let w = size-in (c .before .before .before .before .before .before .before .before .args .input .now) (sym (c .before .before .before .size .given .1) ∙ (c .before .before .before .before .before .read-size .ensures)) in (omega (arith, (c .before .decode-packet-arg .given .2)), (omega (arith, (c .before .decode-packet-arg .given .2), (c .before .before .before .before .before .before .before .before .pre .1 .0)), element-room (c .before .before .before .before .before .before .before .before .args .base) (c .before .before .before .before .before .before .before .before .args .input .now) _ (c .before .before .before .before .before .before .before .before .args .pos) (sym (c .before .before .before .size .given .1) ∙ (c .before .before .before .before .before .read-size .ensures)) (part-4 (c .before .before .before .before .before .before .before .before .args .input .now) (c .before .before .before .size .given .0 .0)) (c .before .before .before .before .before .before .before .before .pre .1 .1))))
+    (λ c κs. let p3 = c .before .before .before in let p5 = p3 .before .before in let p8 = p5 .before .before .before in
+    let w = size-in (p8 .args .input .now) (sym (p3 .size .given .1) ∙ (p5 .read-size .ensures)) in (
+      omega (arith, (c .before .decode-packet-arg .given .2)),
+      (
+        omega (arith, (c .before .decode-packet-arg .given .2), (p8 .pre .1 .0)),
+        element-room (p8 .args .base) (p8 .args .input .now) _
+            (p8 .args .pos) (sym (p3 .size .given .1) ∙ (p5 .read-size .ensures)) (part-4 (p8 .args .input .now) (p3 .size .given .0 .0))
+            (p8 .pre .1 .1),
+      ),
+    ))
     (λ c. search needs)
-    (λ c. omega (arith, size-in (c .before .before .before .before .before .before .before .before .before .before .before .before .before .before .args .input .now) (sym (c .before .before .before .before .before .before .before .before .before .size .given .1) ∙ (c .before .before .before .before .before .before .before .before .before .before .before .read-size .ensures)), (c .before .before .before .before .before .before .before .before .before .before .before .before .before .before .pre .1 .0)))
-    (λ c. omega (arith, size-in (c .before .before .before .before .before .before .before .before .before .before .before .before .before .before .args .input .now) (sym (c .before .before .before .before .before .before .before .before .before .size .given .1) ∙ (c .before .before .before .before .before .before .before .before .before .before .before .read-size .ensures)), (c .before .before .before .before .before .before .before .before .before .before .before .before .before .before .pre .1 .0)))
+    (λ c. let p9 = c .before .before .before .before .before .before .before .before .before in let p11 = p9 .before .before in
+    let p14 = p11 .before .before .before in
+    omega (arith, size-in (p14 .args .input .now) (sym (p9 .size .given .1) ∙ (p11 .read-size .ensures)), (p14 .pre .1 .0)))
+    (λ c. let p9 = c .before .before .before .before .before .before .before .before .before in let p11 = p9 .before .before in
+    let p14 = p11 .before .before .before in
+    omega (arith, size-in (p14 .args .input .now) (sym (p9 .size .given .1) ∙ (p11 .read-size .ensures)), (p14 .pre .1 .0)))
     (λ c. search needs)
     (λ c. search needs)
     (λ c. search needs)
-    (λ c. element-fills (c .before .before .before .before .before .before .before .before .before .before .before .before .before .before .args .base) (c .before .before .before .before .before .before .before .before .before .before .before .before .before .before .args .input .now) _ (c .before .before .before .before .before .before .before .before .before .before .before .before .before .before .args .pos) (sym (c .before .before .before .before .before .before .before .before .before .size .given .1) ∙ (c .before .before .before .before .before .before .before .before .before .before .before .read-size .ensures)) (part-4 (c .before .before .before .before .before .before .before .before .before .before .before .before .before .before .args .input .now) (c .before .before .before .before .before .before .before .before .before .size .given .0 .0)) (c .before .count .given .1) (c .before .before .before .before .before .decode-packet .ensures))
+    (λ c. let p5 = c .before .before .before .before .before in let p9 = p5 .before .before .before .before in
+    let p11 = p9 .before .before in let p14 = p11 .before .before .before in
+    element-fills (p14 .args .base) (p14 .args .input .now) _ (p14 .args .pos) (sym (p9 .size .given .1) ∙ (p11 .read-size .ensures))
+    (part-4 (p14 .args .input .now) (p9 .size .given .0 .0)) (c .before .count .given .1) (p5 .decode-packet .ensures))
     (λ c. search needs)
-    (λ c. element-fills (c .before .before .before .before .before .before .before .before .before .before .before .before .before .args .base) (c .before .before .before .before .before .before .before .before .before .before .before .before .before .args .input .now) _ (c .before .before .before .before .before .before .before .before .before .before .before .before .before .args .pos) (sym (c .before .before .before .before .before .before .before .before .size .given .1) ∙ (c .before .before .before .before .before .before .before .before .before .before .read-size .ensures)) (part-4 (c .before .before .before .before .before .before .before .before .before .before .before .before .before .args .input .now) (c .before .before .before .before .before .before .before .before .size .given .0 .0)) (c .enum-told .given .1) (c .before .before .before .before .decode-packet .ensures))
+    (λ c. let p4 = c .before .before .before .before in let p8 = p4 .before .before .before .before in let p10 = p8 .before .before in
+    let p13 = p10 .before .before .before in
+    element-fills (p13 .args .base) (p13 .args .input .now) _ (p13 .args .pos) (sym (p8 .size .given .1) ∙ (p10 .read-size .ensures))
+    (part-4 (p13 .args .input .now) (p8 .size .given .0 .0)) (c .enum-told .given .1) (p4 .decode-packet .ensures))
     (λ c. fills-none (element-runs-out _ _ _ (sym (c .enum-told2 .given .1) ∙ (c .before .before .read-size .ensures))))

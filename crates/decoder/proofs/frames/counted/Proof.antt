@@ -1,5 +1,4 @@
 -- `decoder::frames::counted` meets its contract. Each answer is a case of `added`.
--- Assumes nothing.
 use native.Mathlib.Nat.{add-zero}
 use Rattle.decoder.proofs.frames.counted.Statement.{statement}
 use Rattle.decoder.proofs.frames.counted.Tie as tie

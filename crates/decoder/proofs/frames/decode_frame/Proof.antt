@@ -1,5 +1,4 @@
 -- `decoder::frames::decode_frame` meets its contract. What is written of the packet after the prefix.
--- Assumes nothing.
 use Rattle.decoder.proofs.FrameFills.{frame-room, frame-fills, waits-nothing, short-nothing}
 use Rattle.decoder.proofs.Fills.{fills-none}
 use Rattle.decoder.proofs.Prefixes.{prefix-in}
@@ -10,35 +9,41 @@ use borrow.Author.Needs.{needs}
 use Rattle.decoder.proofs.frames.decode_frame.Statement.{statement}
 use Rattle.decoder.proofs.frames.decode_frame.Tie as tie
 
-read-prefix-requires : tie.Need-read-prefix-requires
-read-prefix-requires c κs = search needs
-
-enum-told : tie.Need-enum-told
-enum-told c = search needs
-
 sub-decode-packet : tie.Need-sub-decode-packet
-sub-decode-packet c = omega (arith, prefix-in (c .before .before .before .before .before .args .input .now) (sym (c .enum-told .given .1) ∙ (c .before .before .read-prefix .ensures)))
+sub-decode-packet c =
+    let p2 = c .before .before in
+    let p5 = p2 .before .before .before in
+    omega (arith, prefix-in (p5 .args .input .now) (sym (c .enum-told .given .1) ∙ (p2 .read-prefix .ensures)))
 
 part-decode-packet-start : tie.Need-part-decode-packet-start
-part-decode-packet-start c = omega (arith, prefix-in (c .before .before .before .before .before .args .input .now) (sym (c .enum-told .given .1) ∙ (c .before .before .read-prefix .ensures)))
-
-part-decode-packet-end : tie.Need-part-decode-packet-end
-part-decode-packet-end c = search needs
+part-decode-packet-start c =
+    let p2 = c .before .before in
+    let p5 = p2 .before .before .before in
+    omega (arith, prefix-in (p5 .args .input .now) (sym (c .enum-told .given .1) ∙ (p2 .read-prefix .ensures)))
 
 decode-packet-requires : tie.Need-decode-packet-requires
-decode-packet-requires c κs = (omega (arith, prefix-in (c .before .before .before .before .before .before .before .args .input .now) (sym (c .before .before .enum-told .given .1) ∙ (c .before .before .before .before .read-prefix .ensures)), (c .before .decode-packet-arg .given .2), (c .before .before .before .before .before .before .before .pre .0)), frame-room (c .before .before .before .before .before .before .before .args .base) (c .before .before .before .before .before .before .before .args .input .now) _ (sym (c .before .before .enum-told .given .1) ∙ (c .before .before .before .before .read-prefix .ensures)) (tail (c .before .before .before .before .before .before .before .args .input .now) 4) (c .before .before .before .before .before .before .before .pre .1))
-
-enum-told-2 : tie.Need-enum-told-2
-enum-told-2 c = search needs
-
-enum-told-3 : tie.Need-enum-told-3
-enum-told-3 c = search needs
-
-same-length : tie.Need-same-length
-same-length c = search needs
+decode-packet-requires c κs =
+    let p2 = c .before .before in
+    let p4 = p2 .before .before in
+    let p7 = p4 .before .before .before in (
+      omega (
+        arith,
+        prefix-in (p7 .args .input .now) (sym (p2 .enum-told .given .1) ∙ (p4 .read-prefix .ensures)),
+        (c .before .decode-packet-arg .given .2),
+        (p7 .pre .0),
+      ),
+      frame-room (p7 .args .base) (p7 .args .input .now) _ (sym
+          (p2 .enum-told .given .1) ∙ (p4 .read-prefix .ensures)) (tail (p7 .args .input .now) 4) (p7 .pre .1),
+    )
 
 returns : tie.Need-returns
-returns c = frame-fills (c .before .before .before .before .before .before .before .before .before .before .args .base) (c .before .before .before .before .before .before .before .before .before .before .args .input .now) _ (sym (c .before .before .before .before .before .enum-told .given .1) ∙ (c .before .before .before .before .before .before .before .read-prefix .ensures)) (tail (c .before .before .before .before .before .before .before .before .before .before .args .input .now) 4) (c .before .before .decode-packet .ensures)
+returns c =
+    let p2 = c .before .before in
+    let p5 = p2 .before .before .before in
+    let p7 = p5 .before .before in
+    let p10 = p7 .before .before .before in
+    frame-fills (p10 .args .base) (p10 .args .input .now) _ (sym (p5 .enum-told .given .1) ∙ (p7 .read-prefix .ensures))
+    (tail (p10 .args .input .now) 4) (p2 .decode-packet .ensures)
 
 returns-2 : tie.Need-returns-2
 returns-2 c = fills-none (waits-nothing _ _ (sym (c .enum-told2 .given .1) ∙ (c .before .before .read-prefix .ensures)))
@@ -50,15 +55,15 @@ pub decode-frame-spec : {M : Type 1} → statement M
 decode-frame-spec =
     tie.close
     (tie.spec
-    read-prefix-requires
-    enum-told
+    (λ c κs. search needs)
+    (λ c. search needs)
     sub-decode-packet
     part-decode-packet-start
-    part-decode-packet-end
+    (λ c. search needs)
     decode-packet-requires
-    enum-told-2
-    enum-told-3
-    same-length
+    (λ c. search needs)
+    (λ c. search needs)
+    (λ c. search needs)
     returns
     returns-2
     returns-3)

@@ -1,5 +1,4 @@
 -- `decoder::frames::measure_tcp` meets its contract. The total of one frame.
--- Assumes nothing.
 use Rattle.decoder.proofs.Answers.{tcp-total}
 use Rattle.decoder.proofs.FrameExtents.{tree-frame-in}
 use native.Mathlib.Omega.{arith}
@@ -8,23 +7,15 @@ use borrow.Author.Needs.{needs}
 use Rattle.decoder.proofs.frames.measure_tcp.Statement.{statement}
 use Rattle.decoder.proofs.frames.measure_tcp.Tie as tie
 
-measure-frame-requires : tie.Need-measure-frame-requires
-measure-frame-requires c κs = search needs
-
-enum-known-count : tie.Need-enum-known-count
-enum-known-count c = search needs
-
 sub-t9 : tie.Need-sub-t9
-sub-t9 c = omega (arith, tree-frame-in (c .before .before .before .before .before .args .depth) 0 (c .before .before .before .before .before .args .msg .now) (sym (c .before .count .given .1) ∙ (c .before .before .before .measure-frame .ensures) 0))
-
-enum-told : tie.Need-enum-told
-enum-told c = search needs
-
-enum-told-2 : tie.Need-enum-told-2
-enum-told-2 c = search needs
-
-enum-known-fault : tie.Need-enum-known-fault
-enum-known-fault c = search needs
+sub-t9 c =
+    let p3 = c .before .before .before in
+    let p5 = p3 .before .before in
+    omega (
+      arith,
+      tree-frame-in (p5 .args .depth) 0 (p5 .args .msg .now)
+          (sym (c .before .count .given .1) ∙ (p3 .measure-frame .ensures) 0),
+    )
 
 returns : tie.Need-returns
 returns c = tcp-total _ _ (sym (c .before .count .given .1) ∙ (c .before .before .before .measure-frame .ensures) 0)
@@ -42,12 +33,12 @@ pub measure-tcp-spec : {M : Type 1} → statement M
 measure-tcp-spec =
     tie.close
     (tie.spec
-    measure-frame-requires
-    enum-known-count
+    (λ c κs. search needs)
+    (λ c. search needs)
     sub-t9
-    enum-told
-    enum-told-2
-    enum-known-fault
+    (λ c. search needs)
+    (λ c. search needs)
+    (λ c. search needs)
     returns
     returns-2
     returns-3

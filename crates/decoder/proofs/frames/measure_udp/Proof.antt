@@ -1,5 +1,4 @@
 -- `decoder::frames::measure_udp` meets its contract. The total of one tree.
--- Assumes nothing.
 use Rattle.decoder.proofs.Answers.{udp-total}
 use Rattle.decoder.proofs.Extents.{tree-in}
 use Rattle.decoder.proofs.Within.{packet-in}
@@ -9,20 +8,15 @@ use borrow.Author.Needs.{needs}
 use Rattle.decoder.proofs.frames.measure_udp.Statement.{statement}
 use Rattle.decoder.proofs.frames.measure_udp.Tie as tie
 
-measure-packet-requires : tie.Need-measure-packet-requires
-measure-packet-requires c κs = search needs
-
-enum-known-count : tie.Need-enum-known-count
-enum-known-count c = search needs
-
 sub-t9 : tie.Need-sub-t9
-sub-t9 c = omega (arith, tree-in (c .before .before .before .before .before .args .depth) 0 _ _ (packet-in 0 (c .before .before .before .before .before .args .msg .now) 0) (sym (c .before .count .given .1) ∙ (c .before .before .before .measure-packet .ensures) 0))
-
-enum-told : tie.Need-enum-told
-enum-told c = search needs
-
-enum-known-fault : tie.Need-enum-known-fault
-enum-known-fault c = search needs
+sub-t9 c =
+    let p3 = c .before .before .before in
+    let p5 = p3 .before .before in
+    omega (
+      arith,
+      tree-in (p5 .args .depth) 0 _ _ (packet-in 0 (p5 .args .msg .now) 0)
+          (sym (c .before .count .given .1) ∙ (p3 .measure-packet .ensures) 0),
+    )
 
 returns : tie.Need-returns
 returns c = udp-total _ _ (sym (c .before .count .given .1) ∙ (c .before .before .before .measure-packet .ensures) 0)
@@ -37,11 +31,11 @@ pub measure-udp-spec : {M : Type 1} → statement M
 measure-udp-spec =
     tie.close
     (tie.spec
-    measure-packet-requires
-    enum-known-count
+    (λ c κs. search needs)
+    (λ c. search needs)
     sub-t9
-    enum-told
-    enum-known-fault
+    (λ c. search needs)
+    (λ c. search needs)
     returns
     returns-2
     returns-3)

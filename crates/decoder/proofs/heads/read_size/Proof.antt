@@ -1,5 +1,4 @@
 -- `decoder::heads::read_size` meets its contract. Each answer is a case of `sizeOf`.
--- Assumes nothing.
 use Rattle.decoder.proofs.Fronts.{size-short, size-past, size-holds}
 use borrow.Author.Needs.{needs}
 use Rattle.decoder.proofs.heads.read_size.Statement.{statement}
@@ -8,15 +7,6 @@ use Rattle.decoder.proofs.heads.read_size.Tie as tie
 returns : tie.Need-returns
 returns c = size-short _ (c .if1 .taken)
 
-be-u32-requires : tie.Need-be-u32-requires
-be-u32-requires c κs = search needs
-
-cast-size : tie.Need-cast-size
-cast-size c = search needs
-
-sub-if2 : tie.Need-sub-if2
-sub-if2 c = search needs
-
 returns-2 : tie.Need-returns-2
 returns-2 c = size-past _ (c .before .before .if1 .left) (c .before .be-u32 .ensures) (c .if2 .taken)
 
@@ -24,4 +14,4 @@ returns-3 : tie.Need-returns-3
 returns-3 c = size-holds _ (c .before .before .if1 .left) (c .before .be-u32 .ensures) (c .if2 .left)
 
 pub read-size-spec : {M : Type 1} → statement M
-read-size-spec = tie.close (tie.spec returns be-u32-requires cast-size sub-if2 returns-2 returns-3)
+read-size-spec = tie.close (tie.spec returns (λ c κs. search needs) (λ c. search needs) (λ c. search needs) returns-2 returns-3)

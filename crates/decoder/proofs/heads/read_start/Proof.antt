@@ -1,5 +1,4 @@
 -- `decoder::heads::read_start` meets its contract. Each answer is a case of `startOf`.
--- Assumes nothing.
 use Rattle.decoder.proofs.Fronts.{start-empty, start-message, start-bundle, start-other, start-lacks, is-word}
 use Rattle.text.proofs.Within.{found-in}
 use Rattle.decoder.specs.declared.heads.Start.the-variants.{Refused}
@@ -12,64 +11,62 @@ use Rattle.decoder.proofs.heads.read_start.Tie as tie
 returns : tie.Need-returns
 returns c = start-empty _ _ (c .if1 .taken)
 
-read-osc-string-requires : tie.Need-read-osc-string-requires
-read-osc-string-requires c κs = search needs
-
-enum-known-length : tie.Need-enum-known-length
-enum-known-length c = search needs
-
-shared-slice-read-if2 : tie.Need-shared-slice-read-if2
-shared-slice-read-if2 c = search needs
-
 returns-2 : tie.Need-returns-2
-returns-2 c = start-message _ _ (c .before .before .before .before .before .before .if1 .left) (sym (c .before .before .before .length .given .1) ∙ (c .before .before .before .before .before .read-osc-string .ensures)) (c .if2 .taken)
-
-sub-same : tie.Need-sub-same
-sub-same c = search needs
-
-part-same-start : tie.Need-part-same-start
-part-same-start c = search needs
+returns-2 c =
+    let p3 = c .before .before .before in
+    let p5 = p3 .before .before in
+    let p6 = p5 .before in
+    start-message _ _ (p6 .if1 .left) (sym (p3 .length .given .1) ∙ (p5 .read-osc-string .ensures)) (c .if2 .taken)
 
 part-same-end : tie.Need-part-same-end
-part-same-end c = omega (arith, found-in _ _ (sym (c .before .before .before .length .given .1) ∙ (c .before .before .before .before .before .read-osc-string .ensures)))
-
-slice-aggregate-same : tie.Need-slice-aggregate-same
-slice-aggregate-same c = search needs
-
-same-requires : tie.Need-same-requires
-same-requires c κs = search needs
+part-same-end c =
+    let p3 = c .before .before .before in
+    let p5 = p3 .before .before in
+    omega (arith, found-in _ _ (sym (p3 .length .given .1) ∙ (p5 .read-osc-string .ensures)))
 
 returns-3 : tie.Need-returns-3
-returns-3 c = start-bundle _ _ (c .before .before .before .before .before .before .before .before .before .before .if1 .left) (sym (c .before .before .before .before .before .before .before .length .given .1) ∙ (c .before .before .before .before .before .before .before .before .before .read-osc-string .ensures)) (c .before .before .before .before .if2 .left) (is-word (c .before .before .before .before .before .before .before .before .before .before .before .before .args .input .now) (c .before .before .before .before .before .before .before .length .given .0 .0) (c .before .same .ensures) ∙ c .if3 .taken)
-
-enum-known-lack : tie.Need-enum-known-lack
-enum-known-lack c = search needs
-
-fault-of-requires : tie.Need-fault-of-requires
-fault-of-requires c κs = search needs
+returns-3 c =
+    let p4 = c .before .before .before .before in
+    let p7 = p4 .before .before .before in
+    let p9 = p7 .before .before in
+    let p10 = p9 .before in
+    let p12 = p10 .before .before in
+    start-bundle _ _ (p10 .if1 .left) (sym (p7 .length .given .1) ∙ (p9 .read-osc-string .ensures)) (p4 .if2 .left)
+    (is-word (p12 .args .input .now) (p7 .length .given .0 .0) (c .before .same .ensures) ∙ c .if3 .taken)
 
 returns-4 : tie.Need-returns-4
-returns-4 c = start-other _ _ (c .before .before .before .before .before .before .before .before .before .before .if1 .left) (sym (c .before .before .before .before .before .before .before .length .given .1) ∙ (c .before .before .before .before .before .before .before .before .before .read-osc-string .ensures)) (c .before .before .before .before .if2 .left) (is-word (c .before .before .before .before .before .before .before .before .before .before .before .before .args .input .now) (c .before .before .before .before .before .before .before .length .given .0 .0) (c .before .same .ensures) ∙ c .if3 .left)
+returns-4 c =
+    let p4 = c .before .before .before .before in
+    let p7 = p4 .before .before .before in
+    let p9 = p7 .before .before in
+    let p10 = p9 .before in
+    let p12 = p10 .before .before in
+    start-other _ _ (p10 .if1 .left) (sym (p7 .length .given .1) ∙ (p9 .read-osc-string .ensures)) (p4 .if2 .left)
+    (is-word (p12 .args .input .now) (p7 .length .given .0 .0) (c .before .same .ensures) ∙ c .if3 .left)
 
 returns-5 : tie.Need-returns-5
-returns-5 c = ap Refused (c .fault-of .ensures) ∙ start-lacks _ _ (c .before .before .before .before .before .if1 .left) (sym (c .before .before .lack .given .1) ∙ (c .before .before .before .before .read-osc-string .ensures))
+returns-5 c =
+    let p2 = c .before .before in
+    let p4 = p2 .before .before in
+    let p5 = p4 .before in
+    ap Refused (c .fault-of .ensures) ∙ start-lacks _ _ (p5 .if1 .left) (sym (p2 .lack .given .1) ∙ (p4 .read-osc-string .ensures))
 
 pub read-start-spec : {M : Type 1} → statement M
 read-start-spec =
     tie.close
     (tie.spec
     returns
-    read-osc-string-requires
-    enum-known-length
-    shared-slice-read-if2
+    (λ c κs. search needs)
+    (λ c. search needs)
+    (λ c. search needs)
     returns-2
-    sub-same
-    part-same-start
+    (λ c. search needs)
+    (λ c. search needs)
     part-same-end
-    slice-aggregate-same
-    same-requires
+    (λ c. search needs)
+    (λ c κs. search needs)
     returns-3
-    enum-known-lack
-    fault-of-requires
+    (λ c. search needs)
+    (λ c κs. search needs)
     returns-4
     returns-5)

@@ -1,5 +1,4 @@
 -- `decoder::heads::same` meets its contract. The invariant: from `i` on the two agree as they do from the start.
--- Assumes nothing.
 use Rattle.decoder.proofs.Fronts.{other-length, same-on, same-not, same-end}
 use Rattle.decoder.specs.Packet.{same}
 use mathlib.Core.Path.{_≡_, refl, sym, _∙_}
@@ -21,26 +20,26 @@ returns c = sym (other-length (c .before .args .a .now) (c .before .args .b .now
 loop-holds : tie.Need-loop-holds Inv-loop μ-loop
 loop-holds c = (search needs, search needs, refl)
 
-shared-slice-read-if2 : tie.Need-shared-slice-read-if2 Inv-loop μ-loop
-shared-slice-read-if2 c = search needs
-
-shared-slice-read-if2-2 : tie.Need-shared-slice-read-if2-2 Inv-loop μ-loop
-shared-slice-read-if2-2 c = search needs
-
 returns-2 : tie.Need-returns-2 Inv-loop μ-loop
-returns-2 c = sym ((c .before .before .before .before .loop .inv .2) ∙ same-not (c .before .before .before .before .before .before .args .a .now) (c .before .before .before .before .before .before .args .b .now) (c .before .before .before .before .loop .i) (search needs) (search needs) (c .if2 .taken))
-
-add-i : tie.Need-add-i Inv-loop μ-loop
-add-i c = search needs
-
-loop-less : tie.Need-loop-less Inv-loop μ-loop
-loop-less c = search needs
+returns-2 c =
+    let p4 = c .before .before .before .before in
+    let p6 = p4 .before .before in
+    sym ((p4 .loop .inv .2) ∙ same-not (p6 .args .a .now) (p6 .args .b .now) (p4 .loop .i) (search needs) (search needs) (c .if2 .taken))
 
 loop-again : tie.Need-loop-again Inv-loop μ-loop
-loop-again c = (search needs, search needs, (c .before .before .before .before .loop .inv .2) ∙ same-on (c .before .before .before .before .before .before .args .a .now) (c .before .before .before .before .before .before .args .b .now) (c .before .before .before .before .loop .i) (search needs) (search needs) (c .if2 .left))
+loop-again c =
+    let p4 = c .before .before .before .before in
+    let p6 = p4 .before .before in (
+      search needs,
+      search needs,
+      (p4 .loop .inv .2)
+          ∙ same-on (p6 .args .a .now) (p6 .args .b .now) (p4 .loop .i) (search needs) (search needs) (c .if2 .left),
+    )
 
 returns-3 : tie.Need-returns-3 Inv-loop μ-loop
-returns-3 c = sym ((c .before .loop .inv .2) ∙ same-end (c .before .before .before .args .a .now) (c .before .before .before .args .b .now) (c .before .loop .i) (search needs) (search needs))
+returns-3 c =
+    let p3 = c .before .before .before in
+    sym ((c .before .loop .inv .2) ∙ same-end (p3 .args .a .now) (p3 .args .b .now) (c .before .loop .i) (search needs) (search needs))
 
 pub same-spec : {M : Type 1} → statement M
 same-spec =
@@ -50,10 +49,10 @@ same-spec =
     μ-loop
     returns
     loop-holds
-    shared-slice-read-if2
-    shared-slice-read-if2-2
+    (λ c. search needs)
+    (λ c. search needs)
     returns-2
-    add-i
-    loop-less
+    (λ c. search needs)
+    (λ c. search needs)
     loop-again
     returns-3)

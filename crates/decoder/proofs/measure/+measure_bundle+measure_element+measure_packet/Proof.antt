@@ -1,11 +1,12 @@
 -- `decoder::measure`: packet, bundle and element meet their contracts. The measure is the number of bytes left; in a bundle what is
 -- counted so far and what is left make up the whole.
--- Assumes nothing.
 use Rattle.decoder.proofs.measure.measure_message.Reads as measure-message-reads
 use Rattle.decoder.proofs.heads.read_size.Reads as read-size-reads
 use Rattle.decoder.proofs.heads.read_start.Reads as read-start-reads
 use Rattle.decoder.proofs.measure.skim_elements.Reads as skim-elements-reads
-use Rattle.decoder.proofs.Extents.{refused-is, packet-by-message, packet-by-bundle, packet-refused, element-runs-out, element-by-packet, part-4, bundle-deep, Going, going-start, going-on, going-deep, going-done, turned}
+use Rattle.decoder.proofs.Extents.{refused-is, packet-by-message, packet-by-bundle, packet-refused, element-runs-out}
+use Rattle.decoder.proofs.Extents.{element-by-packet, part-4, bundle-deep, Going, going-start, going-on, going-deep, going-done}
+use Rattle.decoder.proofs.Extents.{turned}
 use Rattle.decoder.proofs.Bundles.{bundle-short, counted-in}
 use Rattle.decoder.proofs.Fronts.{message-start-in, bundle-start-in, size-in}
 use Rattle.number.proofs.Parts.{tail}
@@ -86,7 +87,8 @@ measure-packet-below t =
     measure-packet.Pre
 
 abbrev measure-bundle-Inv-loop : measure-bundle-lts.InvT-loop
-measure-bundle-Inv-loop input pos room rest₀ at₀ count₀ rest at count = (at + length rest ≡ pos + length input) × (pos + 8 ≤ at) × ((base : ℕ) → Going base input pos (room - 1) rest at count)
+measure-bundle-Inv-loop input pos room rest₀ at₀ count₀ rest at count =
+    (at + length rest ≡ pos + length input) × (pos + 8 ≤ at) × ((base : ℕ) → Going base input pos (room - 1) rest at count)
 
 abbrev measure-bundle-μ-loop : measure-bundle-lts.MeasureT-loop
 measure-bundle-μ-loop input pos room rest₀ at₀ count₀ rest at count = length rest
@@ -109,23 +111,84 @@ pub +measure-bundle+measure-element+measure-packet-spec : {M : Type 1} → state
     (λ c. search needs)
     (λ c. search needs)
     (λ c κs. omega (arith, (c .before .rest .given .2)))
-    (λ c. λ base. bundle-deep base (c .before .before .before .before .before .args .input .now) (c .before .before .before .before .before .args .pos) (c .before .before .before .before .before .args .room) (c .before .before .before .if1 .left) (omega (arith, (c .before .if2 .taken))) ((c .skim-elements .ensures) base ∙ rw (tail (c .before .before .before .before .before .args .input .now) 8)))
-    (λ c. (omega (arith, (c .before .rest .given .2)), search needs, λ base. going-start base (c .before .before .before .before .args .input .now) (c .before .before .before .before .args .pos) ((c .before .before .before .before .args .room) - 1)))
+    (λ c. let p3 = c .before .before .before in let p5 = p3 .before .before in
+    λ base. bundle-deep base (p5 .args .input .now) (p5 .args .pos) (p5 .args .room) (p3 .if1 .left)
+    (omega (arith, (c .before .if2 .taken))) ((c .skim-elements .ensures) base ∙ rw (tail (p5 .args .input .now) 8)))
+    (λ c. let p4 = c .before .before .before .before in (
+      omega (arith, (c .before .rest .given .2)),
+      search needs,
+      λ base. going-start base (p4 .args .input .now) (p4 .args .pos)
+          ((p4 .args .room) - 1),
+    ))
     (λ c. search needs)
     (λ c κs. search needs)
     (λ c. search needs)
-    (λ c. omega (arith, turned 0 (c .before .before .before .before .loop .rest .now) (c .before .before .before .before .loop .at) ((c .before .before .before .before .before .before .before .before .before .args .room) - 1) (sym (c .before .n .given .1) ∙ (c .before .before .before .measure-element .ensures) 0) .step, (c .before .before .before .before .loop .inv .2) 0 .counted, counted-in 0 (c .before .before .before .before .before .before .before .before .before .args .input .now) (c .before .before .before .before .before .before .before .before .before .args .pos)))
-    (λ c. omega (arith, turned 0 (c .before .before .before .before .loop .rest .now) (c .before .before .before .before .loop .at) ((c .before .before .before .before .before .before .before .before .before .args .room) - 1) (sym (c .before .n .given .1) ∙ (c .before .before .before .measure-element .ensures) 0) .step))
-    (λ c. omega (arith, turned 0 (c .before .before .before .before .loop .rest .now) (c .before .before .before .before .loop .at) ((c .before .before .before .before .before .before .before .before .before .args .room) - 1) (sym (c .before .n .given .1) ∙ (c .before .before .before .measure-element .ensures) 0) .step))
-    (λ c. omega (arith, turned 0 (c .before .before .before .before .loop .rest .now) (c .before .before .before .before .loop .at) ((c .before .before .before .before .before .before .before .before .before .args .room) - 1) (sym (c .before .n .given .1) ∙ (c .before .before .before .measure-element .ensures) 0) .step))
+    (λ c. let p3 = c .before .before .before in let p4 = p3 .before in let p9 = p4 .before .before .before .before .before in
+    omega (
+      arith,
+      turned 0 (p4 .loop .rest .now) (p4 .loop .at) ((p9 .args .room) - 1)
+          (sym (c .before .n .given .1) ∙ (p3 .measure-element .ensures) 0) .step,
+      (p4 .loop .inv .2) 0 .counted,
+      counted-in 0
+          (p9 .args .input .now) (p9 .args .pos),
+    ))
+    (λ c. let p3 = c .before .before .before in let p4 = p3 .before in let p9 = p4 .before .before .before .before .before in
+    omega (
+      arith,
+      turned 0 (p4 .loop .rest .now) (p4 .loop .at) ((p9 .args .room) - 1)
+          (sym (c .before .n .given .1) ∙ (p3 .measure-element .ensures) 0) .step,
+    ))
+    (λ c. let p3 = c .before .before .before in let p4 = p3 .before in let p9 = p4 .before .before .before .before .before in
+    omega (
+      arith,
+      turned 0 (p4 .loop .rest .now) (p4 .loop .at) ((p9 .args .room) - 1)
+          (sym (c .before .n .given .1) ∙ (p3 .measure-element .ensures) 0) .step,
+    ))
+    (λ c. let p3 = c .before .before .before in let p4 = p3 .before in let p9 = p4 .before .before .before .before .before in
+    omega (
+      arith,
+      turned 0 (p4 .loop .rest .now) (p4 .loop .at) ((p9 .args .room) - 1)
+          (sym (c .before .n .given .1) ∙ (p3 .measure-element .ensures) 0) .step,
+    ))
     (λ c. search needs)
-    (λ c. omega (arith, turned 0 (c .before .before .before .before .before .loop .rest .now) (c .before .before .before .before .before .loop .at) ((c .before .before .before .before .before .before .before .before .before .before .args .room) - 1) (sym (c .before .before .n .given .1) ∙ (c .before .before .before .before .measure-element .ensures) 0) .step, (c .rest2 .given .2)))
-    (λ c. (omega (arith, turned 0 (c .before .before .before .before .before .loop .rest .now) (c .before .before .before .before .before .loop .at) ((c .before .before .before .before .before .before .before .before .before .before .args .room) - 1) (sym (c .before .before .n .given .1) ∙ (c .before .before .before .before .measure-element .ensures) 0) .step, (c .rest2 .given .2)), omega (arith, turned 0 (c .before .before .before .before .before .loop .rest .now) (c .before .before .before .before .before .loop .at) ((c .before .before .before .before .before .before .before .before .before .before .args .room) - 1) (sym (c .before .before .n .given .1) ∙ (c .before .before .before .before .measure-element .ensures) 0) .step), λ base. going-on base (c .before .before .before .before .before .before .before .before .before .before .args .input .now) (c .before .before .before .before .before .before .before .before .before .before .args .pos) ((c .before .before .before .before .before .before .before .before .before .before .args .room) - 1) (c .before .before .before .before .before .loop .rest .now) (c .before .before .before .before .before .loop .at) (c .before .before .before .before .before .loop .count) ((c .before .before .before .before .before .loop .inv .2) base) (sym (c .before .before .n .given .1) ∙ (c .before .before .before .before .measure-element .ensures) base)))
+    (λ c. let p2 = c .before .before in let p4 = p2 .before .before in let p5 = p4 .before in
+    let p10 = p5 .before .before .before .before .before in
+    omega (
+      arith,
+      turned 0 (p5 .loop .rest .now) (p5 .loop .at) ((p10 .args .room) - 1)
+          (sym (p2 .n .given .1) ∙ (p4 .measure-element .ensures) 0) .step,
+      (c .rest2 .given .2),
+    ))
+    (λ c. let p2 = c .before .before in let p4 = p2 .before .before in let p5 = p4 .before in
+    let p10 = p5 .before .before .before .before .before in (
+      omega (
+        arith,
+        turned 0 (p5 .loop .rest .now) (p5 .loop .at) ((p10 .args .room) - 1)
+            (sym (p2 .n .given .1) ∙ (p4 .measure-element .ensures) 0) .step,
+        (c .rest2 .given .2),
+      ),
+      omega (
+        arith,
+        turned 0 (p5 .loop .rest .now)
+            (p5 .loop .at) ((p10 .args .room) - 1) (sym (p2 .n .given .1) ∙ (p4 .measure-element .ensures) 0) .step,
+      ),
+      λ base. going-on base
+          (p10 .args .input .now) (p10 .args .pos) ((p10 .args .room) - 1) (p5 .loop .rest .now) (p5 .loop .at) (p5 .loop .count)
+          ((p5 .loop .inv .2) base) (sym (p2 .n .given .1) ∙ (p4 .measure-element .ensures) base),
+    ))
     (λ c. search needs)
     (λ c κs. search needs)
-    (λ c. λ base. going-deep base (c .before .before .before .before .before .before .before .before .before .args .input .now) (c .before .before .before .before .before .before .before .before .before .args .pos) ((c .before .before .before .before .before .before .before .before .before .args .room) - 1) (c .before .before .before .before .loop .rest .now) (c .before .before .before .before .loop .at) (c .before .before .before .before .loop .count) ((c .before .before .before .before .loop .inv .2) base) (omega (arith, (c .before .before .before .before .before .if2 .left))) (c .before .before .before .before .before .before .before .if1 .left) (sym (c .before .enum-told .given .1) ∙ (c .before .before .before .measure-element .ensures) base) ((c .skim-elements2 .ensures) base))
+    (λ c. let p3 = c .before .before .before in let p4 = p3 .before in let p5 = p4 .before in let p7 = p5 .before .before in
+    let p9 = p7 .before .before in
+    λ base. going-deep base (p9 .args .input .now) (p9 .args .pos) ((p9 .args .room) - 1) (p4 .loop .rest .now) (p4 .loop .at)
+    (p4 .loop .count) ((p4 .loop .inv .2) base) (omega (arith, (p5 .if2 .left))) (p7 .if1 .left)
+    (sym (c .before .enum-told .given .1) ∙ (p3 .measure-element .ensures) base) ((c .skim-elements2 .ensures) base))
     (λ c. search needs)
-    (λ c. λ base. going-done base (c .before .before .before .before .before .before .before .before .args .input .now) (c .before .before .before .before .before .before .before .before .args .pos) ((c .before .before .before .before .before .before .before .before .args .room) - 1) (c .before .before .before .loop .rest .now) (c .before .before .before .loop .at) (c .before .before .before .loop .count) ((c .before .before .before .loop .inv .2) base) (omega (arith, (c .before .before .before .before .if2 .left))) (c .before .before .before .before .before .before .if1 .left) (sym (c .enum-told2 .given .1) ∙ (c .before .before .measure-element .ensures) base)))
+    (λ c. let p2 = c .before .before in let p3 = p2 .before in let p4 = p3 .before in let p6 = p4 .before .before in
+    let p8 = p6 .before .before in
+    λ base. going-done base (p8 .args .input .now) (p8 .args .pos) ((p8 .args .room) - 1) (p3 .loop .rest .now) (p3 .loop .at)
+    (p3 .loop .count) ((p3 .loop .inv .2) base) (omega (arith, (p4 .if2 .left))) (p6 .if1 .left)
+    (sym (c .enum-told2 .given .1) ∙ (p2 .measure-element .ensures) base)))
     (λ t. measure-element-lts.spec (
       read-size-reads.Asked,
       read-size-reads.Learnt,
@@ -136,23 +199,40 @@ pub +measure-bundle+measure-element+measure-packet-spec : {M : Type 1} → state
     measure-element.Post
     (λ c κs. search needs)
     (λ c. search needs)
-    (λ c. omega (arith, size-in (c .before .before .before .before .before .args .input .now) (sym (c .before .size .given .1) ∙ (c .before .before .before .read-size .ensures))))
+    (λ c. let p3 = c .before .before .before in let p5 = p3 .before .before in
+    omega (arith, size-in (p5 .args .input .now) (sym (c .before .size .given .1) ∙ (p3 .read-size .ensures))))
     (λ c. search needs)
     (λ c. search needs)
-    (λ c. omega (arith, size-in (c .before .before .before .before .before .args .input .now) (sym (c .before .size .given .1) ∙ (c .before .before .before .read-size .ensures))))
+    (λ c. let p3 = c .before .before .before in let p5 = p3 .before .before in
+    omega (arith, size-in (p5 .args .input .now) (sym (c .before .size .given .1) ∙ (p3 .read-size .ensures))))
     (λ c. search needs)
-    (λ c κs. let w = size-in (c .before .before .before .before .before .before .args .input .now) (sym (c .before .before .size .given .1) ∙ (c .before .before .before .before .read-size .ensures)) in (omega (arith, (c .measure-packet-arg .given .2)), omega (arith, (c .measure-packet-arg .given .2))))
+    (λ c κs. let p2 = c .before .before in let p4 = p2 .before .before in let p6 = p4 .before .before in
+    let w = size-in (p6 .args .input .now) (sym (p2 .size .given .1) ∙ (p4 .read-size .ensures)) in
+    (omega (arith, (c .measure-packet-arg .given .2)), omega (arith, (c .measure-packet-arg .given .2))))
     (λ c. search needs)
-    (λ c. omega (arith, size-in (c .before .before .before .before .before .before .before .before .before .before .args .input .now) (sym (c .before .before .before .before .before .before .size .given .1) ∙ (c .before .before .before .before .before .before .before .before .read-size .ensures))))
-    (λ c. omega (arith, size-in (c .before .before .before .before .before .before .before .before .before .before .args .input .now) (sym (c .before .before .before .before .before .before .size .given .1) ∙ (c .before .before .before .before .before .before .before .before .read-size .ensures))))
+    (λ c. let p6 = c .before .before .before .before .before .before in let p8 = p6 .before .before in let p10 = p8 .before .before in
+    omega (arith, size-in (p10 .args .input .now) (sym (p6 .size .given .1) ∙ (p8 .read-size .ensures))))
+    (λ c. let p6 = c .before .before .before .before .before .before in let p8 = p6 .before .before in let p10 = p8 .before .before in
+    omega (arith, size-in (p10 .args .input .now) (sym (p6 .size .given .1) ∙ (p8 .read-size .ensures))))
     (λ c. search needs)
-    (λ c. omega (arith, size-in (c .before .before .before .before .before .before .before .before .before .args .input .now) (sym (c .before .before .before .before .before .size .given .1) ∙ (c .before .before .before .before .before .before .before .read-size .ensures))))
-    (λ c. omega (arith, size-in (c .before .before .before .before .before .before .before .before .before .args .input .now) (sym (c .before .before .before .before .before .size .given .1) ∙ (c .before .before .before .before .before .before .before .read-size .ensures))))
+    (λ c. let p5 = c .before .before .before .before .before in let p7 = p5 .before .before in let p9 = p7 .before .before in
+    omega (arith, size-in (p9 .args .input .now) (sym (p5 .size .given .1) ∙ (p7 .read-size .ensures))))
+    (λ c. let p5 = c .before .before .before .before .before in let p7 = p5 .before .before in let p9 = p7 .before .before in
+    omega (arith, size-in (p9 .args .input .now) (sym (p5 .size .given .1) ∙ (p7 .read-size .ensures))))
     (λ c. search needs)
     (λ c. search needs)
-    (λ c. λ base. element-by-packet base _ (c .before .before .before .before .before .before .before .before .before .before .args .input .now) _ _ (sym (c .before .before .before .before .before .before .size .given .1) ∙ (c .before .before .before .before .before .before .before .before .read-size .ensures)) (part-4 (c .before .before .before .before .before .before .before .before .before .before .args .input .now) (c .before .before .before .before .before .before .size .given .0 .0)) (sym (c .before .count .given .1) ∙ (c .before .before .before .measure-packet .ensures) base))
-    (λ c. λ base. element-by-packet base _ (c .before .before .before .before .before .before .before .before .before .args .input .now) _ _ (sym (c .before .before .before .before .before .size .given .1) ∙ (c .before .before .before .before .before .before .before .read-size .ensures)) (part-4 (c .before .before .before .before .before .before .before .before .before .args .input .now) (c .before .before .before .before .before .size .given .0 .0)) (sym (c .enum-told .given .1) ∙ (c .before .before .measure-packet .ensures) base))
-    (λ c. λ base. element-by-packet base _ (c .before .before .before .before .before .before .before .before .before .before .args .input .now) _ _ (sym (c .before .before .before .before .before .before .size .given .1) ∙ (c .before .before .before .before .before .before .before .before .read-size .ensures)) (part-4 (c .before .before .before .before .before .before .before .before .before .before .args .input .now) (c .before .before .before .before .before .before .size .given .0 .0)) (sym (c .before .fault .given .1) ∙ (c .before .before .before .measure-packet .ensures) base))
+    (λ c. let p3 = c .before .before .before in let p6 = p3 .before .before .before in let p8 = p6 .before .before in
+    let p10 = p8 .before .before in
+    λ base. element-by-packet base _ (p10 .args .input .now) _ _ (sym (p6 .size .given .1) ∙ (p8 .read-size .ensures))
+    (part-4 (p10 .args .input .now) (p6 .size .given .0 .0)) (sym (c .before .count .given .1) ∙ (p3 .measure-packet .ensures) base))
+    (λ c. let p2 = c .before .before in let p5 = p2 .before .before .before in let p7 = p5 .before .before in
+    let p9 = p7 .before .before in
+    λ base. element-by-packet base _ (p9 .args .input .now) _ _ (sym (p5 .size .given .1) ∙ (p7 .read-size .ensures))
+    (part-4 (p9 .args .input .now) (p5 .size .given .0 .0)) (sym (c .enum-told .given .1) ∙ (p2 .measure-packet .ensures) base))
+    (λ c. let p3 = c .before .before .before in let p6 = p3 .before .before .before in let p8 = p6 .before .before in
+    let p10 = p8 .before .before in
+    λ base. element-by-packet base _ (p10 .args .input .now) _ _ (sym (p6 .size .given .1) ∙ (p8 .read-size .ensures))
+    (part-4 (p10 .args .input .now) (p6 .size .given .0 .0)) (sym (c .before .fault .given .1) ∙ (p3 .measure-packet .ensures) base))
     (λ c. λ base. refused-is _ _ (element-runs-out base _ _ (sym (c .enum-told2 .given .1) ∙ (c .before .before .read-size .ensures)))))
     λ t. measure-packet-lts.spec (
       read-start-reads.Asked,
@@ -166,18 +246,36 @@ pub +measure-bundle+measure-element+measure-packet-spec : {M : Type 1} → state
     measure-packet.Post
     (λ c κs. search needs)
     (λ c. search needs)
-    (λ c. omega (arith, message-start-in (c .before .before .before .before .before .args .input .now) (c .before .before .before .before .before .args .pos) (sym (c .before .used .given .1) ∙ (c .before .before .before .read-start .ensures))))
-    (λ c. omega (arith, message-start-in (c .before .before .before .before .before .args .input .now) (c .before .before .before .before .before .args .pos) (sym (c .before .used .given .1) ∙ (c .before .before .before .read-start .ensures))))
+    (λ c. let p3 = c .before .before .before in let p5 = p3 .before .before in
+    omega (arith, message-start-in (p5 .args .input .now) (p5 .args .pos) (sym (c .before .used .given .1) ∙ (p3 .read-start .ensures))))
+    (λ c. let p3 = c .before .before .before in let p5 = p3 .before .before in
+    omega (arith, message-start-in (p5 .args .input .now) (p5 .args .pos) (sym (c .before .used .given .1) ∙ (p3 .read-start .ensures))))
     (λ c. search needs)
-    (λ c. omega (arith, message-start-in (c .before .before .before .before .before .before .args .input .now) (c .before .before .before .before .before .before .args .pos) (sym (c .before .before .used .given .1) ∙ (c .before .before .before .before .read-start .ensures))))
-    (λ c κs. omega (arith, message-start-in (c .before .before .before .before .before .before .args .input .now) (c .before .before .before .before .before .before .args .pos) (sym (c .before .before .used .given .1) ∙ (c .before .before .before .before .read-start .ensures)), (c .measure-message-arg .given .2)))
+    (λ c. let p2 = c .before .before in let p4 = p2 .before .before in let p6 = p4 .before .before in
+    omega (arith, message-start-in (p6 .args .input .now) (p6 .args .pos) (sym (p2 .used .given .1) ∙ (p4 .read-start .ensures))))
+    (λ c κs. let p2 = c .before .before in let p4 = p2 .before .before in let p6 = p4 .before .before in
+    omega (
+      arith,
+      message-start-in (p6 .args .input .now) (p6 .args .pos) (sym (p2 .used .given .1) ∙ (p4 .read-start .ensures)),
+      (c .measure-message-arg .given .2),
+    ))
     (λ c. search needs)
-    (λ c. omega (arith, bundle-start-in (c .before .before .before .before .before .args .input .now) (c .before .before .before .before .before .args .pos) (sym (c .before .used2 .given .1) ∙ (c .before .before .before .read-start .ensures))))
-    (λ c. omega (arith, bundle-start-in (c .before .before .before .before .before .args .input .now) (c .before .before .before .before .before .args .pos) (sym (c .before .used2 .given .1) ∙ (c .before .before .before .read-start .ensures))))
+    (λ c. let p3 = c .before .before .before in let p5 = p3 .before .before in
+    omega (arith, bundle-start-in (p5 .args .input .now) (p5 .args .pos) (sym (c .before .used2 .given .1) ∙ (p3 .read-start .ensures))))
+    (λ c. let p3 = c .before .before .before in let p5 = p3 .before .before in
+    omega (arith, bundle-start-in (p5 .args .input .now) (p5 .args .pos) (sym (c .before .used2 .given .1) ∙ (p3 .read-start .ensures))))
     (λ c. search needs)
-    (λ c. omega (arith, bundle-start-in (c .before .before .before .before .before .before .args .input .now) (c .before .before .before .before .before .before .args .pos) (sym (c .before .before .used2 .given .1) ∙ (c .before .before .before .before .read-start .ensures))))
-    (λ c κs. let w = bundle-start-in (c .before .before .before .before .before .before .args .input .now) (c .before .before .before .before .before .before .args .pos) (sym (c .before .before .used2 .given .1) ∙ (c .before .before .before .before .read-start .ensures)) in (omega (arith, (c .measure-bundle-arg .given .2)), omega (arith, (c .measure-bundle-arg .given .2))))
+    (λ c. let p2 = c .before .before in let p4 = p2 .before .before in let p6 = p4 .before .before in
+    omega (arith, bundle-start-in (p6 .args .input .now) (p6 .args .pos) (sym (p2 .used2 .given .1) ∙ (p4 .read-start .ensures))))
+    (λ c κs. let p2 = c .before .before in let p4 = p2 .before .before in let p6 = p4 .before .before in
+    let w = bundle-start-in (p6 .args .input .now) (p6 .args .pos) (sym (p2 .used2 .given .1) ∙ (p4 .read-start .ensures)) in
+    (omega (arith, (c .measure-bundle-arg .given .2)), omega (arith, (c .measure-bundle-arg .given .2))))
     (λ c. search needs)
-    (λ c. λ base. packet-by-message base _ (c .before .before .before .before .before .before .before .args .input .now) _ _ (sym (c .before .before .before .used .given .1) ∙ (c .before .before .before .before .before .read-start .ensures)) (tail (c .before .before .before .before .before .before .before .args .input .now) (c .before .before .before .used .given .0 .1 .0)) (c .measure-message .ensures base _ _ _))
-    (λ c. λ base. packet-by-bundle base _ (c .before .before .before .before .before .before .before .args .input .now) _ _ (sym (c .before .before .before .used2 .given .1) ∙ (c .before .before .before .before .before .read-start .ensures)) (tail (c .before .before .before .before .before .before .before .args .input .now) (c .before .before .before .used2 .given .0 .0)) (c .measure-bundle .ensures base))
-    (λ c. λ base. refused-is _ _ (packet-refused base _ _ (sym (c .before .fault .given .1) ∙ (c .before .before .before .read-start .ensures))))
+    (λ c. let p3 = c .before .before .before in let p5 = p3 .before .before in let p7 = p5 .before .before in
+    λ base. packet-by-message base _ (p7 .args .input .now) _ _ (sym (p3 .used .given .1) ∙ (p5 .read-start .ensures))
+    (tail (p7 .args .input .now) (p3 .used .given .0 .1 .0)) (c .measure-message .ensures base _ _ _))
+    (λ c. let p3 = c .before .before .before in let p5 = p3 .before .before in let p7 = p5 .before .before in
+    λ base. packet-by-bundle base _ (p7 .args .input .now) _ _ (sym (p3 .used2 .given .1) ∙ (p5 .read-start .ensures))
+    (tail (p7 .args .input .now) (p3 .used2 .given .0 .0)) (c .measure-bundle .ensures base))
+    (λ c. λ base. refused-is _ _
+    (packet-refused base _ _ (sym (c .before .fault .given .1) ∙ (c .before .before .before .read-start .ensures))))

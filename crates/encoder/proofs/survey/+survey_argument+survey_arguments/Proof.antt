@@ -1,5 +1,5 @@
--- `encoder::survey::survey_argument` and `survey_arguments` meet their contracts. The levels of arrays fall; the arguments stand above one of them.
--- Assumes nothing.
+-- `encoder::survey::survey_argument` and `survey_arguments` meet their contracts. The levels of arrays fall; the arguments stand
+-- above one of them.
 use mathlib.Core.Path.{sym, _∙_}
 use native.Mathlib.Omega.{arith}
 use borrow.Author.Needs.{needs}
@@ -95,9 +95,9 @@ pub +survey-argument+survey-arguments-spec : {M : Type 1} → statement M
     -- a-at-requires
     (λ c κs. omega (arith, c .before .before .before .pre .1))
     -- b-at-requires
-    (λ c κs. omega (arith, c .before .before .before .before .pre .1))
+    (λ c κs. let p4 = c .before .before .before .before in omega (arith, p4 .pre .1))
     -- kind-at-requires
-    (λ c κs. omega (arith, c .before .before .before .before .before .pre .1))
+    (λ c κs. let p5 = c .before .before .before .before .before in omega (arith, p5 .pre .1))
     -- sort-of-requires
     (λ c κs. search needs)
     -- enum-told
@@ -109,7 +109,8 @@ pub +survey-argument+survey-arguments-spec : {M : Type 1} → statement M
     -- returns-3
     (λ c. ((λ h. absurd (omega (arith, h))), (omega arith, omega arith)))
     -- add-survey-arguments
-    (λ c. omega (arith, c .before .before .before .before .before .before .before .before .before .before .before .before .pre .1))
+    (λ c. let p12 = c .before .before .before .before .before .before .before .before .before .before .before .before in
+    omega (arith, p12 .pre .1))
     -- sub-survey-arguments
     (λ c. omega (arith, c .before .before .if1 .left))
     -- survey-arguments-requires
@@ -118,13 +119,14 @@ pub +survey-argument+survey-arguments-spec : {M : Type 1} → statement M
     let p = c .before .before .before .before .before .before .before .before .before .before .before .before .pre in
     (omega (arith, p .0, c .before .before .if1 .left), (omega (arith, e, p .1), omega (arith, e, p .1), omega (arith, e, p .1))))
     -- add-t16
-    (λ c. omega (arith, c .before .survey-arguments .ensures, c .before .before .before .before .before .before .before .before .before .before .before .end-at .ensures, c .before .before .before .before .before .before .before .before .before .before .before .before .before .before .pre .1))
+    (λ c. let p11 = c .before .before .before .before .before .before .before .before .before .before .before in
+    let p14 = p11 .before .before .before in omega (arith, c .before .survey-arguments .ensures, p11 .end-at .ensures, p14 .pre .1))
     -- enum-told-2
     (λ c. search needs)
     -- enum-known-class
     (λ c. search needs)
     -- add-if4
-    (λ c. omega (arith, c .before .before .before .before .before .before .before .before .before .before .pre .1))
+    (λ c. let p10 = c .before .before .before .before .before .before .before .before .before .before in omega (arith, p10 .pre .1))
     -- returns-4
     (λ c. ((λ h. absurd (omega (arith, h))), (omega arith, omega arith)))
     -- leaf-content-requires
@@ -133,10 +135,17 @@ pub +survey-argument+survey-arguments-spec : {M : Type 1} → statement M
     (λ c.
     let r = c .before .before .before .before in
     let k = r .before .before .before .before in (
-      (λ h. argument-array _ _ _ (k .kind-at .ensures) (k .before .before .before .end-at .ensures) (k .before .before .a-at .ensures) (k .before .b-at .ensures) (r .before .before .before .sort-of .ensures)
-          (r .before .enum-told .given .1) (c .before .before .before .if2 .left) (c .before .before .if3 .left) (c .before .survey-arguments .ensures .0 h)),
+      (λ h. argument-array _ _ _ (k .kind-at .ensures) (k .before .before .before .end-at .ensures) (k .before .before .a-at .ensures)
+          (k .before .b-at .ensures) (r .before .before .before .sort-of .ensures)
+          (r .before .enum-told .given .1) (c .before .before .before .if2 .left) (c .before .before .if3 .left)
+          (c .before .survey-arguments .ensures .0 h)),
       (
-        omega (arith, c .before .survey-arguments .ensures, c .before .before .before .before .before .before .before .before .before .before .before .end-at .ensures, c .before .before .before .before .before .before .before .before .before .before .before .before .before .before .pre .1),
+        omega (
+          arith,
+          c .before .survey-arguments .ensures,
+          c .before .before .before .before .before .before .before .before .before .before .before .end-at .ensures,
+          c .before .before .before .before .before .before .before .before .before .before .before .before .before .before .pre .1,
+        ),
         omega (arith, c .before .survey-arguments .ensures),
       ),
     ))
@@ -146,10 +155,15 @@ pub +survey-argument+survey-arguments-spec : {M : Type 1} → statement M
     (λ c.
     let k = c .before .before .before .before .before .before in (
       (λ h. let l = c .leaf-content .ensures .0 h in
-          rw (← l .1) at (argument-leaf _ _ _ (k .kind-at .ensures) (k .before .before .before .end-at .ensures) (k .before .before .a-at .ensures) (k .before .b-at .ensures) (c .before .before .before .before .before .sort-of .ensures)
+          rw (← l .1) at (argument-leaf _ _ _ (k .kind-at .ensures) (k .before .before .before .end-at .ensures)
+          (k .before .before .a-at .ensures) (k .before .b-at .ensures) (c .before .before .before .before .before .sort-of .ensures)
           (c .before .before .before .class .given .1) (c .before .if4 .left) (l .0))),
       (
-        omega (arith, c .before .before .before .before .before .before .before .before .before .end-at .ensures, c .before .before .before .before .before .before .before .before .before .before .before .before .pre .1),
+        omega (
+          arith,
+          c .before .before .before .before .before .before .before .before .before .end-at .ensures,
+          c .before .before .before .before .before .before .before .before .before .before .before .before .pre .1,
+        ),
         omega (arith, c .leaf-content .ensures .1),
       ),
     )))
@@ -168,34 +182,59 @@ pub +survey-argument+survey-arguments-spec : {M : Type 1} → statement M
     -- loop-holds
     (λ c. behind-none _ _ _ _ (c .before .before .pre .1 .0))
     -- is-placed-requires
-    (λ c κs. omega (arith, c .before .before .before .before .pre .1))
+    (λ c κs. let p4 = c .before .before .before .before in omega (arith, p4 .pre .1))
     -- returns
     (λ c. ((λ h. absurd (omega (arith, h))), (omega arith, omega arith)))
     -- survey-argument-requires
     (λ c κs.
-    let p = placed-is _ _ _ (sym (c .before .is-placed .ensures) ∙ not-false _ (c .if1 .left)) in
-    (omega (arith, c .before .before .before .before .before .before .pre .0), (p .on, omega (arith, p .within, c .before .before .before .before .before .before .pre .1), omega (arith, p .within, c .before .before .before .before .before .before .pre .1))))
+    let p = placed-is _ _ _ (sym (c .before .is-placed .ensures) ∙ not-false _ (c .if1 .left)) in (
+      omega (arith, c .before .before .before .before .before .before .pre .0),
+      (
+        p .on,
+        omega (arith, p .within, c .before .before .before .before .before .before .pre .1),
+        omega
+            (arith, p .within, c .before .before .before .before .before .before .pre .1),
+      ),
+    ))
     -- add-tags
     (λ c.
     let p = placed-is _ _ _ (sym (c .before .before .before .is-placed .ensures) ∙ not-false _ (c .before .before .if1 .left)) in
     let v = c .before .before .before .before .before .loop .inv in
-    omega (arith, p .on, p .within, v .few, v .passed, c .before .survey-argument .ensures .1, c .before .before .before .before .before .before .before .before .pre .1))
+    omega (
+      arith,
+      p .on,
+      p .within,
+      v .few,
+      v .passed,
+      c .before .survey-argument .ensures .1,
+      c .before .before .before .before .before .before .before .before .pre .1,
+    ))
     -- add-content
-    (λ c. omega (arith, c .before .before .before .before .before .before .loop .inv .short, c .before .before .survey-argument .ensures .1))
+    (λ c. let p2 = c .before .before in let p6 = p2 .before .before .before .before in
+    omega (arith, p6 .loop .inv .short, p2 .survey-argument .ensures .1))
     -- returns-2
     (λ c. ((λ h. absurd (omega (arith, h))), (omega arith, omega arith)))
     -- end-at-requires
-    (λ c κs. omega (arith, c .before .before .before .before .before .before .before .before .before .before .pre .1))
+    (λ c κs. let p10 = c .before .before .before .before .before .before .before .before .before .before in omega (arith, p10 .pre .1))
     -- cast-at
     (λ c. search needs)
     -- loop-less
     (λ c.
-    let p = placed-is _ _ _ (sym (c .before .before .before .before .before .before .is-placed .ensures) ∙ not-false _ (c .before .before .before .before .before .if1 .left)) in
+    let p = placed-is _ _ _
+    (sym (c .before .before .before .before .before .before .is-placed .ensures)
+    ∙ not-false _ (c .before .before .before .before .before .if1 .left)) in
     omega (arith, p .on, p .within, c .end-at .ensures))
     -- loop-again
     (λ c.
-    let p = placed-is _ _ _ (sym (c .before .before .before .before .before .before .is-placed .ensures) ∙ not-false _ (c .before .before .before .before .before .if1 .left)) in
+    let p = placed-is _ _ _
+    (sym (c .before .before .before .before .before .before .is-placed .ensures)
+    ∙ not-false _ (c .before .before .before .before .before .if1 .left)) in
     let x = c .before .before .before .before .survey-argument in
-    rw (← c .end-at .ensures) at (behind-more (c .before .before .before .before .before .before .before .before .loop .inv) (x .result .tags) (x .result .content) p (x .ensures .0 (omega (arith, c .before .if2 .left))) (x .ensures .1 .0) (omega (arith, c .before .if2 .left))))
+    rw (← c .end-at .ensures) at
+    (behind-more (c .before .before .before .before .before .before .before .before .loop .inv) (x .result .tags) (x .result .content) p
+    (x .ensures .0 (omega (arith, c .before .if2 .left))) (x .ensures .1 .0) (omega (arith, c .before .if2 .left))))
     -- returns-3
-    (λ c. ((λ h. behind-all (c .before .loop .inv) (c .loop-test .left)), (omega (arith, c .before .loop .inv .few, c .before .loop .inv .within), omega (arith, c .before .loop .inv .short))))
+    (λ c. (
+      (λ h. behind-all (c .before .loop .inv) (c .loop-test .left)),
+      (omega (arith, c .before .loop .inv .few, c .before .loop .inv .within), omega (arith, c .before .loop .inv .short)),
+    ))

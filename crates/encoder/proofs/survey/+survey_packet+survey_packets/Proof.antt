@@ -1,5 +1,5 @@
--- `encoder::survey::survey_packet` and `survey_packets` meet their contracts. The levels of bundles fall; the packets stand above one of them.
--- Assumes nothing.
+-- `encoder::survey::survey_packet` and `survey_packets` meet their contracts. The levels of bundles fall; the packets stand above
+-- one of them.
 use mathlib.Core.Path.{refl, sym, _∙_}
 use mathlib.Core.List.{[], _∷_}
 use native.Mathlib.Omega.{arith}
@@ -80,17 +80,17 @@ pub +survey-packet+survey-packets-spec : {M : Type 1} → statement M
     -- kind-at-requires
     (λ c κs. omega (arith, c .before .before .pre .1))
     -- survey-message-requires
-    (λ c κs. c .before .before .before .before .pre .1)
+    (λ c κs. let p4 = c .before .before .before .before in p4 .pre .1)
     -- add-result
     (λ c. omega (arith, c .survey-message .ensures .1))
     -- returns
     (λ c. ((λ h. absurd (omega (arith, h))), omega arith))
     -- end-at-requires
-    (λ c κs. omega (arith, c .before .before .before .before .before .pre .1))
+    (λ c κs. let p5 = c .before .before .before .before .before in omega (arith, p5 .pre .1))
     -- cast-end
     (λ c. search needs)
     -- add-survey-packets
-    (λ c. omega (arith, c .before .before .before .before .before .before .pre .1))
+    (λ c. let p6 = c .before .before .before .before .before .before in omega (arith, p6 .pre .1))
     -- sub-survey-packets
     (λ c. omega (arith, c .before .if1 .left))
     -- survey-packets-requires
@@ -102,12 +102,15 @@ pub +survey-packet+survey-packets-spec : {M : Type 1} → statement M
     (λ c. omega (arith, c .survey-packets .ensures .1))
     -- returns-2
     (λ c. (
-      (λ h. element-message (sym (c .before .before .kind-at .ensures) ∙ sym (by-keys (λ (k : ℕ). k) 47 (47 ∷ []) (refl, tt) _ (c .before .match .keys1))) (c .survey-message .ensures .0 (omega (arith, h)))),
+      (λ h. element-message
+          (sym (c .before .before .kind-at .ensures) ∙ sym (by-keys (λ (k : ℕ). k) 47 (47 ∷ []) (refl, tt) _ (c .before .match .keys1)))
+          (c .survey-message .ensures .0 (omega (arith, h)))),
       omega (arith, c .survey-message .ensures .1),
     ))
     -- returns-3
-    (λ c. (
-      (λ h. element-bundle (sym (c .before .before .before .before .kind-at .ensures) ∙ sym (by-keys (λ (k : ℕ). k) 35 (35 ∷ []) (refl, tt) _ (c .before .before .before .match .keys2))) (c .before .before .if1 .left) (rw (c .before .end-at .ensures) at (c .survey-packets .ensures .0 (omega (arith, h))))),
+    (λ c. let p2 = c .before .before in let p3 = p2 .before in let p4 = p3 .before in (
+      (λ h. element-bundle (sym (p4 .kind-at .ensures) ∙ sym (by-keys (λ (k : ℕ). k) 35 (35 ∷ []) (refl, tt) _ (p3 .match .keys2)))
+          (p2 .if1 .left) (rw (c .before .end-at .ensures) at (c .survey-packets .ensures .0 (omega (arith, h))))),
       omega (arith, c .survey-packets .ensures .1),
     ))
     -- returns-4
@@ -127,28 +130,39 @@ pub +survey-packet+survey-packets-spec : {M : Type 1} → statement M
     -- loop-holds
     (λ c. ahead-none _ _ _ _ _ (c .before .before .pre .1 .0))
     -- is-placed-requires
-    (λ c κs. omega (arith, c .before .before .before .before .pre .1))
+    (λ c κs. let p4 = c .before .before .before .before in omega (arith, p4 .pre .1))
     -- returns
     (λ c. ((λ h. absurd (omega (arith, h))), omega arith))
     -- survey-packet-requires
     (λ c κs.
-    let p = placed-is _ _ _ (sym (c .before .is-placed .ensures) ∙ not-false _ (c .if1 .left)) in
-    (omega (arith, c .before .before .before .before .before .before .pre .0), (p .on, omega (arith, p .within, c .before .before .before .before .before .before .pre .1), omega (arith, p .within, c .before .before .before .before .before .before .pre .1))))
+    let p = placed-is _ _ _ (sym (c .before .is-placed .ensures) ∙ not-false _ (c .if1 .left)) in (
+      omega (arith, c .before .before .before .before .before .before .pre .0),
+      (
+        p .on,
+        omega (arith, p .within, c .before .before .before .before .before .before .pre .1),
+        omega
+            (arith, p .within, c .before .before .before .before .before .before .pre .1),
+      ),
+    ))
     -- add-total
-    (λ c. omega (arith, c .before .before .before .before .loop .inv .short, c .survey-packet .ensures .1))
+    (λ c. let p4 = c .before .before .before .before in omega (arith, p4 .loop .inv .short, c .survey-packet .ensures .1))
     -- returns-2
     (λ c. ((λ h. absurd (omega (arith, h))), omega arith))
     -- end-at-requires
-    (λ c κs. omega (arith, c .before .before .before .before .before .before .before .before .pre .1))
+    (λ c κs. let p8 = c .before .before .before .before .before .before .before .before in omega (arith, p8 .pre .1))
     -- cast-at
     (λ c. search needs)
     -- loop-less
     (λ c.
-    let p = placed-is _ _ _ (sym (c .before .before .before .before .is-placed .ensures) ∙ not-false _ (c .before .before .before .if1 .left)) in
+    let p = placed-is _ _ _
+    (sym (c .before .before .before .before .is-placed .ensures) ∙ not-false _ (c .before .before .before .if1 .left)) in
     omega (arith, p .on, p .within, c .end-at .ensures))
     -- loop-again
     (λ c.
     let x = c .before .before .survey-packet in
-    rw (← c .end-at .ensures) at (ahead-more (c .before .before .before .before .before .before .loop .inv) (x .result) (placed-is _ _ _ (sym (c .before .before .before .before .is-placed .ensures) ∙ not-false _ (c .before .before .before .if1 .left))) (x .ensures .0 (omega (arith, c .before .if2 .left))) (omega (arith, c .before .if2 .left))))
+    rw (← c .end-at .ensures) at
+    (ahead-more (c .before .before .before .before .before .before .loop .inv) (x .result)
+    (placed-is _ _ _ (sym (c .before .before .before .before .is-placed .ensures) ∙ not-false _ (c .before .before .before .if1 .left)))
+    (x .ensures .0 (omega (arith, c .before .if2 .left))) (omega (arith, c .before .if2 .left))))
     -- returns-3
     (λ c. ((λ h. ahead-all (c .before .loop .inv) (c .loop-test .left)), omega (arith, c .before .loop .inv .short)))

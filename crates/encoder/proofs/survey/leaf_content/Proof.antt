@@ -1,5 +1,4 @@
 -- `encoder::survey::leaf_content` meets its contract.
--- Assumes nothing.
 use mathlib.Core.Path.{sym, _∙_}
 use native.Mathlib.Omega.{arith}
 use borrow.Author.Tests.{not-false}
@@ -7,18 +6,16 @@ use borrow.Author.Needs.{needs}
 use Rattle.encoder.proofs.survey.leaf_content.Statement.{statement}
 use Rattle.encoder.proofs.survey.leaf_content.Tie as tie
 
-leaf-ok-requires : tie.Need-leaf-ok-requires
-leaf-ok-requires c κs = search needs
-
 returns : tie.Need-returns
 returns c = ((λ h. absurd (omega (arith, h))), omega arith)
 
-argument-length-requires : tie.Need-argument-length-requires
-argument-length-requires c κs = search needs
-
 returns-2 : tie.Need-returns-2
-returns-2 c = ((λ h. (sym (c .before .before .leaf-ok .ensures) ∙ not-false _ (c .before .if1 .left), c .argument-length .ensures .0)), omega (arith, c .argument-length .ensures .1))
+returns-2 c = (
+  (λ h. (sym (c .before .before .leaf-ok .ensures) ∙ not-false _ (c .before .if1 .left), c .argument-length .ensures .0)),
+  omega
+      (arith, c .argument-length .ensures .1),
+)
 
 pub leaf-content-spec : {M : Type 1} → statement M
 leaf-content-spec =
-    tie.close (tie.spec leaf-ok-requires returns argument-length-requires returns-2)
+    tie.close (tie.spec (λ c κs. search needs) returns (λ c κs. search needs) returns-2)

@@ -1,5 +1,4 @@
 -- `encoder::write::encode_arg_data` meets its contract: of the row, what is written and what is left. The number of records falls.
--- Assumes nothing.
 use Prim.Native.Nat.{_-_}
 use native.Mathlib.Omega.{arith}
 use borrow.Author.Needs.{needs}
@@ -44,7 +43,8 @@ encode-arg-data-below t =
     encode-arg-data.Pre
 
 abbrev encode-arg-data-Inv-loop : encode-arg-data-lts.InvT-loop
-encode-arg-data-Inv-loop table lo hi source out₀ at₀ written₀ out at written = Going (Sound source) (dataOf source) (dataOf source) table lo hi out₀ out at written
+encode-arg-data-Inv-loop table lo hi source out₀ at₀ written₀ out at written =
+    Going (Sound source) (dataOf source) (dataOf source) table lo hi out₀ out at written
 
 abbrev encode-arg-data-μ-loop : encode-arg-data-lts.MeasureT-loop
 encode-arg-data-μ-loop table lo hi source out₀ at₀ written₀ out at written = hi - at
@@ -76,26 +76,63 @@ pub +encode-arg-data-spec : {M : Type 1} → statement M
     (λ c κs. omega (arith, c .before .before .loop .inv .table))
     (λ c κs. search needs)
     (λ c. search needs)
-    (λ c. omega (arith, ends (c .before .before .before .before .before .before .loop .inv) (c .before .before .before .before .before .loop-test .taken) (c .before .before .before .before .end-at .ensures)))
-    (λ c. omega (arith, room-left (c .before .before .before .before .before .before .loop .inv), filled-length (c .before .before .before .before .before .before .loop .inv .filled)))
-    (λ c. omega (arith, room-left (c .before .before .before .before .before .before .loop .inv), filled-length (c .before .before .before .before .before .before .loop .inv .filled)))
+    (λ c. let p4 = c .before .before .before .before in let p5 = p4 .before in let p6 = p5 .before in
+    omega (arith, ends (p6 .loop .inv) (p5 .loop-test .taken) (p4 .end-at .ensures)))
+    (λ c. let p6 = c .before .before .before .before .before .before in
+    omega (arith, room-left (p6 .loop .inv), filled-length (p6 .loop .inv .filled)))
+    (λ c. let p6 = c .before .before .before .before .before .before in
+    omega (arith, room-left (p6 .loop .inv), filled-length (p6 .loop .inv .filled)))
     (λ c. omega arith)
-    (λ c κs. (omega (arith, ends (c .before .before .before .before .before .before .before .loop .inv) (c .before .before .before .before .before .before .loop-test .taken) (c .before .before .before .before .before .end-at .ensures), c .before .before .before .before .before .before .before .loop .inv .passed, c .before .before .before .before .before .before .before .before .before .before .before .pre .0), data-inside (c .before .before .before .before .before .before .before .loop .inv) (c .before .before .before .before .before .before .loop-test .taken) (c .before .before .before .before .before .end-at .ensures) (c .before .before .before .before .kind-at .ensures) (c .before .before .before .sort-of .ensures) (c .before .enum-told .given .1)))
-    (λ c. omega (arith, array-after (c .before .before .before .before .before .before .before .before .before .before .loop .inv) (c .before .before .before .before .before .before .before .before .before .loop-test .taken) (c .before .before .before .before .before .before .before .before .end-at .ensures) (c .before .before .before .before .before .before .before .kind-at .ensures) (c .before .before .before .before .before .before .sort-of .ensures) (c .before .before .before .before .enum-told .given .1) (c .before .before .encode-arg-data .ensures)))
+    (λ c κs. let p3 = c .before .before .before in let p4 = p3 .before in let p5 = p4 .before in let p6 = p5 .before in
+    let p7 = p6 .before in let p11 = p7 .before .before .before .before in (
+      omega (arith, ends (p7 .loop .inv) (p6 .loop-test .taken) (p5 .end-at .ensures), p7 .loop .inv .passed, p11 .pre .0),
+      data-inside
+          (p7 .loop .inv) (p6 .loop-test .taken) (p5 .end-at .ensures) (p4 .kind-at .ensures) (p3 .sort-of .ensures)
+          (c .before .enum-told .given .1),
+    ))
+    (λ c. let p2 = c .before .before in let p4 = p2 .before .before in let p6 = p4 .before .before in let p7 = p6 .before in
+    let p8 = p7 .before in let p9 = p8 .before in let p10 = p9 .before in
+    omega (
+      arith,
+      array-after (p10 .loop .inv) (p9 .loop-test .taken) (p8 .end-at .ensures) (p7 .kind-at .ensures) (p6 .sort-of .ensures)
+          (p4 .enum-told .given .1) (p2 .encode-arg-data .ensures),
+    ))
     (λ c. search needs)
     (λ c. search needs)
-    (λ c κs. omega (arith, c .before .before .before .before .before .before .before .loop .inv .table))
-    (λ c κs. omega (arith, c .before .before .before .before .before .before .before .before .loop .inv .table))
-    (λ c. omega (arith, room-left (c .before .before .before .before .before .before .before .before .before .loop .inv), filled-length (c .before .before .before .before .before .before .before .before .before .loop .inv .filled)))
-    (λ c. omega (arith, room-left (c .before .before .before .before .before .before .before .before .before .loop .inv), filled-length (c .before .before .before .before .before .before .before .before .before .loop .inv .filled)))
+    (λ c κs. let p7 = c .before .before .before .before .before .before .before in omega (arith, p7 .loop .inv .table))
+    (λ c κs. let p8 = c .before .before .before .before .before .before .before .before in omega (arith, p8 .loop .inv .table))
+    (λ c. let p9 = c .before .before .before .before .before .before .before .before .before in
+    omega (arith, room-left (p9 .loop .inv), filled-length (p9 .loop .inv .filled)))
+    (λ c. let p9 = c .before .before .before .before .before .before .before .before .before in
+    omega (arith, room-left (p9 .loop .inv), filled-length (p9 .loop .inv .filled)))
     (λ c. omega arith)
-    (λ c κs. leaf-asked (c .before .before .before .before .before .before .before .before .before .before .loop .inv) (c .before .before .before .before .before .before .before .before .before .loop-test .taken) (c .before .before .before .before .before .before .before .before .end-at .ensures) (c .before .before .before .before .before .before .before .kind-at .ensures) (c .before .before .before .before .before .before .sort-of .ensures) (c .before .before .before .before .class .given .1) (c .before .before .a-at .ensures) (c .before .b-at .ensures))
-    (λ c. omega (arith, leaf-after (c .before .before .before .before .before .before .before .before .before .before .before .before .before .loop .inv) (c .before .before .before .before .before .before .before .before .before .before .before .before .loop-test .taken) (c .before .before .before .before .before .before .before .before .before .before .before .end-at .ensures) (c .before .before .before .before .before .before .before .before .before .before .kind-at .ensures) (c .before .before .before .before .before .before .before .before .before .sort-of .ensures) (c .before .before .before .before .before .before .before .class .given .1) (c .before .before .before .before .before .a-at .ensures) (c .before .before .before .before .b-at .ensures) (c .before .before .encode-leaf-data .ensures)))
-    (λ c. omega (arith, ends (c .before .before .before .before .before .before .before .before .before .before .loop .inv) (c .before .before .before .before .before .before .before .before .before .loop-test .taken) (c .before .before .before .before .before .before .before .before .end-at .ensures)))
-    (λ c. array-gone (c .before .before .before .before .before .before .before .before .before .before .loop .inv) (c .before .before .before .before .before .before .before .before .before .loop-test .taken) (c .before .before .before .before .before .before .before .before .end-at .ensures) (c .before .before .before .before .before .before .before .kind-at .ensures) (c .before .before .before .before .before .before .sort-of .ensures) (c .before .before .before .before .enum-told .given .1) (c .before .before .encode-arg-data .ensures))
-    (λ c. omega (arith, ends (c .before .before .before .before .before .before .loop .inv) (c .before .before .before .before .before .loop-test .taken) (c .before .before .before .before .end-at .ensures)))
-    (λ c. closes-gone (c .before .before .before .before .before .before .loop .inv) (c .before .before .before .before .before .loop-test .taken) (c .before .before .before .before .end-at .ensures) (c .before .before .before .kind-at .ensures) (c .before .before .sort-of .ensures) (c .enum-told2 .given .1))
-    (λ c. omega (arith, ends (c .before .before .before .before .before .before .before .before .before .before .before .before .before .loop .inv) (c .before .before .before .before .before .before .before .before .before .before .before .before .loop-test .taken) (c .before .before .before .before .before .before .before .before .before .before .before .end-at .ensures)))
-    (λ c. leaf-gone (c .before .before .before .before .before .before .before .before .before .before .before .before .before .loop .inv) (c .before .before .before .before .before .before .before .before .before .before .before .before .loop-test .taken) (c .before .before .before .before .before .before .before .before .before .before .before .end-at .ensures) (c .before .before .before .before .before .before .before .before .before .before .kind-at .ensures) (c .before .before .before .before .before .before .before .before .before .sort-of .ensures) (c .before .before .before .before .before .before .before .class .given .1) (c .before .before .before .before .before .a-at .ensures) (c .before .before .before .before .b-at .ensures) (c .before .before .encode-leaf-data .ensures))
+    (λ c κs. let p2 = c .before .before in let p4 = p2 .before .before in let p6 = p4 .before .before in let p7 = p6 .before in
+    let p8 = p7 .before in let p9 = p8 .before in let p10 = p9 .before in
+    leaf-asked (p10 .loop .inv) (p9 .loop-test .taken) (p8 .end-at .ensures) (p7 .kind-at .ensures) (p6 .sort-of .ensures)
+    (p4 .class .given .1) (p2 .a-at .ensures) (c .before .b-at .ensures))
+    (λ c. let p2 = c .before .before in let p4 = p2 .before .before in let p5 = p4 .before in let p7 = p5 .before .before in
+    let p9 = p7 .before .before in let p10 = p9 .before in let p11 = p10 .before in let p12 = p11 .before in let p13 = p12 .before in
+    omega (
+      arith,
+      leaf-after (p13 .loop .inv) (p12 .loop-test .taken) (p11 .end-at .ensures) (p10 .kind-at .ensures)
+          (p9 .sort-of .ensures) (p7 .class .given .1) (p5 .a-at .ensures) (p4 .b-at .ensures) (p2 .encode-leaf-data .ensures),
+    ))
+    (λ c. let p8 = c .before .before .before .before .before .before .before .before in let p9 = p8 .before in let p10 = p9 .before in
+    omega (arith, ends (p10 .loop .inv) (p9 .loop-test .taken) (p8 .end-at .ensures)))
+    (λ c. let p2 = c .before .before in let p4 = p2 .before .before in let p6 = p4 .before .before in let p7 = p6 .before in
+    let p8 = p7 .before in let p9 = p8 .before in let p10 = p9 .before in
+    array-gone (p10 .loop .inv) (p9 .loop-test .taken) (p8 .end-at .ensures) (p7 .kind-at .ensures) (p6 .sort-of .ensures)
+    (p4 .enum-told .given .1) (p2 .encode-arg-data .ensures))
+    (λ c. let p4 = c .before .before .before .before in let p5 = p4 .before in let p6 = p5 .before in
+    omega (arith, ends (p6 .loop .inv) (p5 .loop-test .taken) (p4 .end-at .ensures)))
+    (λ c. let p2 = c .before .before in let p3 = p2 .before in let p4 = p3 .before in let p5 = p4 .before in let p6 = p5 .before in
+    closes-gone (p6 .loop .inv) (p5 .loop-test .taken) (p4 .end-at .ensures) (p3 .kind-at .ensures) (p2 .sort-of .ensures)
+    (c .enum-told2 .given .1))
+    (λ c. let p11 = c .before .before .before .before .before .before .before .before .before .before .before in let p12 = p11 .before in
+    let p13 = p12 .before in omega (arith, ends (p13 .loop .inv) (p12 .loop-test .taken) (p11 .end-at .ensures)))
+    (λ c. let p2 = c .before .before in let p4 = p2 .before .before in let p5 = p4 .before in let p7 = p5 .before .before in
+    let p9 = p7 .before .before in let p10 = p9 .before in let p11 = p10 .before in let p12 = p11 .before in let p13 = p12 .before in
+    leaf-gone (p13 .loop .inv) (p12 .loop-test .taken) (p11 .end-at .ensures) (p10 .kind-at .ensures) (p9 .sort-of .ensures)
+    (p7 .class .given .1) (p5 .a-at .ensures) (p4 .b-at .ensures) (p2 .encode-leaf-data .ensures))
     (λ c. filled-length (c .before .loop .inv .filled))
     (λ c. ended (c .before .loop .inv) (data-none _) (c .loop-test .left))

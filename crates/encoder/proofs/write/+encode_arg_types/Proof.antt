@@ -1,5 +1,4 @@
 -- `encoder::write::encode_arg_types` meets its contract: of the row, what is written and what is left. The number of records falls.
--- Assumes nothing.
 use Prim.Native.Nat.{_-_}
 use native.Mathlib.Omega.{arith}
 use lib.ListN.{length-set}
@@ -61,19 +60,52 @@ pub +encode-arg-types-spec : {M : Type 1} → statement M
     (λ c κs. omega (arith, c .before .loop .inv .table))
     (λ c κs. omega (arith, c .before .before .loop .inv .table))
     (λ c. omega arith)
-    (λ c. omega (arith, tag-room (c .before .before .before .loop .inv) (c .before .before .loop-test .taken), filled-length (c .before .before .before .loop .inv .filled)))
-    (λ c. omega (arith, tag-room (c .before .before .before .loop .inv) (c .before .before .loop-test .taken)))
-    (λ c. omega (arith, ends (c .before .before .before .before .loop .inv) (c .before .before .before .loop-test .taken) (c .before .end-at .ensures)))
-    (λ c. simp length-set (omega (arith, tag-room (c .before .before .before .before .loop .inv) (c .before .before .before .loop-test .taken), filled-length (c .before .before .before .before .loop .inv .filled))))
-    (λ c. simp length-set (omega (arith, tag-room (c .before .before .before .before .loop .inv) (c .before .before .before .loop-test .taken), filled-length (c .before .before .before .before .loop .inv .filled))))
+    (λ c. let p2 = c .before .before in let p3 = p2 .before in
+    omega (arith, tag-room (p3 .loop .inv) (p2 .loop-test .taken), filled-length (p3 .loop .inv .filled)))
+    (λ c. let p2 = c .before .before in let p3 = p2 .before in omega (arith, tag-room (p3 .loop .inv) (p2 .loop-test .taken)))
+    (λ c. let p3 = c .before .before .before in let p4 = p3 .before in
+    omega (arith, ends (p4 .loop .inv) (p3 .loop-test .taken) (c .before .end-at .ensures)))
+    (λ c. let p3 = c .before .before .before in let p4 = p3 .before in
+    simp length-set (omega (arith, tag-room (p4 .loop .inv) (p3 .loop-test .taken), filled-length (p4 .loop .inv .filled))))
+    (λ c. let p3 = c .before .before .before in let p4 = p3 .before in
+    simp length-set (omega (arith, tag-room (p4 .loop .inv) (p3 .loop-test .taken), filled-length (p4 .loop .inv .filled))))
     (λ c. omega arith)
-    (λ c κs. (omega (arith, ends (c .before .before .before .before .before .loop .inv) (c .before .before .before .before .loop-test .taken) (c .before .before .end-at .ensures), c .before .before .before .before .before .loop .inv .passed, c .before .before .before .before .before .before .before .before .pre .0), tags-inside (c .before .before .before .before .before .loop .inv) (c .before .before .before .before .loop-test .taken) (c .before .before .before .kind-at .ensures) (c .before .before .end-at .ensures) (c .before .if1 .taken)))
-    (λ c. omega (arith, close-room (c .before .before .before .before .before .before .before .before .loop .inv) (c .before .before .before .before .before .before .before .loop-test .taken) (c .before .before .before .before .before .before .kind-at .ensures) (c .before .before .before .before .before .end-at .ensures) (c .before .before .before .before .if1 .taken) (c .before .before .encode-arg-types .ensures)))
-    (λ c. omega (arith, close-room (c .before .before .before .before .before .before .before .before .loop .inv) (c .before .before .before .before .before .before .before .loop-test .taken) (c .before .before .before .before .before .before .kind-at .ensures) (c .before .before .before .before .before .end-at .ensures) (c .before .before .before .before .if1 .taken) (c .before .before .encode-arg-types .ensures)))
-    (λ c. omega (arith, close-room (c .before .before .before .before .before .before .before .before .loop .inv) (c .before .before .before .before .before .before .before .loop-test .taken) (c .before .before .before .before .before .before .kind-at .ensures) (c .before .before .before .before .before .end-at .ensures) (c .before .before .before .before .if1 .taken) (c .before .before .encode-arg-types .ensures)))
-    (λ c. omega (arith, ends (c .before .before .before .before .before .before .before .before .loop .inv) (c .before .before .before .before .before .before .before .loop-test .taken) (c .before .before .before .before .before .end-at .ensures)))
-    (λ c. tags-array-gone (c .before .before .before .before .before .before .before .before .loop .inv) (c .before .before .before .before .before .before .before .loop-test .taken) (c .before .before .before .before .before .before .kind-at .ensures) (c .before .before .before .before .before .end-at .ensures) (c .before .before .before .before .if1 .taken) (c .before .before .encode-arg-types .ensures))
-    (λ c. omega (arith, ends (c .before .before .before .before .loop .inv) (c .before .before .before .loop-test .taken) (c .before .end-at .ensures)))
-    (λ c. tags-leaf-gone (c .before .before .before .before .loop .inv) (c .before .before .before .loop-test .taken) (c .before .before .kind-at .ensures) (c .before .end-at .ensures) (c .if1 .left))
+    (λ c κs. let p2 = c .before .before in let p3 = p2 .before in let p4 = p3 .before in let p5 = p4 .before in
+    let p8 = p5 .before .before .before in (
+      omega (arith, ends (p5 .loop .inv) (p4 .loop-test .taken) (p2 .end-at .ensures), p5 .loop .inv .passed, p8 .pre .0),
+      tags-inside
+          (p5 .loop .inv) (p4 .loop-test .taken) (p3 .kind-at .ensures) (p2 .end-at .ensures) (c .before .if1 .taken),
+    ))
+    (λ c. let p2 = c .before .before in let p4 = p2 .before .before in let p5 = p4 .before in let p6 = p5 .before in
+    let p7 = p6 .before in let p8 = p7 .before in
+    omega (
+      arith,
+      close-room (p8 .loop .inv) (p7 .loop-test .taken) (p6 .kind-at .ensures) (p5 .end-at .ensures) (p4 .if1 .taken)
+          (p2 .encode-arg-types .ensures),
+    ))
+    (λ c. let p2 = c .before .before in let p4 = p2 .before .before in let p5 = p4 .before in let p6 = p5 .before in
+    let p7 = p6 .before in let p8 = p7 .before in
+    omega (
+      arith,
+      close-room (p8 .loop .inv) (p7 .loop-test .taken) (p6 .kind-at .ensures) (p5 .end-at .ensures) (p4 .if1 .taken)
+          (p2 .encode-arg-types .ensures),
+    ))
+    (λ c. let p2 = c .before .before in let p4 = p2 .before .before in let p5 = p4 .before in let p6 = p5 .before in
+    let p7 = p6 .before in let p8 = p7 .before in
+    omega (
+      arith,
+      close-room (p8 .loop .inv) (p7 .loop-test .taken) (p6 .kind-at .ensures) (p5 .end-at .ensures) (p4 .if1 .taken)
+          (p2 .encode-arg-types .ensures),
+    ))
+    (λ c. let p5 = c .before .before .before .before .before in let p7 = p5 .before .before in let p8 = p7 .before in
+    omega (arith, ends (p8 .loop .inv) (p7 .loop-test .taken) (p5 .end-at .ensures)))
+    (λ c. let p2 = c .before .before in let p4 = p2 .before .before in let p5 = p4 .before in let p6 = p5 .before in
+    let p7 = p6 .before in let p8 = p7 .before in
+    tags-array-gone (p8 .loop .inv) (p7 .loop-test .taken) (p6 .kind-at .ensures) (p5 .end-at .ensures) (p4 .if1 .taken)
+    (p2 .encode-arg-types .ensures))
+    (λ c. let p3 = c .before .before .before in let p4 = p3 .before in
+    omega (arith, ends (p4 .loop .inv) (p3 .loop-test .taken) (c .before .end-at .ensures)))
+    (λ c. let p2 = c .before .before in let p3 = p2 .before in let p4 = p3 .before in
+    tags-leaf-gone (p4 .loop .inv) (p3 .loop-test .taken) (p2 .kind-at .ensures) (c .before .end-at .ensures) (c .if1 .left))
     (λ c. filled-length (c .before .loop .inv .filled))
     (λ c. ended (c .before .loop .inv) tags-none (c .loop-test .left))

@@ -1,5 +1,5 @@
 -- `encoder::write::encode_bundle` and `encode_packet` meet their contracts: of a bundle's elements, what is written and what is left.
--- The number of records falls, and a packet stands above the bundle at the same record. Assumes nothing.
+-- The number of records falls, and a packet stands above the bundle at the same record.
 use mathlib.Core.Path.{sym, _∙_}
 use Prim.Native.Nat.{_+_, _-_, _*_}
 use native.Mathlib.Omega.{arith}
@@ -10,7 +10,8 @@ use Rattle.types.specs.Records.{endAt}
 use Rattle.encoder.specs.Osc.{elementsOf}
 use Rattle.encoder.specs.Writers.{Sound, packetAt}
 use Rattle.encoder.proofs.Rows.{Going, next, ends}
-use Rattle.encoder.proofs.Packets.{before-end, head-asked, bundle-begun, bundle-ended, element-room, packet-asked, packet-after, element-gone}
+use Rattle.encoder.proofs.Packets.{before-end, head-asked, bundle-begun, bundle-ended, element-room, packet-asked, packet-after}
+use Rattle.encoder.proofs.Packets.{element-gone}
 use Prim.Native.Nat.{ℕ, _<_}
 use Rattle.types.proofs.record.kind_at.Reads as kind-at-reads
 use Rattle.types.proofs.record.end_at.Reads as end-at-reads
@@ -61,7 +62,8 @@ encode-packet-below t =
     encode-packet.Pre
 
 abbrev encode-bundle-Inv-loop : encode-bundle-lts.InvT-loop
-encode-bundle-Inv-loop table at source out₀ end written₀ next₀ out written next = Going (Sound source) (packetAt source table at) (elementsOf source) table (at + 1) end out₀ out next written
+encode-bundle-Inv-loop table at source out₀ end written₀ next₀ out written next =
+    Going (Sound source) (packetAt source table at) (elementsOf source) table (at + 1) end out₀ out next written
 
 abbrev encode-bundle-μ-loop : encode-bundle-lts.MeasureT-loop
 encode-bundle-μ-loop table at source out₀ end written₀ next₀ out written next = end - next
@@ -88,28 +90,57 @@ pub +encode-bundle+encode-packet-spec : {M : Type 1} → statement M
     encode-bundle-μ-loop
     (λ c κs. let s = c .before .before .before in before-end (s .args .out .now) (s .pre .1 .1) .1)
     (λ c. omega arith)
-    (λ c κs. let s = c .before .before .before .before in before-end (s .args .out .now) (s .pre .1 .1) .1)
-    (λ c κs. let s = c .before .before .before .before .before in before-end (s .args .out .now) (s .pre .1 .1) .1)
-    (λ c κs. let s = c .before .before .before .before .before .before .before in head-asked (s .args .out .now) (s .pre .1 .0) (s .pre .1 .1) (c .before .before .before .end-at .ensures) (c .before .before .a-at .ensures) (c .before .b-at .ensures))
-    (λ c. let s = c .before .before .before .before .before .before .before .before .before .before in omega (arith, before-end (s .args .out .now) (s .pre .1 .1)))
-    (λ c. let s = c .before .before .before .before .before .before .before .before .before .before in bundle-begun (s .args .out .now) (s .pre .1 .0) (s .pre .1 .1) (c .before .before .before .before .before .before .end-at .ensures) (c .before .before .before .before .before .a-at .ensures) (c .before .before .before .before .b-at .ensures) (c .before .before .encode-bundle-head .ensures))
+    (λ c κs. let p4 = c .before .before .before .before in let s = p4 in before-end (s .args .out .now) (s .pre .1 .1) .1)
+    (λ c κs. let p5 = c .before .before .before .before .before in let s = p5 in before-end (s .args .out .now) (s .pre .1 .1) .1)
+    (λ c κs. let p2 = c .before .before in let p3 = p2 .before in let p7 = p3 .before .before .before .before in let s = p7 in
+    head-asked (s .args .out .now) (s .pre .1 .0) (s .pre .1 .1) (p3 .end-at .ensures) (p2 .a-at .ensures) (c .before .b-at .ensures))
+    (λ c. let p10 = c .before .before .before .before .before .before .before .before .before .before in let s = p10 in
+    omega (arith, before-end (s .args .out .now) (s .pre .1 .1)))
+    (λ c. let p2 = c .before .before in let p4 = p2 .before .before in let p5 = p4 .before in let p6 = p5 .before in
+    let p10 = p6 .before .before .before .before in let s = p10 in
+    bundle-begun (s .args .out .now) (s .pre .1 .0) (s .pre .1 .1) (p6 .end-at .ensures) (p5 .a-at .ensures) (p4 .b-at .ensures)
+    (p2 .encode-bundle-head .ensures))
     (λ c. omega (arith, element-room (c .before .loop .inv) (c .loop-test .taken)))
     (λ c. omega (arith, element-room (c .before .loop .inv) (c .loop-test .taken)))
     (λ c. omega (arith, element-room (c .before .loop .inv) (c .loop-test .taken)))
     (λ c. omega arith)
-    (λ c κs. (omega (arith, c .before .before .loop .inv .passed, next (c .before .before .loop .inv) (c .before .loop-test .taken) .on, next (c .before .before .loop .inv) (c .before .loop-test .taken) .within, c .before .before .before .before .before .before .before .before .before .end-at .ensures, c .before .before .before .before .before .before .before .before .before .before .before .before .before .pre .0), packet-asked (c .before .before .loop .inv) (c .before .loop-test .taken)))
-    (λ c. omega (arith, packet-after (c .before .before .before .before .before .loop .inv) (c .before .before .before .before .loop-test .taken) (c .before .before .encode-packet .ensures)))
-    (λ c. omega (arith, packet-after (c .before .before .before .before .before .loop .inv) (c .before .before .before .before .loop-test .taken) (c .before .before .encode-packet .ensures)))
+    (λ c κs. let p2 = c .before .before in let p9 = p2 .before .before .before .before .before .before .before in
+    let p13 = p9 .before .before .before .before in (
+      omega (
+        arith,
+        p2 .loop .inv .passed,
+        next (p2 .loop .inv) (c .before .loop-test .taken) .on,
+        next (p2 .loop .inv)
+            (c .before .loop-test .taken) .within,
+        p9 .end-at .ensures,
+        p13 .pre .0,
+      ),
+      packet-asked (p2 .loop .inv) (c .before .loop-test .taken),
+    ))
+    (λ c. let p2 = c .before .before in let p4 = p2 .before .before in let p5 = p4 .before in
+    omega (arith, packet-after (p5 .loop .inv) (p4 .loop-test .taken) (p2 .encode-packet .ensures)))
+    (λ c. let p2 = c .before .before in let p4 = p2 .before .before in let p5 = p4 .before in
+    omega (arith, packet-after (p5 .loop .inv) (p4 .loop-test .taken) (p2 .encode-packet .ensures)))
     (λ c. omega arith)
-    (λ c. omega (arith, packet-after (c .before .before .before .before .before .before .loop .inv) (c .before .before .before .before .before .loop-test .taken) (c .before .before .before .encode-packet .ensures)))
-    (λ c κs. rw length-lent (omega (arith, packet-after (c .before .before .before .before .before .before .loop .inv) (c .before .before .before .before .before .loop-test .taken) (c .before .before .before .encode-packet .ensures))))
-    (λ c. omega (arith, packet-after (c .before .before .before .before .before .before .before .before .before .loop .inv) (c .before .before .before .before .before .before .before .before .loop-test .taken) (c .before .before .before .before .before .before .encode-packet .ensures)))
-    (λ c κs. omega (arith, c .before .before .before .before .before .before .before .before .before .loop .inv .table))
+    (λ c. let p3 = c .before .before .before in let p5 = p3 .before .before in let p6 = p5 .before in
+    omega (arith, packet-after (p6 .loop .inv) (p5 .loop-test .taken) (p3 .encode-packet .ensures)))
+    (λ c κs. let p3 = c .before .before .before in let p5 = p3 .before .before in let p6 = p5 .before in
+    rw length-lent (omega (arith, packet-after (p6 .loop .inv) (p5 .loop-test .taken) (p3 .encode-packet .ensures))))
+    (λ c. let p6 = c .before .before .before .before .before .before in let p8 = p6 .before .before in let p9 = p8 .before in
+    omega (arith, packet-after (p9 .loop .inv) (p8 .loop-test .taken) (p6 .encode-packet .ensures)))
+    (λ c κs. let p9 = c .before .before .before .before .before .before .before .before .before in omega (arith, p9 .loop .inv .table))
     (λ c. omega arith)
-    (λ c. omega (arith, ends (c .before .before .before .before .before .before .before .before .before .before .loop .inv) (c .before .before .before .before .before .before .before .before .before .loop-test .taken) (c .end-at2 .ensures)))
-    (λ c. element-gone (c .before .before .before .before .before .before .before .before .before .before .loop .inv) (c .before .before .before .before .before .before .before .before .before .loop-test .taken) (c .before .before .before .before .before .before .before .encode-packet .ensures) (c .before .before .before .put-u32 .ensures) (c .end-at2 .ensures))
-    (λ c. filled-length (c .before .loop .inv .filled) ∙ filled-length (c .before .before .before .before .encode-bundle-head .ensures))
-    (λ c. let s = c .before .before .before .before .before .before .before .before .before .before .before .before in bundle-ended (s .args .out .now) (s .pre .1 .0) (s .pre .1 .1) (c .before .before .before .before .before .before .before .before .end-at .ensures) (c .before .before .before .before .before .before .before .a-at .ensures) (c .before .before .before .before .before .before .b-at .ensures) (c .before .before .before .before .encode-bundle-head .ensures) (c .before .loop .inv) (c .loop-test .left)))
+    (λ c. let p9 = c .before .before .before .before .before .before .before .before .before in let p10 = p9 .before in
+    omega (arith, ends (p10 .loop .inv) (p9 .loop-test .taken) (c .end-at2 .ensures)))
+    (λ c. let p3 = c .before .before .before in let p7 = p3 .before .before .before .before in let p9 = p7 .before .before in
+    let p10 = p9 .before in
+    element-gone (p10 .loop .inv) (p9 .loop-test .taken) (p7 .encode-packet .ensures) (p3 .put-u32 .ensures) (c .end-at2 .ensures))
+    (λ c. let p4 = c .before .before .before .before in
+    filled-length (c .before .loop .inv .filled) ∙ filled-length (p4 .encode-bundle-head .ensures))
+    (λ c. let p4 = c .before .before .before .before in let p6 = p4 .before .before in let p7 = p6 .before in let p8 = p7 .before in
+    let p12 = p8 .before .before .before .before in let s = p12 in
+    bundle-ended (s .args .out .now) (s .pre .1 .0) (s .pre .1 .1) (p8 .end-at .ensures) (p7 .a-at .ensures) (p6 .b-at .ensures)
+    (p4 .encode-bundle-head .ensures) (c .before .loop .inv) (c .loop-test .left)))
     λ t. encode-packet-lts.spec (
       kind-at-reads.Asked,
       kind-at-reads.Learnt,
@@ -120,10 +151,12 @@ pub +encode-bundle+encode-packet-spec : {M : Type 1} → statement M
     )
     (encode-packet-at t)
     encode-packet.Post
-    (λ c κs. before-end (c .before .before .before .args .out .now) (c .before .before .before .pre .1) .1)
-    (λ c κs. (sym (c .before .before .kind-at .ensures) ∙ (c .before .if1 .taken), c .before .before .before .before .before .before .pre .1))
+    (λ c κs. let p3 = c .before .before .before in before-end (p3 .args .out .now) (p3 .pre .1) .1)
+    (λ c κs. let p2 = c .before .before in let p6 = p2 .before .before .before .before in
+    (sym (p2 .kind-at .ensures) ∙ (c .before .if1 .taken), p6 .pre .1))
     (λ c. search needs)
     (λ c. c .before .before .encode-message .ensures)
-    (λ c κs. (omega (arith, c .before .before .before .before .before .before .pre .0), ((λ y. (c .before .if1 .left) ((c .before .before .kind-at .ensures) ∙ y)), c .before .before .before .before .before .before .pre .1)))
+    (λ c κs. let p2 = c .before .before in let p6 = p2 .before .before .before .before in
+    (omega (arith, p6 .pre .0), ((λ y. (c .before .if1 .left) ((p2 .kind-at .ensures) ∙ y)), p6 .pre .1)))
     (λ c. search needs)
     (λ c. c .before .before .encode-bundle .ensures)

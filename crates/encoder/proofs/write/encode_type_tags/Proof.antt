@@ -1,5 +1,4 @@
 -- `encoder::write::encode_type_tags` meets its contract.
--- Assumes nothing.
 use Prim.Native.Nat.{ℕ, _+_, _-_, _%_}
 use native.Mathlib.Omega.{arith}
 use lib.ListN.{length-set, length-replicate}
@@ -11,46 +10,75 @@ use Rattle.encoder.proofs.write.encode_type_tags.Statement.{statement}
 use Rattle.encoder.proofs.write.encode_type_tags.Tie as tie
 
 slice-write-out : tie.Need-slice-write-out
-slice-write-out c = omega (arith, text-room (c .before .before .args .out .now) (c .before .before .pre))
+slice-write-out c =
+    let p2 = c .before .before in
+    omega (arith, text-room (p2 .args .out .now) (p2 .pre))
 
 sub-encode-arg-types : tie.Need-sub-encode-arg-types
-sub-encode-arg-types c = simp length-set (omega (arith, text-room (c .before .before .args .out .now) (c .before .before .pre)))
+sub-encode-arg-types c =
+    let p2 = c .before .before in
+    simp length-set (omega (arith, text-room (p2 .args .out .now) (p2 .pre)))
 
 part-encode-arg-types-start : tie.Need-part-encode-arg-types-start
-part-encode-arg-types-start c = simp length-set (omega (arith, text-room (c .before .before .args .out .now) (c .before .before .pre)))
-
-part-encode-arg-types-end : tie.Need-part-encode-arg-types-end
-part-encode-arg-types-end c = search needs
+part-encode-arg-types-start c =
+    let p2 = c .before .before in
+    simp length-set (omega (arith, text-room (p2 .args .out .now) (p2 .pre)))
 
 encode-arg-types-requires : tie.Need-encode-arg-types-requires
-encode-arg-types-requires c κs = tags-asked (c .before .before .before .args .out .now) (c .before .before .before .pre)
+encode-arg-types-requires c κs =
+    let p3 = c .before .before .before in
+    tags-asked (p3 .args .out .now) (p3 .pre)
 
 add-end : tie.Need-add-end
-add-end c = omega (arith, tagged-room (c .before .before .before .before .before .before .args .out .now) (c .before .before .before .before .before .before .pre) (c .before .before .encode-arg-types .ensures))
-
-sub-write-zeros : tie.Need-sub-write-zeros
-sub-write-zeros c = search needs
+add-end c =
+    let p2 = c .before .before in
+    let p6 = p2 .before .before .before .before in
+    omega (arith, tagged-room (p6 .args .out .now) (p6 .pre) (p2 .encode-arg-types .ensures))
 
 sub-write-zeros-2 : tie.Need-sub-write-zeros-2
-sub-write-zeros-2 c = omega (arith, tagged-room (c .before .before .before .before .before .before .args .out .now) (c .before .before .before .before .before .before .pre) (c .before .before .encode-arg-types .ensures))
+sub-write-zeros-2 c =
+    let p2 = c .before .before in
+    let p6 = p2 .before .before .before .before in
+    omega (arith, tagged-room (p6 .args .out .now) (p6 .pre) (p2 .encode-arg-types .ensures))
 
 part-write-zeros-start : tie.Need-part-write-zeros-start
-part-write-zeros-start c = omega (arith, tagged-room (c .before .before .before .before .before .before .args .out .now) (c .before .before .before .before .before .before .pre) (c .before .before .encode-arg-types .ensures))
-
-part-write-zeros-end : tie.Need-part-write-zeros-end
-part-write-zeros-end c = search needs
+part-write-zeros-start c =
+    let p2 = c .before .before in
+    let p6 = p2 .before .before .before .before in
+    omega (arith, tagged-room (p6 .args .out .now) (p6 .pre) (p2 .encode-arg-types .ensures))
 
 write-zeros-requires : tie.Need-write-zeros-requires
-write-zeros-requires c κs = rw length-lent (omega (arith, tagged-room (c .before .before .before .before .before .before .before .args .out .now) (c .before .before .before .before .before .before .before .pre) (c .before .before .before .encode-arg-types .ensures)))
+write-zeros-requires c κs =
+    let p3 = c .before .before .before in
+    let p7 = p3 .before .before .before .before in
+    rw length-lent (omega (arith, tagged-room (p7 .args .out .now) (p7 .pre) (p3 .encode-arg-types .ensures)))
 
 add-result : tie.Need-add-result
-add-result c = omega (arith, tagged-room (c .before .before .before .before .before .before .before .before .before .before .args .out .now) (c .before .before .before .before .before .before .before .before .before .before .pre) (c .before .before .before .before .before .before .encode-arg-types .ensures), c .before .before .write-zeros .ensures .count, length-replicate {A = ℕ} (4 - (1 + c .before .before .before .before .before .before .encode-arg-types .result) % 4) 0)
+add-result c =
+    let p2 = c .before .before in
+    let p6 = p2 .before .before .before .before in
+    let p10 = p6 .before .before .before .before in
+    omega (
+      arith,
+      tagged-room (p10 .args .out .now) (p10 .pre) (p6 .encode-arg-types .ensures),
+      p2 .write-zeros .ensures .count,
+      length-replicate {A = ℕ} (4 - (1 + p6 .encode-arg-types .result) % 4) 0,
+    )
 
 same-length : tie.Need-same-length
-same-length c = filled-length (text-filled (c .before .before .before .before .before .before .before .before .before .before .args .out .now) (c .before .before .before .before .before .before .before .before .before .before .pre) (c .before .before .before .before .before .before .encode-arg-types .ensures) (c .before .before .write-zeros .ensures) (c .before .before .before .before .before .before .before .before .before .before .pre .forest) (c .before .before .before .before .before .before .before .before .before .before .pre .spans))
+same-length c =
+    let p2 = c .before .before in
+    let p6 = p2 .before .before .before .before in
+    let p10 = p6 .before .before .before .before in
+    filled-length (text-filled (p10 .args .out .now) (p10 .pre) (p6 .encode-arg-types .ensures) (p2 .write-zeros .ensures)
+    (p10 .pre .forest) (p10 .pre .spans))
 
 returns : tie.Need-returns
-returns c = text-filled (c .before .before .before .before .before .before .before .before .before .before .args .out .now) (c .before .before .before .before .before .before .before .before .before .before .pre) (c .before .before .before .before .before .before .encode-arg-types .ensures) (c .before .before .write-zeros .ensures)
+returns c =
+    let p2 = c .before .before in
+    let p6 = p2 .before .before .before .before in
+    let p10 = p6 .before .before .before .before in
+    text-filled (p10 .args .out .now) (p10 .pre) (p6 .encode-arg-types .ensures) (p2 .write-zeros .ensures)
 
 pub encode-type-tags-spec : {M : Type 1} → statement M
 encode-type-tags-spec =
@@ -59,13 +87,13 @@ encode-type-tags-spec =
     slice-write-out
     sub-encode-arg-types
     part-encode-arg-types-start
-    part-encode-arg-types-end
+    (λ c. search needs)
     encode-arg-types-requires
     add-end
-    sub-write-zeros
+    (λ c. search needs)
     sub-write-zeros-2
     part-write-zeros-start
-    part-write-zeros-end
+    (λ c. search needs)
     write-zeros-requires
     add-result
     same-length

@@ -1,5 +1,4 @@
 -- `encoder::write::write` meets its contract. After i turns the first i bytes are written.
--- Assumes nothing.
 use mathlib.Core.Path.{_≡_, refl}
 use Prim.Native.Nat.{_≤_, _-_}
 use native.Mathlib.Omega.{arith}
@@ -34,11 +33,14 @@ loop-less c = omega arith
 
 loop-again : tie.Need-loop-again Inv-loop μ-loop
 loop-again c =
-    let bytes = c .before .before .before .args .bytes .now in
-    let i = c .before .before .loop .i in (
+    let p2 = c .before .before in
+    let p3 = p2 .before in
+    let bytes = p3 .args .bytes .now in
+    let i = p2 .loop .i in (
       omega arith,
-      rw (add-one, take-suc bytes i 0 (omega arith)) (wrote-set _ _ _ (c .before .before .loop .inv .1) i _ (length-take-le i bytes (omega arith)) (omega arith)),
-      simp length-set (c .before .before .loop .inv .2),
+      rw (add-one, take-suc bytes i 0 (omega arith))
+          (wrote-set _ _ _ (p2 .loop .inv .1) i _ (length-take-le i bytes (omega arith)) (omega arith)),
+      simp length-set (p2 .loop .inv .2),
     )
 
 same-length : tie.Need-same-length Inv-loop μ-loop

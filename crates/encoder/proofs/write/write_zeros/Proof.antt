@@ -1,5 +1,4 @@
 -- `encoder::write::write_zeros` meets its contract. Before each test as many zeros are written as n was compared with.
--- Assumes nothing.
 use mathlib.Core.Path.{_≡_, refl}
 use mathlib.Core.List.{List}
 use Prim.Native.Nat.{ℕ, zero, suc, _+_, _≤_}
@@ -27,20 +26,11 @@ zeroed-filled (suc i) o h =
 returns : tie.Need-returns
 returns c = rw (c .if1 .taken) (zeroed-filled 0 (c .before .args .out .now) (omega arith))
 
-slice-write-out : tie.Need-slice-write-out
-slice-write-out c = search needs
-
-same-length : tie.Need-same-length
-same-length c = search needs
-
 returns-2 : tie.Need-returns-2
 returns-2 c = rw (c .if2 .taken) (zeroed-filled 1 (c .before .before .args .out .now) (omega arith))
 
 slice-write-out-2 : tie.Need-slice-write-out-2
 slice-write-out-2 c = simp length-set (omega arith)
-
-same-length-2 : tie.Need-same-length-2
-same-length-2 c = search needs
 
 returns-3 : tie.Need-returns-3
 returns-3 c = rw (c .if3 .taken) (zeroed-filled 2 (c .before .before .before .args .out .now) (omega arith))
@@ -48,37 +38,34 @@ returns-3 c = rw (c .if3 .taken) (zeroed-filled 2 (c .before .before .before .ar
 slice-write-out-3 : tie.Need-slice-write-out-3
 slice-write-out-3 c = simp length-set (omega arith)
 
-same-length-3 : tie.Need-same-length-3
-same-length-3 c = search needs
-
 returns-4 : tie.Need-returns-4
-returns-4 c = rw (c .if4 .taken) (zeroed-filled 3 (c .before .before .before .before .args .out .now) (omega arith))
+returns-4 c =
+    let p4 = c .before .before .before .before in
+    rw (c .if4 .taken) (zeroed-filled 3 (p4 .args .out .now) (omega arith))
 
 slice-write-out-4 : tie.Need-slice-write-out-4
 slice-write-out-4 c = simp length-set (omega arith)
 
-same-length-4 : tie.Need-same-length-4
-same-length-4 c = search needs
-
 returns-5 : tie.Need-returns-5
 returns-5 c =
-    let e : c .before .before .before .before .args .n ≡ 4 = omega arith in
-    rw e (zeroed-filled 4 (c .before .before .before .before .args .out .now) (omega arith))
+    let p4 = c .before .before .before .before in
+    let e : p4 .args .n ≡ 4 = omega arith in
+    rw e (zeroed-filled 4 (p4 .args .out .now) (omega arith))
 
 pub write-zeros-spec : {M : Type 1} → statement M
 write-zeros-spec =
     tie.close
     (tie.spec
     returns
-    slice-write-out
-    same-length
+    (λ c. search needs)
+    (λ c. search needs)
     returns-2
     slice-write-out-2
-    same-length-2
+    (λ c. search needs)
     returns-3
     slice-write-out-3
-    same-length-3
+    (λ c. search needs)
     returns-4
     slice-write-out-4
-    same-length-4
+    (λ c. search needs)
     returns-5)

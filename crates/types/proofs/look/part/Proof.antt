@@ -1,5 +1,4 @@
 -- `types::look::part` meets its contract. By the test of the range's end.
--- Assumes nothing.
 use mathlib.Core.Path.{_≡_}
 use Prim.Native.Nat.{_+_, _-_}
 use native.Mathlib.Omega.{arith}
@@ -8,18 +7,6 @@ use borrow.Author.Tests.{le-leb, lt-leb}
 use borrow.Author.Needs.{needs}
 use Rattle.types.proofs.look.part.Statement.{statement}
 use Rattle.types.proofs.look.part.Tie as tie
-
-add-to : tie.Need-add-to
-add-to c = search needs
-
-sub-result : tie.Need-sub-result
-sub-result c = search needs
-
-part-result-start : tie.Need-part-result-start
-part-result-start c = search needs
-
-part-result-end : tie.Need-part-result-end
-part-result-end c = search needs
 
 returns : tie.Need-returns
 returns c =
@@ -32,4 +19,4 @@ returns-2 c = rw (lt-leb _ _ (c .if1 .left))
 
 pub part-spec : {M : Type 1} → statement M
 part-spec =
-    tie.close (tie.spec add-to sub-result part-result-start part-result-end returns returns-2)
+    tie.close (tie.spec (λ c. search needs) (λ c. search needs) (λ c. search needs) (λ c. search needs) returns returns-2)

@@ -1,5 +1,4 @@
 -- `types::record::zeros_at` meets its contract: the three bytes are what the first four leave without the kind.
--- Assumes nothing.
 use mathlib.Core.Path.{ap, _∙_}
 use Prim.Native.Nat.{ℕ, _%_}
 use native.Mathlib.Omega.{arith}
@@ -8,12 +7,6 @@ use Rattle.types.proofs.Recorded.{zeros-read}
 use Rattle.types.proofs.record.zeros_at.Statement.{statement}
 use Rattle.types.proofs.record.zeros_at.Tie as tie
 
-mul-be-u32 : tie.Need-mul-be-u32
-mul-be-u32 c = search needs
-
-be-u32-requires : tie.Need-be-u32-requires
-be-u32-requires c κs = search needs
-
 returns : tie.Need-returns
 returns c =
     let a = c .before .before .args in
@@ -21,4 +14,4 @@ returns c =
     ∙ zeros-read (a .table .now) (a .index) (λ j. omega (arith, c .before .shared-slice-known .given j)) (search needs)
 
 pub zeros-at-spec : {M : Type 1} → statement M
-zeros-at-spec = tie.close (tie.spec mul-be-u32 be-u32-requires returns)
+zeros-at-spec = tie.close (tie.spec (λ c. search needs) (λ c κs. search needs) returns)

@@ -1,5 +1,4 @@
 -- `types::tags::is_scalar` meets its contract. By its tests.
--- Assumes nothing.
 use borrow.Author.Tests.{lt-ltb, le-ltb, lt-leb, le-leb}
 use Rattle.types.proofs.tags.is_scalar.Statement.{statement}
 use Rattle.types.proofs.tags.is_scalar.Tie as tie

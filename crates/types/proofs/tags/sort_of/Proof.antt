@@ -1,5 +1,4 @@
 -- `types::tags::sort_of` meets its contract. Each arm by its key.
--- Assumes nothing.
 use mathlib.Core.Path.{ap}
 use borrow.Author.Tests.{ne-eqb}
 use borrow.Author.Needs.{needs}
@@ -7,9 +6,6 @@ use Rattle.types.specs.Tags.{sortOf}
 use Rattle.types.specs.declared.tags.Sort.the-variants.{Leaf}
 use Rattle.types.proofs.tags.sort_of.Statement.{statement}
 use Rattle.types.proofs.tags.sort_of.Tie as tie
-
-class-of-requires : tie.Need-class-of-requires
-class-of-requires c κs = search needs
 
 returns : tie.Need-returns
 unfolding sortOf
@@ -24,4 +20,4 @@ unfolding sortOf
 returns-3 c = rw (ne-eqb _ 91 (c .before .match .rest .0 .1), ne-eqb _ 93 (c .before .match .rest .1)) (ap Leaf (c .class-of .ensures))
 
 pub sort-of-spec : {M : Type 1} → statement M
-sort-of-spec = tie.close (tie.spec class-of-requires returns returns-2 returns-3)
+sort-of-spec = tie.close (tie.spec (λ c κs. search needs) returns returns-2 returns-3)

@@ -1,5 +1,4 @@
 -- `types::value::bare` meets its contract. Each arm by its key.
--- Assumes nothing.
 use borrow.Author.Tests.{ne-eqb}
 use Rattle.types.specs.Value.{bareOf}
 use Rattle.types.proofs.value.bare.Statement.{statement}

@@ -1,5 +1,4 @@
 -- `types::value::narrow` meets its contract. Each arm by its key.
--- Assumes nothing.
 use mathlib.Core.Path.{_∙_, ap}
 use mir.ValLaws.{toZ-ofZ}
 use mir.Syntax.{w32}
@@ -10,24 +9,10 @@ use Rattle.types.specs.declared.value.OscType.the-variants.{Int, Float, 
 use Rattle.types.proofs.value.narrow.Statement.{statement}
 use Rattle.types.proofs.value.narrow.Tie as tie
 
-signed32-requires : tie.Need-signed32-requires
-signed32-requires c κs = search needs
-
-float32-requires : tie.Need-float32-requires
-float32-requires c κs = search needs
-
-color-of-requires : tie.Need-color-of-requires
-color-of-requires c κs = search needs
-
-midi-of-requires : tie.Need-midi-of-requires
-midi-of-requires c κs = search needs
-
-bare-requires : tie.Need-bare-requires
-bare-requires c κs = search needs
-
 returns : tie.Need-returns
 unfolding narrowOf
-returns c = rw (c .before .match .keys1) (ap Int (toZ-ofZ w32 (c .signed32 .result) (record { sfits = c .signed32 .ok }) ∙ c .signed32 .ensures))
+returns c =
+    rw (c .before .match .keys1) (ap Int (toZ-ofZ w32 (c .signed32 .result) (record { sfits = c .signed32 .ok }) ∙ c .signed32 .ensures))
 
 returns-2 : tie.Need-returns-2
 unfolding narrowOf
@@ -50,17 +35,24 @@ unfolding narrowOf
 returns-6 c =
     let k = c .before .before .args .kind in
     let r = c .before .match .rest in
-    rw (ne-eqb k 105 (r .0 .0 .0 .0 .1), ne-eqb k 102 (r .0 .0 .0 .1), ne-eqb k 99 (r .0 .0 .1), ne-eqb k 114 (r .0 .1), ne-eqb k 109 (r .1)) (c .bare .ensures)
+    rw (
+      ne-eqb k 105 (r .0 .0 .0 .0 .1),
+      ne-eqb k 102 (r .0 .0 .0 .1),
+      ne-eqb k 99 (r .0 .0 .1),
+      ne-eqb k 114 (r .0 .1),
+      ne-eqb k 109
+          (r .1),
+    ) (c .bare .ensures)
 
 pub narrow-spec : {M : Type 1} → statement M
 narrow-spec =
     tie.close
     (tie.spec
-    signed32-requires
-    float32-requires
-    color-of-requires
-    midi-of-requires
-    bare-requires
+    (λ c κs. search needs)
+    (λ c κs. search needs)
+    (λ c κs. search needs)
+    (λ c κs. search needs)
+    (λ c κs. search needs)
     returns
     returns-2
     returns-3

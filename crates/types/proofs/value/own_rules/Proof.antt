@@ -1,5 +1,4 @@
 -- `types::value::own_rules` meets its contract. A packet's kind by its keys, any other by its sort.
--- Assumes nothing.
 use mathlib.Core.List.{[], _∷_}
 use mathlib.Core.Bool.{true}
 use mathlib.Core.Path.{refl, _∙_, ap}
@@ -11,12 +10,6 @@ use Rattle.types.proofs.Keys.{by-keys, not-among}
 use Rattle.types.proofs.value.own_rules.Statement.{statement}
 use Rattle.types.proofs.value.own_rules.Tie as tie
 
-sort-of-requires : tie.Need-sort-of-requires
-sort-of-requires c κs = search needs
-
-arg-rules-requires : tie.Need-arg-rules-requires
-arg-rules-requires c κs = search needs
-
 returns : tie.Need-returns
 unfolding ownRules
 returns c =
@@ -26,8 +19,11 @@ returns c =
 returns-2 : tie.Need-returns-2
 unfolding ownRules
 returns-2 c =
-    let a = c .before .before .before .args in
-    rw (not-among (35 ∷ 47 ∷ []) _ (c .before .before .match .rest .1)) (c .arg-rules .ensures ∙ ap (λ (s : Sort). argRules s (a .a) (a .b)) (c .before .sort-of .ensures))
+    let p2 = c .before .before in
+    let p3 = p2 .before in
+    let a = p3 .args in
+    rw (not-among (35 ∷ 47 ∷ []) _ (p2 .match .rest .1))
+    (c .arg-rules .ensures ∙ ap (λ (s : Sort). argRules s (a .a) (a .b)) (c .before .sort-of .ensures))
 
 pub own-rules-spec : {M : Type 1} → statement M
-own-rules-spec = tie.close (tie.spec sort-of-requires arg-rules-requires returns returns-2)
+own-rules-spec = tie.close (tie.spec (λ c κs. search needs) (λ c κs. search needs) returns returns-2)

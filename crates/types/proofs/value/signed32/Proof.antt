@@ -1,5 +1,4 @@
 -- `types::value::signed32` meets its contract. The complement of the complement is the number.
--- Assumes nothing.
 use mathlib.Core.Path.{ap}
 use native.Mathlib.Omega.{arith}
 use mir.Val.{toZ}
@@ -9,17 +8,8 @@ use borrow.Author.Needs.{needs}
 use Rattle.types.proofs.value.signed32.Statement.{statement}
 use Rattle.types.proofs.value.signed32.Tie as tie
 
-cast-result : tie.Need-cast-result
-cast-result c = search needs
-
-cast-result-2 : tie.Need-cast-result-2
-cast-result-2 c = search needs
-
-returns : tie.Need-returns
-returns c = search needs
-
 returns-2 : tie.Need-returns-2
 returns-2 c = ap (toZ w32) (sub-sub-self {a = c .before .args .x} {m = 4294967295} (omega arith))
 
 pub signed32-spec : {M : Type 1} → statement M
-signed32-spec = tie.close (tie.spec cast-result cast-result-2 returns returns-2)
+signed32-spec = tie.close (tie.spec (λ c. search needs) (λ c. search needs) (λ c. search needs) returns-2)

@@ -1,5 +1,4 @@
 -- `types::value::value_of` meets its contract. Each arm by its key.
--- Assumes nothing.
 use mathlib.Core.Path.{_∙_, ap, ap₂}
 use mir.ValLaws.{toZ-ofZ}
 use mir.Val.{toZ}
@@ -11,21 +10,6 @@ use Rattle.types.specs.Value.{valueOf}
 use Rattle.types.specs.declared.value.OscType.the-variants.{Long, Double}
 use Rattle.types.proofs.value.value_of.Statement.{statement}
 use Rattle.types.proofs.value.value_of.Tie as tie
-
-joined-requires : tie.Need-joined-requires
-joined-requires c κs = search needs
-
-signed64-requires : tie.Need-signed64-requires
-signed64-requires c κs = search needs
-
-joined-requires-2 : tie.Need-joined-requires-2
-joined-requires-2 c κs = search needs
-
-float64-requires : tie.Need-float64-requires
-float64-requires c κs = search needs
-
-narrow-requires : tie.Need-narrow-requires
-narrow-requires c κs = search needs
 
 returns : tie.Need-returns
 unfolding valueOf
@@ -49,7 +33,10 @@ returns-5 c = rw (c .match .keys5)
 
 returns-6 : tie.Need-returns-6
 unfolding valueOf
-returns-6 c = rw (c .before .before .match .keys6) (ap Long (toZ-ofZ w64 (c .signed64 .result) (record { sfits = c .signed64 .ok }) ∙ c .signed64 .ensures ∙ ap (toZ w64) (c .before .joined .ensures)))
+returns-6 c =
+    rw (c .before .before .match .keys6)
+    (ap Long (toZ-ofZ w64 (c .signed64 .result) (record { sfits = c .signed64 .ok }) ∙ c .signed64 .ensures
+    ∙ ap (toZ w64) (c .before .joined .ensures)))
 
 returns-7 : tie.Need-returns-7
 unfolding valueOf
@@ -76,11 +63,11 @@ pub value-of-spec : {M : Type 1} → statement M
 value-of-spec =
     tie.close
     (tie.spec
-    joined-requires
-    signed64-requires
-    joined-requires-2
-    float64-requires
-    narrow-requires
+    (λ c κs. search needs)
+    (λ c κs. search needs)
+    (λ c κs. search needs)
+    (λ c κs. search needs)
+    (λ c κs. search needs)
     returns
     returns-2
     returns-3
