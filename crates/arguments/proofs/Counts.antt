@@ -5,25 +5,26 @@ use mathlib.Core.List.{List, [], _∷_}
 use native.Mathlib.Omega.{arith}
 use lib.ListN.{length, drop, length-drop}
 use Rattle.refusal.specs.declared.Fault.{Fault}
-use Rattle.types.specs.Forest.{Forest, nil, size, snoc}
-use Rattle.types.specs.Records.{recordSize}
-use Rattle.types.specs.Tags.{sortOf}
-use Rattle.types.specs.declared.tags.Class.{Class}
-use Rattle.types.specs.declared.tags.Sort.{Sort}
-use Rattle.types.specs.declared.tags.Sort.the-variants.{Opens, Closes, Leaf}
-use Rattle.types.proofs.Forests.{size-snoc}
-use Rattle.arguments.specs.Argument.{argOf}
+use Rattle.node.specs.Forest.{Forest, nil, size, snoc}
+use Rattle.node.specs.Records.{recordSize}
+use Rattle.node.specs.Tags.{sortOf}
+use Rattle.node.specs.declared.tags.Class.{Class}
+use Rattle.node.specs.declared.tags.Sort.{Sort}
+use Rattle.node.specs.declared.tags.Sort.the-variants.{Opens, Closes, Leaf}
+use Rattle.node.proofs.Forests.{size-snoc}
+use Rattle.argument.specs.Argument.{argOf}
 use Rattle.arguments.specs.Arguments.{Args, refused, args, later, taken, act, readArgs, argsOf}
 use Rattle.arguments.specs.Readings.{measured, keptOf, Room}
-use Rattle.arguments.specs.Scans.{usedOf, more, passed, turn, scan, before, back}
-use Rattle.arguments.specs.declared.Arg.{Arg}
-use Rattle.arguments.specs.declared.Arg.the-variants as arg
+use Rattle.scan.specs.Scans.{usedOf, more, passed, turn, scan, before, back}
+use Rattle.argument.specs.declared.Arg.{Arg}
+use Rattle.argument.specs.declared.Arg.the-variants as arg
 use Rattle.arguments.specs.declared.Measured.the-variants as measure
-use Rattle.arguments.specs.declared.scan.Scanned.{Scanned}
-use Rattle.arguments.specs.declared.scan.Scanned.the-variants.{Used, Refused}
-use Rattle.arguments.specs.declared.scan.Back.{Back}
-use Rattle.arguments.specs.declared.scan.Back.the-variants.{Whole, Cut}
-use Rattle.arguments.proofs.Within.{given-within, any-base}
+use Rattle.scan.specs.declared.Scanned.{Scanned}
+use Rattle.scan.specs.declared.Scanned.the-variants.{Used, Refused}
+use Rattle.scan.specs.declared.Back.{Back}
+use Rattle.scan.specs.declared.Back.the-variants.{Whole, Cut}
+use Rattle.argument.proofs.Within.{given-within}
+use Rattle.scan.proofs.Within.{any-base}
 
 -- ---- the forward scan
 

@@ -6,26 +6,26 @@ use mathlib.Core.List.{List, [], _∷_, _++_}
 use native.Mathlib.Omega.{arith}
 use lib.ListN.{length, getD, take, drop, length-drop}
 use Rattle.refusal.specs.declared.Fault.{Fault}
-use Rattle.number.specs.Number.{bytes}
-use Rattle.number.specs.Wrote.{Wrote}
-use Rattle.number.proofs.Numbers.{length-bytes}
-use Rattle.number.proofs.Parts.{tail}
-use Rattle.number.proofs.Writers.{wrote-none, wrote-length, wrote-next, wrote-over}
-use Rattle.types.specs.Forest.{Forest, nil, size, snoc}
-use Rattle.types.specs.Records.{recordSize, recordOf, recordsOf, endAt}
-use Rattle.types.specs.Tags.{sortOf}
-use Rattle.types.specs.declared.tags.Class.{Class}
-use Rattle.types.specs.declared.tags.Sort.{Sort}
-use Rattle.types.specs.declared.tags.Sort.the-variants.{Opens, Closes, Leaf}
-use Rattle.types.proofs.Forests.{size-snoc}
-use Rattle.arguments.specs.Argument.{argOf}
+use Rattle.wire.specs.Number.{bytes}
+use Rattle.wire.specs.Wrote.{Wrote}
+use Rattle.wire.proofs.Numbers.{length-bytes}
+use Rattle.wire.proofs.Parts.{tail}
+use Rattle.wire.proofs.Writers.{wrote-none, wrote-length, wrote-next, wrote-over}
+use Rattle.node.specs.Forest.{Forest, nil, size, snoc}
+use Rattle.node.specs.Records.{recordSize, recordOf, recordsOf, endAt}
+use Rattle.node.specs.Tags.{sortOf}
+use Rattle.node.specs.declared.tags.Class.{Class}
+use Rattle.node.specs.declared.tags.Sort.{Sort}
+use Rattle.node.specs.declared.tags.Sort.the-variants.{Opens, Closes, Leaf}
+use Rattle.node.proofs.Forests.{size-snoc}
+use Rattle.argument.specs.Argument.{argOf}
 use Rattle.arguments.specs.Arguments.{Args, refused, args, later, taken, act, readArgs, argsOf}
 use Rattle.arguments.specs.Readings.{keptOf, Room}
-use Rattle.arguments.specs.Scans.{before, back, AllClosed}
-use Rattle.arguments.specs.declared.Arg.the-variants as arg
-use Rattle.arguments.specs.declared.scan.Back.{Back}
-use Rattle.arguments.specs.declared.scan.Back.the-variants.{Whole, Cut}
-use Rattle.arguments.proofs.Within.{given-within}
+use Rattle.scan.specs.Scans.{before, back, AllClosed}
+use Rattle.argument.specs.declared.Arg.the-variants as arg
+use Rattle.scan.specs.declared.Back.{Back}
+use Rattle.scan.specs.declared.Back.the-variants.{Whole, Cut}
+use Rattle.argument.proofs.Within.{given-within}
 use Rattle.arguments.proofs.Counts.{Counts, counted, args-counted}
 use Rattle.arguments.proofs.Kept.{clash, Deep, deep-law}
 use Rattle.arguments.proofs.Frames.{held, link, layout, length-layout, layout-leaf, layout-open, front, behind, length-front}

@@ -5,13 +5,13 @@ use mathlib.Core.List.{List, [], _∷_, _++_, append-assoc, append-nil}
 use native.Mathlib.Omega.{arith}
 use lib.ListN.{length, drop, length-append}
 use lib.Seq.{drop-at}
-use Rattle.number.specs.Number.{number, bytes}
-use Rattle.number.specs.Wrote.{Wrote}
-use Rattle.number.proofs.Numbers.{read-written}
-use Rattle.types.specs.Forest.{Forest, nil, node, size, snoc}
-use Rattle.types.specs.Records.{recordSize, recordOf, recordsOf, endAt}
-use Rattle.types.proofs.Forests.{records-snoc}
-use Rattle.types.proofs.Recorded.{length-record, length-records}
+use Rattle.wire.specs.Number.{number, bytes}
+use Rattle.wire.specs.Wrote.{Wrote}
+use Rattle.wire.proofs.Numbers.{read-written}
+use Rattle.node.specs.Forest.{Forest, nil, node, size, snoc}
+use Rattle.node.specs.Records.{recordSize, recordOf, recordsOf, endAt}
+use Rattle.node.proofs.Forests.{records-snoc}
+use Rattle.node.proofs.Recorded.{length-record, length-records}
 
 -- ---- frames in the table
 

@@ -7,22 +7,23 @@ use native.Mathlib.Omega.{arith}
 use lib.ListN.{length, take, drop, length-drop}
 use lib.Seq.{drop-drop}
 use Rattle.refusal.specs.declared.Fault.{Fault}
-use Rattle.number.proofs.Parts.{tail}
-use Rattle.types.specs.Forest.{Forest, nil, snoc}
-use Rattle.types.specs.Tags.{sortOf}
-use Rattle.types.specs.declared.tags.Sort.{Sort}
-use Rattle.types.specs.declared.tags.Sort.the-variants.{Opens, Closes, Leaf}
-use Rattle.arguments.specs.Argument.{argOf}
+use Rattle.wire.proofs.Parts.{tail}
+use Rattle.node.specs.Forest.{Forest, nil, snoc}
+use Rattle.node.specs.Tags.{sortOf}
+use Rattle.node.specs.declared.tags.Sort.{Sort}
+use Rattle.node.specs.declared.tags.Sort.the-variants.{Opens, Closes, Leaf}
+use Rattle.argument.specs.Argument.{argOf}
 use Rattle.arguments.specs.Arguments.{Args, refused, args, later, taken, act, readArgs, argsOf}
 use Rattle.arguments.specs.Readings.{keptOf, Accepted, Room}
-use Rattle.arguments.specs.Scans.{usedOf, more, passed, turn, scan, before, back, AllClosed}
-use Rattle.arguments.specs.declared.Arg.{Arg}
-use Rattle.arguments.specs.declared.Arg.the-variants as arg
-use Rattle.arguments.specs.declared.scan.Scanned.{Scanned}
-use Rattle.arguments.specs.declared.scan.Scanned.the-variants.{Used, Refused}
-use Rattle.arguments.specs.declared.scan.Back.{Back}
-use Rattle.arguments.specs.declared.scan.Back.the-variants.{Whole, Cut}
-use Rattle.arguments.proofs.Within.{given-within, any-base}
+use Rattle.scan.specs.Scans.{usedOf, more, passed, turn, scan, before, back, AllClosed}
+use Rattle.argument.specs.declared.Arg.{Arg}
+use Rattle.argument.specs.declared.Arg.the-variants as arg
+use Rattle.scan.specs.declared.Scanned.{Scanned}
+use Rattle.scan.specs.declared.Scanned.the-variants.{Used, Refused}
+use Rattle.scan.specs.declared.Back.{Back}
+use Rattle.scan.specs.declared.Back.the-variants.{Whole, Cut}
+use Rattle.argument.proofs.Within.{given-within}
+use Rattle.scan.proofs.Within.{any-base}
 
 pub clash : {m d n c : ℕ} → Whole m d ≡ Cut n c → ⊥
 clash e = let z : _≡_ {A = ℕ} 0 1 = cc in omega arith

@@ -1,7 +1,3 @@
-pub mod Argued
-pub mod Within
-pub mod Turns
-pub mod Flat
 pub mod Counts
 pub mod Frames
 pub mod Kept

@@ -2,15 +2,15 @@
 use mathlib.Core.Path.{_≡_}
 use mathlib.Core.List.{List}
 use Prim.Native.Nat.{ℕ}
-use Rattle.number.specs.Wrote.{Wrote}
-use Rattle.number.proofs.Only.{one-outcome}
-use Rattle.number.proofs.Writers.{wrote-one}
-use Rattle.types.specs.Records.{recordsOf}
-use Rattle.types.specs.declared.tags.Class.{Class}
-use Rattle.arguments.specs.Argument.{argOf}
+use Rattle.wire.specs.Wrote.{Wrote}
+use Rattle.wire.proofs.Only.{one-outcome}
+use Rattle.wire.proofs.Writers.{wrote-one}
+use Rattle.node.specs.Records.{recordsOf}
+use Rattle.node.specs.declared.tags.Class.{Class}
+use Rattle.argument.specs.Argument.{argOf}
 use Rattle.arguments.specs.Arguments.{argsOf}
 use Rattle.arguments.specs.Readings.{measured, keptOf}
-use Rattle.arguments.specs.declared.Arg.{Arg}
+use Rattle.argument.specs.declared.Arg.{Arg}
 use Rattle.arguments.specs.declared.Measured.{Measured}
 
 pub read-osc-arg-only : (class : Class) (input : List ℕ) (base pos : ℕ) (r s : Arg) → r ≡ argOf class base input pos

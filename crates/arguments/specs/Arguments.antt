@@ -5,13 +5,13 @@ use Prim.Native.Nat.{ℕ, _+_}
 use lib.ListN.{drop}
 use Rattle.refusal.specs.declared.Fault.{Fault}
 use Rattle.refusal.specs.declared.Fault.the-variants.{NotOpen}
-use Rattle.types.specs.Forest.{Forest, nil, snoc}
-use Rattle.types.specs.Tags.{sortOf}
-use Rattle.types.specs.declared.tags.Sort.{Sort}
-use Rattle.types.specs.declared.tags.Sort.the-variants.{Opens, Closes, Leaf}
-use Rattle.arguments.specs.Argument.{argOf}
-use Rattle.arguments.specs.declared.Arg.{Arg}
-use Rattle.arguments.specs.declared.Arg.the-variants as arg
+use Rattle.node.specs.Forest.{Forest, nil, snoc}
+use Rattle.node.specs.Tags.{sortOf}
+use Rattle.node.specs.declared.tags.Sort.{Sort}
+use Rattle.node.specs.declared.tags.Sort.the-variants.{Opens, Closes, Leaf}
+use Rattle.argument.specs.Argument.{argOf}
+use Rattle.argument.specs.declared.Arg.{Arg}
+use Rattle.argument.specs.declared.Arg.the-variants as arg
 
 -- the arguments that are kept and how many bytes of data were read; or the fault
 pub data Args : Type 0 where

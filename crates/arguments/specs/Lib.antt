@@ -1,4 +1,2 @@
-pub mod Argument
 pub mod Arguments
 pub mod Readings
-pub mod Scans

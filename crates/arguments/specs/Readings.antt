@@ -2,8 +2,8 @@
 use Prim.Native.Nat.{ℕ, _+_, _*_, _≤_}
 use mathlib.Core.List.{List}
 use lib.ListN.{length}
-use Rattle.types.specs.Forest.{Forest, nil, size}
-use Rattle.types.specs.Records.{recordSize}
+use Rattle.node.specs.Forest.{Forest, nil, size}
+use Rattle.node.specs.Records.{recordSize}
 use Rattle.arguments.specs.Arguments.{Args, refused, args}
 use Rattle.arguments.specs.declared.Measured.{Measured}
 use Rattle.arguments.specs.declared.Measured.the-variants.{Kept, Refused}

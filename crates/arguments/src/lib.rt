@@ -1,53 +1,22 @@
 // The arguments of a message, by the tags of its type text (decoder.rs, `read_osc_args` and `read_osc_arg`).
-mod argument; // argument.rt: the data of one argument, one function to each class
-mod scan; // scan.rt: the tags and their data without records
-mod fill; // fill.rt: the records of arguments whose arrays are all closed
+mod records; // records.rt: the records of arguments whose arrays are all closed
 
 use refusal::Fault;
 use scan::Back;
 use scan::Scanned;
-use types::tags::Class;
 ghost use mathlib.Core.Path.{_≡_};
 ghost use Prim.Native.Nat.{ℕ, _+_, _≤_};
 ghost use lib.ListN.{length};
-ghost use Rattle.number.specs.Wrote.{Wrote};
-ghost use Rattle.types.specs.Records.{recordsOf};
-ghost use Rattle.arguments.specs.Argument.{argOf};
+ghost use Rattle.wire.specs.Wrote.{Wrote};
+ghost use Rattle.node.specs.Records.{recordsOf};
 ghost use Rattle.arguments.specs.Arguments.{argsOf};
 ghost use Rattle.arguments.specs.Readings.{measured, keptOf, Room};
-
-// What reading one argument gives.
-pub enum Arg {
-    // The two fields of its record, and how many bytes of data it takes.
-    Given { a: u32, b: u32, used: usize },
-    Refused(Fault),
-}
 
 // What the first reading of the arguments answers.
 pub enum Measured {
     // How many records the kept arguments take, and how many bytes of data were read.
     Kept { count: usize, used: usize },
     Refused(Fault),
-}
-
-// The data of one argument at the front of `input`, whose first byte stands at `pos` of its frame: padding counts from there.
-// An offset is `base` more than a position.
-//
-// Ruled out: the offset of a blob's size, in place of its bytes; a surrogate as a 'c'.
-pub fn read_osc_arg(class: Class, input: &[u8], base: usize, pos: usize) -> Arg
-    requires { ⌜ base + pos + length (now input) ≤ 65535 ⌝ }
-    ensures { λ r. ⌜ r ≡ argOf class base (now (input .entry)) pos ⌝ }
-{
-    match class {
-        Class::Four => argument::read_four(input),
-        Class::Eight => argument::read_eight(input),
-        Class::Bare => Arg::Given {
-            a: 0,
-            b: 0,
-            used: 0,
-        },
-        _ => argument::read_rare(class, input, base, pos),
-    }
 }
 
 // First reading of the arguments: nothing is written. Their offsets don't matter here, so it takes no `base`.
@@ -87,10 +56,10 @@ pub fn read_osc_args(
         Back::Whole {
             closed: _,
             count: _,
-        } => fill::fill_whole(tags, input, base, pos, table, index),
+        } => records::fill_whole(tags, input, base, pos, table, index),
         Back::Cut { first, count: _ } => match scan::scan_args(&tags[..first], input, pos) {
             Scanned::Used(used) => {
-                fill::fill_whole(
+                records::fill_whole(
                     &tags[first..],
                     &input[used..],
                     base,

@@ -9,22 +9,24 @@ use lib.Dec.{leb}
 use lib.ListN.{length}
 use Rattle.refusal.specs.declared.Refusal.{Refusal}
 use Rattle.refusal.specs.declared.Refusal.the-variants.{TooLong, DepthLimit}
-use Rattle.types.specs.Forest.{Forest, nil, node, size, depth, level}
-use Rattle.types.specs.Records.{recordSize}
-use Rattle.decoder.specs.Packet.{Out, fault, one, packet}
+use Rattle.node.specs.Forest.{Forest, nil, node, size, depth, level}
+use Rattle.node.specs.Records.{recordSize}
+use Rattle.packet.specs.Packet.{Out, fault, one, packet}
 use Rattle.decoder.specs.Framing.{Whole, trees, waiting, refusal, single, udp, Frame, tree, wait, stop, frameOf, first, tcp, tcpVec}
 use Rattle.decoder.specs.Limits.{limited, decoded, forestOf}
-use Rattle.decoder.specs.Known.{Known}
-use Rattle.decoder.specs.Readings.{extent, treeOf, Room, frameExtent, framePacket, Accepted, totalOf, answered}
+use Rattle.fill.specs.Known.{Known}
+use Rattle.measure.specs.FirstReading.{extent}
+use Rattle.fill.specs.SecondReading.{treeOf, Room}
+use Rattle.decoder.specs.Readings.{frameExtent, framePacket, Accepted, totalOf, answered}
 use Rattle.decoder.specs.declared.Decoded.{Decoded}
 use Rattle.decoder.specs.declared.Decoded.the-variants.{Packets, Refused}
-use Rattle.decoder.specs.declared.measure.Extent.{Extent}
-use Rattle.decoder.specs.declared.measure.Extent.the-variants as extents
+use Rattle.measure.specs.declared.Extent.{Extent}
+use Rattle.measure.specs.declared.Extent.the-variants as extents
 use Rattle.decoder.specs.declared.frames.FrameExtent.{FrameExtent}
 use Rattle.decoder.specs.declared.frames.FrameExtent.the-variants as frame
 use Rattle.decoder.specs.declared.frames.Total.{Total}
 use Rattle.decoder.specs.declared.frames.Total.the-variants as total
-use Rattle.number.proofs.Choices.{by-both}
+use Rattle.wire.proofs.Choices.{by-both}
 use Rattle.decoder.proofs.Chosen.{by-decoded, by-trees}
 use Rattle.decoder.proofs.Sizes.{WholeIn, nodes-in, udp-in, tcp-in, vec-in}
 

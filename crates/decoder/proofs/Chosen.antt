@@ -3,8 +3,8 @@ use mathlib.Core.List.{List}
 use Prim.Native.Nat.{ℕ, _<_, _≤_}
 use lib.ListN.{length}
 use Rattle.refusal.specs.declared.Refusal.the-variants.{TooLong, TooDeep, TableFull, DepthLimit}
-use Rattle.types.specs.Forest.{Forest, size, depth}
-use Rattle.number.proofs.Choices.{by-le}
+use Rattle.node.specs.Forest.{Forest, size, depth}
+use Rattle.wire.proofs.Choices.{by-le}
 use Rattle.decoder.specs.Framing.{Whole, trees}
 use Rattle.decoder.specs.Limits.{limited, decoded}
 use Rattle.decoder.specs.declared.Decoded.{Decoded}

@@ -6,16 +6,16 @@ use Prim.Native.Nat.{ℕ}
 use Rattle.refusal.specs.declared.Fault.the-variants.{Empty}
 use Rattle.refusal.specs.declared.Refusal.the-variants.{Unreadable, TooDeep, TableFull, DepthLimit}
 use Rattle.refusal.specs.Refusal.{numberOf}
-use Rattle.number.specs.Number.{number, bytes}
-use Rattle.types.specs.Forest.{size, depth, snoc}
-use Rattle.types.specs.Records.{recordsOf, recordOf}
-use Rattle.types.specs.Tags.{classOf, sortOf}
+use Rattle.wire.specs.Number.{number, bytes}
+use Rattle.node.specs.Forest.{size, depth, snoc}
+use Rattle.node.specs.Records.{recordsOf, recordOf, stored}
+use Rattle.node.specs.Tags.{classOf, sortOf}
 use Rattle.text.specs.Text.{textOf}
-use Rattle.arguments.specs.Argument.{argOf}
+use Rattle.argument.specs.Argument.{argOf}
 use Rattle.arguments.specs.Arguments.{readArgs}
-use Rattle.decoder.specs.Packet.{messageOf, bundleOf, packetOf, elementOf, elementsOf, packetAt, packet}
+use Rattle.packet.specs.Packet.{messageOf, bundleOf, packetOf, elementOf, elementsOf, packetAt, packet}
 use Rattle.decoder.specs.Framing.{Whole, udp, frameOf, tcp, framesAt, frames, tcpVec}
-use Rattle.decoder.specs.Limits.{decoded, forestOf, stored, tabled}
+use Rattle.decoder.specs.Limits.{decoded, forestOf, tabled}
 use Rattle.decoder.specs.declared.Decoded.{Decoded}
 use Rattle.decoder.specs.declared.Decoded.the-variants.{Packets, Waiting, Refused}
 

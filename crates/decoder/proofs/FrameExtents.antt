@@ -11,23 +11,24 @@ use lib.ListN.{length, drop, length-drop}
 use lib.Seq.{drop-drop}
 use Rattle.refusal.specs.declared.Fault.{Fault}
 use Rattle.refusal.specs.declared.Fault.the-variants as faults
-use Rattle.types.specs.Forest.{Forest, nil, node, size, depth, level}
-use Rattle.decoder.specs.Packet.{Out, fault, one, packet}
+use Rattle.node.specs.Forest.{Forest, nil, node, size, depth, level}
+use Rattle.packet.specs.Packet.{Out, fault, one, packet}
 use Rattle.decoder.specs.Framing.{Whole, trees, waiting, refusal, Frame, tree, wait, stop, framed, frameOf, before, afterFrame}
 use Rattle.decoder.specs.Framing.{framesAt, frames, tcpVec}
-use Rattle.decoder.specs.Heads.{prefixOf}
-use Rattle.decoder.specs.Readings.{extent, frameExtent, totalOf, added}
-use Rattle.decoder.specs.declared.heads.Prefix.the-variants as prefix
-use Rattle.decoder.specs.declared.measure.Extent.{Extent}
-use Rattle.decoder.specs.declared.measure.Extent.the-variants as extents
+use Rattle.packet.specs.Heads.{prefixOf}
+use Rattle.measure.specs.FirstReading.{extent}
+use Rattle.decoder.specs.Readings.{frameExtent, totalOf, added}
+use Rattle.packet.specs.declared.Prefix.the-variants as prefix
+use Rattle.measure.specs.declared.Extent.{Extent}
+use Rattle.measure.specs.declared.Extent.the-variants as extents
 use Rattle.decoder.specs.declared.frames.FrameExtent.{FrameExtent}
 use Rattle.decoder.specs.declared.frames.FrameExtent.the-variants.{Tree, Deep, Waiting, Refused}
 use Rattle.decoder.specs.declared.frames.Total.{Total}
 use Rattle.decoder.specs.declared.frames.Total.the-variants as total
-use Rattle.number.proofs.Choices.{by-test, by-le, by-both}
-use Rattle.decoder.proofs.Knot.{frames-eq}
+use Rattle.wire.proofs.Choices.{by-test, by-le, by-both}
+use Rattle.decoder.proofs.FrameKnot.{frames-eq}
 use Rattle.decoder.proofs.Prefixes.{prefixed, frame-prefix, FrameIn, frame-in}
-use Rattle.decoder.proofs.Extents.{max-low}
+use Rattle.measure.proofs.Extents.{max-low}
 
 -- ---- one frame
 

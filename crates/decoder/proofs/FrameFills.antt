@@ -8,21 +8,22 @@ use lib.ListN.{length, take, drop, length-drop}
 use lib.Seq.{drop-drop}
 use borrow.Rule.Slice.PartMut.{midOf, putMid}
 use Rattle.refusal.specs.declared.Fault.the-variants as faults
-use Rattle.number.proofs.Parts.{tail, length-lent}
-use Rattle.types.specs.Forest.{Forest, nil, node, size}
-use Rattle.types.specs.Records.{recordSize}
-use Rattle.decoder.specs.Packet.{Out, fault, one, packet}
+use Rattle.wire.proofs.Parts.{tail, length-lent}
+use Rattle.node.specs.Forest.{Forest, nil, node, size}
+use Rattle.node.specs.Records.{recordSize, stored}
+use Rattle.packet.specs.Packet.{Out, fault, one, packet}
 use Rattle.decoder.specs.Framing.{Whole, trees, waiting, refusal, Frame, tree, wait, stop, framed, frameOf, before, framesAt}
 use Rattle.decoder.specs.Framing.{frames, tcpVec}
-use Rattle.decoder.specs.Limits.{forestOf, stored}
-use Rattle.decoder.specs.Heads.{prefixOf}
-use Rattle.decoder.specs.Readings.{treeOf, filled, Room, Fills, framePacket, Accepted}
-use Rattle.decoder.specs.declared.heads.Prefix.the-variants as prefix
-use Rattle.decoder.specs.declared.fill.Filled.{Filled}
-use Rattle.decoder.specs.declared.fill.Filled.the-variants.{Wrote, Nothing}
+use Rattle.decoder.specs.Limits.{forestOf}
+use Rattle.packet.specs.Heads.{prefixOf}
+use Rattle.fill.specs.SecondReading.{treeOf, filled, Room, Fills}
+use Rattle.decoder.specs.Readings.{framePacket, Accepted}
+use Rattle.packet.specs.declared.Prefix.the-variants as prefix
+use Rattle.fill.specs.declared.Filled.{Filled}
+use Rattle.fill.specs.declared.Filled.the-variants.{Wrote, Nothing}
 use Rattle.decoder.proofs.Prefixes.{prefixed, frame-prefix, FrameIn, frame-in}
 use Rattle.decoder.proofs.FrameExtents.{remaining, remaining-list, remaining-none, frames-by, frames-tree}
-use Rattle.decoder.proofs.Stored.{completed, length-completed, completed-nil, lent-stored, completed-turn}
+use Rattle.node.proofs.Stored.{completed, length-completed, completed-nil, lent-stored, completed-turn}
 
 -- the second reading of a frame: its packet stands at 4
 filled-framed : (o : Out) → filled 4 o ≡ filled 0 (framePacket (framed o))

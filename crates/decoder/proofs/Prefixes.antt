@@ -1,21 +1,21 @@
 -- A frame by its prefix, and what the code answers of a prefix.
-use mathlib.Core.Path.{_≡_, refl, sym, subst}
+use mathlib.Core.Path.{_≡_, refl}
 use mathlib.Core.List.{List}
-use Prim.Native.Nat.{ℕ, _+_, _-_, _<_, _≤_}
+use Prim.Native.Nat.{ℕ, _+_, _-_, _≤_}
 use native.Mathlib.Omega.{arith}
-use borrow.Author.Tests.{le-leb, lt-leb}
 use lib.Dec.{leb}
 use lib.ListN.{length, drop, length-drop}
 use Rattle.refusal.specs.declared.Fault.the-variants as faults
-use Rattle.number.specs.Number.{number}
-use Rattle.types.specs.Forest.{size}
-use Rattle.decoder.specs.Packet.{Out, fault, one, packet}
+use Rattle.wire.specs.Number.{number}
+use Rattle.node.specs.Forest.{size}
+use Rattle.packet.specs.Packet.{Out, fault, one, packet}
 use Rattle.decoder.specs.Framing.{Frame, tree, wait, stop, framed, frameOf}
-use Rattle.decoder.specs.Heads.{prefixOf}
-use Rattle.decoder.specs.declared.heads.Prefix.{Prefix}
-use Rattle.decoder.specs.declared.heads.Prefix.the-variants as prefix
-use Rattle.number.proofs.Choices.{by-test, by-le, by-both}
-use Rattle.decoder.proofs.Within.{Within, packet-in}
+use Rattle.packet.specs.Heads.{prefixOf}
+use Rattle.packet.specs.declared.Prefix.{Prefix}
+use Rattle.packet.specs.declared.Prefix.the-variants as prefix
+use Rattle.wire.proofs.Choices.{by-both}
+use Rattle.packet.proofs.Within.{Within, packet-in}
+use Rattle.packet.proofs.Fronts.{prefix-in}
 
 -- the frame with this prefix
 abbrev pub prefixed : ℕ → List ℕ → Prefix → Frame
@@ -28,31 +28,6 @@ unfolding frameOf prefixOf
 frame-prefix base l =
     by-both (λ (x : Frame) (y : Prefix). x ≡ prefixed base l y) (leb 4 (length l))
     (by-both (λ (x : Frame) (y : Prefix). x ≡ prefixed base l y) (leb (number 4 l) (length l)) refl refl) refl
-
-abbrev PrefixIn : ℕ → Prefix → Type 0
-PrefixIn m prefix.Whole = 4 ≤ m
-PrefixIn m prefix.Waiting = Unit {0}
-PrefixIn m prefix.RunsOut = Unit {0}
-
-pub prefix-in : (l : List ℕ) → prefix.Whole ≡ prefixOf l → 4 ≤ length l
-unfolding prefixOf
-prefix-in l e =
-    subst (PrefixIn (length l)) (sym e)
-    (by-le (PrefixIn (length l)) 4 (length l) (λ h. by-test (PrefixIn (length l)) (leb (number 4 l) (length l)) (λ _. h) (λ _. tt))
-    (λ h. tt))
-
-module _ (l : List ℕ) where
-  pub prefix-short : length l < 4 → prefix.RunsOut ≡ prefixOf l
-  unfolding prefixOf
-  prefix-short h = rw (prefixOf, lt-leb 4 (length l) h)
-
-  pub prefix-waits : {n : ℕ} → 4 ≤ length l → n ≡ number 4 l → length l < n → prefix.Waiting ≡ prefixOf l
-  unfolding prefixOf
-  prefix-waits {n} h e g = rw (prefixOf, le-leb 4 (length l) h, ← e, lt-leb n (length l) g)
-
-  pub prefix-whole : {n : ℕ} → 4 ≤ length l → n ≡ number 4 l → n ≤ length l → prefix.Whole ≡ prefixOf l
-  unfolding prefixOf
-  prefix-whole {n} h e g = rw (prefixOf, le-leb 4 (length l) h, ← e, le-leb n (length l) g)
 
 -- a frame takes its prefix and a byte for each node
 abbrev pub FrameIn : ℕ → Frame → Type 0

@@ -3,13 +3,13 @@ use Prim.Native.Nat.{ℕ, zero, suc, _+_, _≤_}
 use mathlib.Core.List.{List}
 use native.Mathlib.Omega.{arith}
 use lib.ListN.{length, drop, length-drop}
-use Rattle.types.specs.Forest.{Forest, size}
-use Rattle.number.proofs.Choices.{by-le}
-use Rattle.decoder.specs.Packet.{Out, fault, one, packet}
+use Rattle.node.specs.Forest.{Forest, size}
+use Rattle.wire.proofs.Choices.{by-le}
+use Rattle.packet.specs.Packet.{Out, fault, one, packet}
 use Rattle.decoder.specs.Framing.{Whole, trees, waiting, refusal, single, udp, Frame, tree, wait, stop, frameOf, first, tcp, before}
 use Rattle.decoder.specs.Framing.{afterFrame, framesAt, frames, tcpVec}
 use Rattle.decoder.specs.Limits.{forestOf}
-use Rattle.decoder.proofs.Within.{Within, packet-in}
+use Rattle.packet.proofs.Within.{Within, packet-in}
 use Rattle.decoder.proofs.Prefixes.{FrameIn, frame-in}
 
 -- m bytes give no more nodes than they have, less those that are left

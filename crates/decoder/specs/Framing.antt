@@ -6,9 +6,9 @@ use lib.Dec.{leb}
 use lib.ListN.{length, drop}
 use Rattle.refusal.specs.declared.Fault.{Fault}
 use Rattle.refusal.specs.declared.Fault.the-variants.{RunsOut}
-use Rattle.number.specs.Number.{number}
-use Rattle.types.specs.Forest.{Forest, nil, node}
-use Rattle.decoder.specs.Packet.{Out, fault, one, packet}
+use Rattle.wire.specs.Number.{number}
+use Rattle.node.specs.Forest.{Forest, nil, node}
+use Rattle.packet.specs.Packet.{Out, fault, one, packet}
 
 -- what an input is read as, before any limit: trees and the bytes left over; nothing yet; a fault
 pub data Whole : Type 0 where

@@ -1,12 +1,12 @@
 -- What the decoders answer and leave in the table: document 01, "Refusal numbers" (the decode order) and "The node table".
 use mathlib.Core.Bool.{cond}
-use mathlib.Core.List.{List, _++_}
-use Prim.Native.Nat.{ℕ, _*_}
+use mathlib.Core.List.{List}
+use Prim.Native.Nat.{ℕ}
 use lib.Dec.{leb}
-use lib.ListN.{length, drop}
+use lib.ListN.{length}
 use Rattle.refusal.specs.declared.Refusal.the-variants.{TooLong, Unreadable, TooDeep, TableFull, DepthLimit}
-use Rattle.types.specs.Forest.{Forest, nil, size, depth}
-use Rattle.types.specs.Records.{recordSize, recordsOf}
+use Rattle.node.specs.Forest.{Forest, nil, size, depth}
+use Rattle.node.specs.Records.{stored}
 use Rattle.decoder.specs.Framing.{Whole, trees, waiting, refusal}
 use Rattle.decoder.specs.declared.Decoded.{Decoded}
 use Rattle.decoder.specs.declared.Decoded.the-variants.{Packets, Waiting, Refused}
@@ -28,10 +28,6 @@ abbrev pub forestOf : Whole → Forest
 forestOf (trees f left) = f
 forestOf waiting = nil
 forestOf (refusal k) = nil
-
--- a table with a forest's records over its first bytes; later bytes are unchanged
-unfoldable pub stored : ℕ → Forest → List ℕ → List ℕ
-stored i f table = recordsOf i f ++ drop (recordSize * size f) table
 
 -- the table after an answer: on success exactly 16 times the count are written, and a refusal or Waiting changes no byte
 abbrev pub tabled : Decoded → Forest → List ℕ → List ℕ

@@ -1,20 +1,19 @@
 // Whole inputs: what is answered, by the first reading, and the second reading of frames.
 use crate::Decoded;
-use crate::fill;
-use crate::fill::Filled;
-use crate::heads;
-use crate::heads::Prefix;
-use crate::measure;
-use crate::measure::Extent;
+use fill::Filled;
+use packet::Prefix;
+use measure::Extent;
 use refusal::Fault;
 use refusal::Refusal;
-use types::record;
+use node::record;
 ghost use mathlib.Core.Path.{_≡_};
 ghost use Prim.Native.Nat.{ℕ, _+_, _≤_};
 ghost use lib.ListN.{length};
 ghost use Rattle.decoder.specs.Framing.{frameOf, udp, tcp, tcpVec};
-ghost use Rattle.decoder.specs.Limits.{decoded, forestOf, stored};
-ghost use Rattle.decoder.specs.Readings.{treeOf, Room, Fills, framePacket, frameExtent, totalOf, added, answered, Accepted};
+ghost use Rattle.decoder.specs.Limits.{decoded, forestOf};
+ghost use Rattle.node.specs.Records.{stored};
+ghost use Rattle.fill.specs.SecondReading.{treeOf, Room, Fills};
+ghost use Rattle.decoder.specs.Readings.{framePacket, frameExtent, totalOf, added, answered, Accepted};
 
 // What the first reading of a frame answers; `used` counts its prefix too.
 pub enum FrameExtent {
@@ -164,7 +163,7 @@ fn measure_frame(input: &[u8], depth: usize) -> FrameExtent
     requires { ⌜ length (now input) ≤ 65535 ⌝ }
     ensures { λ r. ⌜ ((base : ℕ) → r ≡ frameExtent depth (frameOf base (now (input .entry)))) ⌝ }
 {
-    match heads::read_prefix(input) {
+    match packet::read_prefix(input) {
         Prefix::Whole => match measure::measure_packet(&input[4..], 4, depth) {
             Extent::Tree { count, next } => FrameExtent::Tree { count, used: next },
             Extent::Deep { next } => FrameExtent::Deep { used: next },
@@ -181,7 +180,7 @@ pub fn decode_frame(input: &[u8], base: usize, table: &mut [u8], index: usize) -
     requires { ⌜ Room (treeOf (framePacket (frameOf base (now input)))) index (now table) ⌝ }
     ensures { λ r. ⌜ Fills (framePacket (frameOf base (now (input .entry)))) 0 index (now (table .entry)) r (now (table .exit)) ⌝ }
 {
-    match heads::read_prefix(input) {
+    match packet::read_prefix(input) {
         Prefix::Whole => fill::decode_packet(&input[4..], base, 4, table, index),
         Prefix::Waiting => Filled::Nothing,
         Prefix::RunsOut => Filled::Nothing,

@@ -1,15 +1,12 @@
 // Packets, bundles and whole inputs (decoder.rs). A packet is read twice: first it is measured, and nothing is written;
 // then, where the table has room, its records are written.
-mod heads; // heads.rt: what stands at the front of a packet, of an element and of a frame
-mod measure; // measure.rt: the first reading of a packet
-mod fill; // fill.rt: the second reading of a packet
 mod frames; // frames.rt: both readings of a whole input
 
 use refusal::Refusal;
 ghost use mathlib.Core.Path.{_≡_};
 ghost use Prim.Native.Nat.{_/_};
 ghost use lib.ListN.{length};
-ghost use Rattle.types.specs.Records.{recordSize};
+ghost use Rattle.node.specs.Records.{recordSize};
 ghost use Rattle.decoder.specs.Framing.{udp, tcp, tcpVec};
 ghost use Rattle.decoder.specs.Limits.{decoded, forestOf, tabled};
 
@@ -32,7 +29,7 @@ pub fn decode_udp(msg: &[u8], table: &mut [u8], depth: usize) -> Decoded
     ensures { λ r. ⌜ r ≡ decoded udp (length (now (table .entry)) / recordSize) depth (now (msg .entry)) ⌝ }
     ensures { λ r. ⌜ now (table .exit) ≡ tabled r (forestOf (udp (now (msg .entry)))) (now (table .entry)) ⌝ }
 {
-    match frames::answer_udp(msg, types::record::capacity(table), depth) {
+    match frames::answer_udp(msg, node::record::capacity(table), depth) {
         Decoded::Packets { count, left } => {
             fill::write_packet(msg, 0, 0, table, 0, count);
             Decoded::Packets { count, left }
@@ -49,7 +46,7 @@ pub fn decode_tcp(msg: &[u8], table: &mut [u8], depth: usize) -> Decoded
     ensures { λ r. ⌜ r ≡ decoded tcp (length (now (table .entry)) / recordSize) depth (now (msg .entry)) ⌝ }
     ensures { λ r. ⌜ now (table .exit) ≡ tabled r (forestOf (tcp (now (msg .entry)))) (now (table .entry)) ⌝ }
 {
-    match frames::answer_tcp(msg, types::record::capacity(table), depth) {
+    match frames::answer_tcp(msg, node::record::capacity(table), depth) {
         Decoded::Packets { count, left } => {
             frames::decode_frame(msg, 0, table, 0);
             Decoded::Packets { count, left }
@@ -66,7 +63,7 @@ pub fn decode_tcp_vec(msg: &[u8], table: &mut [u8], depth: usize) -> Decoded
     ensures { λ r. ⌜ r ≡ decoded tcpVec (length (now (table .entry)) / recordSize) depth (now (msg .entry)) ⌝ }
     ensures { λ r. ⌜ now (table .exit) ≡ tabled r (forestOf (tcpVec (now (msg .entry)))) (now (table .entry)) ⌝ }
 {
-    match frames::answer_tcp_vec(msg, types::record::capacity(table), depth) {
+    match frames::answer_tcp_vec(msg, node::record::capacity(table), depth) {
         Decoded::Packets { count, left } => {
             frames::decode_frames(msg, table);
             Decoded::Packets { count, left }

@@ -3,7 +3,7 @@ use crate::ask::Call;
 use crate::ask::decode;
 use crate::ask::refuses;
 use decoder::Decoded;
-use number::put_u32;
+use wire::put_u32;
 ghost use Prim.Native.Nat.{_*_, _≤_};
 ghost use lib.ListN.{length};
 

@@ -5,14 +5,14 @@ use Prim.Native.Nat.{ℕ, _*_}
 use native.Mathlib.Omega.{arith}
 use lib.ListN.{take, drop}
 use lib.Seq.{take-at}
-use Rattle.types.specs.Forest.{size}
-use Rattle.types.specs.Records.{recordSize, recordsOf}
+use Rattle.node.specs.Forest.{size}
+use Rattle.node.specs.Records.{recordSize, recordsOf, stored}
 use Rattle.decoder.specs.Framing.{Whole, trees, waiting, refusal}
-use Rattle.decoder.specs.Limits.{limited, decoded, forestOf, stored, tabled}
+use Rattle.decoder.specs.Limits.{limited, decoded, forestOf, tabled}
 use Rattle.decoder.specs.declared.Decoded.{Decoded}
 use Rattle.decoder.specs.declared.Decoded.the-variants.{Packets}
 use Rattle.demands.specs.Demands.{answer, after}
-use Rattle.types.proofs.Recorded.{length-records}
+use Rattle.node.proofs.Recorded.{length-records}
 use Rattle.decoder.proofs.Chosen.{by-decoded, by-trees}
 use Rattle.decoder.proofs.Answers.{no-packets}
 

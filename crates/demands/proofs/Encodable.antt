@@ -6,11 +6,11 @@ use Prim.Native.Nat.{ℕ, zero, suc, _+_, _*_, _/_, _^_, _≤_, _<_}
 use native.Mathlib.Omega.{arith}
 use borrow.Author.Tests.{le-leb, lt-leb}
 use lib.ListN.{length, drop}
-use Rattle.number.specs.Number.{number}
+use Rattle.wire.specs.Number.{number}
 use Rattle.refusal.specs.declared.Refusal.the-variants.{TableFull}
-use Rattle.types.specs.Forest.{Forest, nil, node, size, depth}
-use Rattle.types.specs.Records.{recordSize, recordsOf}
-use Rattle.decoder.specs.Packet.{Out, fault, one, packet}
+use Rattle.node.specs.Forest.{Forest, nil, node, size, depth}
+use Rattle.node.specs.Records.{recordSize, recordsOf}
+use Rattle.packet.specs.Packet.{Out, fault, one, packet}
 use Rattle.decoder.specs.Framing.{Whole, trees, waiting, refusal, single, udp, Frame, tree, wait, stop, framed, frameOf, first, tcp}
 use Rattle.decoder.specs.Framing.{before, afterFrame, framesAt, frames, tcpVec}
 use Rattle.decoder.specs.Limits.{decoded, forestOf}
@@ -18,7 +18,7 @@ use Rattle.decoder.specs.declared.Decoded.{Decoded}
 use Rattle.decoder.specs.declared.Decoded.the-variants.{Packets, Refused}
 use Rattle.demands.specs.Words.{Bytes}
 use Rattle.demands.specs.Demands.{after, RecordsHold, Encodable}
-use Rattle.number.proofs.Choices.{by-le, lt-or-le}
+use Rattle.wire.proofs.Choices.{by-le, lt-or-le}
 use Rattle.table.proofs.Theorem.{tree-formed, bytes-tree}
 use Rattle.demands.proofs.Placed.{At, at-all, at-drop}
 use Rattle.decoder.proofs.Chosen.{by-decoded, by-trees}

@@ -8,28 +8,28 @@ use native.Mathlib.Omega.{arith}
 use borrow.Author.Tests.{le-leb}
 use lib.ListN.{length, take, drop}
 use lib.Seq.{length-take-le}
-use Rattle.number.specs.Number.{number}
+use Rattle.wire.specs.Number.{number}
 use Rattle.utf8.specs.Derive.{utf8}
-use Rattle.types.specs.Forest.{Forest, nil, node, snoc}
-use Rattle.types.specs.Tags.{among, isScalar, classOf, sortOf}
-use Rattle.types.specs.Value.{leafRules, ownRules}
-use Rattle.types.specs.declared.tags.Class.{Class}
-use Rattle.types.specs.declared.tags.Class.the-variants.{Four, Eight, Bare, Text as String, Blob, Scalar, Unknown}
-use Rattle.types.specs.declared.tags.Sort.{Sort}
-use Rattle.types.specs.declared.tags.Sort.the-variants.{Opens, Closes, Leaf}
+use Rattle.node.specs.Forest.{Forest, nil, node, snoc}
+use Rattle.node.specs.Tags.{among, isScalar, classOf, sortOf}
+use Rattle.node.specs.Rules.{leafRules, ownRules}
+use Rattle.node.specs.declared.tags.Class.{Class}
+use Rattle.node.specs.declared.tags.Class.the-variants.{Four, Eight, Bare, Text as String, Blob, Scalar, Unknown}
+use Rattle.node.specs.declared.tags.Sort.{Sort}
+use Rattle.node.specs.declared.tags.Sort.the-variants.{Opens, Closes, Leaf}
 use Rattle.text.specs.Text.{reach, textOf}
 use Rattle.text.specs.declared.Text.{Text}
 use Rattle.text.specs.declared.Text.the-variants.{Found, Lacks}
-use Rattle.arguments.specs.Argument.{argOf, textArg}
+use Rattle.argument.specs.Argument.{argOf, textArg}
 use Rattle.arguments.specs.Arguments.{Args, refused, args, later, taken, act, readArgs, argsOf}
-use Rattle.arguments.specs.declared.Arg.{Arg}
-use Rattle.arguments.specs.declared.Arg.the-variants as arg
+use Rattle.argument.specs.declared.Arg.{Arg}
+use Rattle.argument.specs.declared.Arg.the-variants as arg
 use Rattle.table.specs.Formed.{part, inside, rangeOk, isPacket, allowed}
 use Rattle.table.specs.Tree.{Obeys, FieldsFit}
 use Rattle.demands.specs.Words.{Bytes}
 use Rattle.demands.specs.Osc10.{words, longs, bares}
-use Rattle.number.proofs.Choices.{by-test, by-le}
-use Rattle.arguments.proofs.Within.{given-within, given-fits}
+use Rattle.wire.proofs.Choices.{by-test, by-le}
+use Rattle.argument.proofs.Within.{given-within, given-fits}
 use Rattle.text.proofs.Within.{found-in}
 use Rattle.demands.proofs.Placed.{At, at-take, at-on, at-bytes, range-at}
 use Rattle.demands.proofs.OscTags.{of-among, HasTag, HasSort, has-sort}

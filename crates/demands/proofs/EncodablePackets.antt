@@ -6,22 +6,22 @@ use Prim.Native.Nat.{ℕ, zero, suc, _+_, _-_, _^_, _≤_, _<_}
 use native.Mathlib.Omega.{arith}
 use lib.Dec.{eqb}
 use lib.ListN.{length, getD, take, drop}
-use Rattle.number.specs.Number.{number}
-use Rattle.types.specs.Forest.{Forest}
-use Rattle.types.specs.Value.{ownRules}
+use Rattle.wire.specs.Number.{number}
+use Rattle.node.specs.Forest.{Forest}
+use Rattle.node.specs.Rules.{ownRules}
 use Rattle.text.specs.Text.{textOf}
 use Rattle.text.specs.declared.Text.{Text}
 use Rattle.text.specs.declared.Text.the-variants.{Found, Lacks}
 use Rattle.arguments.specs.Arguments.{Args, refused, args, argsOf}
-use Rattle.decoder.specs.Packet.{Out, fault, one, Elements, upto, after, tagsIn, messageWith, typesThen, messageOf, same, bundleWord}
-use Rattle.decoder.specs.Packet.{bundleWith, bundleOf, filling, elementOf, joined, goOn, elementsOf, startsWith, packetOf, packetAt}
-use Rattle.decoder.specs.Packet.{elementsAt, packet}
+use Rattle.packet.specs.Packet.{Out, fault, one, Elements, upto, after, tagsIn, messageWith, typesThen, messageOf, same, bundleWord}
+use Rattle.packet.specs.Packet.{bundleWith, bundleOf, filling, elementOf, joined, goOn, elementsOf, startsWith, packetOf, packetAt}
+use Rattle.packet.specs.Packet.{elementsAt, packet}
 use Rattle.table.specs.Formed.{rangeOk, allowed}
 use Rattle.demands.specs.Words.{Bytes}
-use Rattle.number.proofs.Choices.{by-test, by-le}
-use Rattle.number.proofs.Numbers.{number-small}
+use Rattle.wire.proofs.Choices.{by-test, by-le}
+use Rattle.wire.proofs.Numbers.{number-small}
 use Rattle.text.proofs.Within.{found-in}
-use Rattle.number.proofs.Parts.{drop-small}
+use Rattle.wire.proofs.Parts.{drop-small}
 use Rattle.demands.proofs.Placed.{At, at-take, at-on, at-bytes}
 use Rattle.demands.proofs.EncodableArgs.{Sound, NodeSound, sound-nil, sound-node, text-range, args-sound}
 

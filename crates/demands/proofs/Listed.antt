@@ -6,26 +6,27 @@ use Prim.Native.Nat.{ℕ, zero, suc, _+_}
 use lib.Dec.{eqb, ltb}
 use lib.ListN.{length, drop}
 use Rattle.refusal.specs.declared.Fault.the-variants.{Empty, RunsOut, NotUtf8, BadStart, NotOpen, UnknownTag, NotScalar}
-use Rattle.number.specs.Pad.{padOf}
+use Rattle.wire.specs.Pad.{padOf}
 use Rattle.utf8.specs.Derive.{utf8}
-use Rattle.types.specs.Forest.{Forest, nil, node, depth}
-use Rattle.types.specs.Tags.{among}
-use Rattle.types.specs.Records.{kindAt, zerosAt, aAt, bAt}
-use Rattle.types.specs.Value.{ownRules}
-use Rattle.types.specs.Look.{capacity, lookAt}
-use Rattle.types.specs.declared.look.Looked.{Looked}
-use Rattle.number.specs.declared.Padded.{Padded}
-use Rattle.decoder.specs.Packet.{Out, fault, one, packet}
+use Rattle.node.specs.Forest.{Forest, nil, node, depth}
+use Rattle.node.specs.Tags.{among}
+use Rattle.node.specs.Records.{kindAt, zerosAt, aAt, bAt, capacity}
+use Rattle.node.specs.Rules.{ownRules}
+use Rattle.values.specs.Look.{lookAt}
+use Rattle.values.specs.declared.look.Looked.{Looked}
+use Rattle.wire.specs.declared.Padded.{Padded}
+use Rattle.packet.specs.Packet.{Out, fault, one, packet}
 use Rattle.decoder.specs.Framing.{Whole, trees, waiting, refusal, single, udp, Frame, tree, wait, stop, frameOf, tcp, before, afterFrame}
 use Rattle.decoder.specs.Framing.{framesAt, frames, tcpVec}
 use Rattle.decoder.specs.Limits.{limited, decoded}
 use Rattle.decoder.specs.declared.Decoded.{Decoded}
-use Rattle.encoder.specs.Osc.{oscString, packetOf}
+use Rattle.strings.specs.Atomic.{oscString}
+use Rattle.writers.specs.Osc.{packetOf}
 use Rattle.encoder.specs.Outcome.{Outcome, write, encoded, Encodes, malformed, formed, stringOutcome}
 use Rattle.demands.specs.Calls.{decode-udp, decode-tcp, decode-tcp-vec, encode, encode-tcp, encode-string, pad, look, text-of}
 use Rattle.demands.specs.Calls.{byDecoded, byEncoded, byPadded, byLooked, decodeOrder, encodeOrder, numbersOf, Listed}
 use Rattle.demands.specs.Calls.{AnswersListed}
-use Rattle.number.proofs.Choices.{by-test, by-le}
+use Rattle.wire.proofs.Choices.{by-test, by-le}
 use Rattle.decoder.proofs.Chosen.{by-decoded, by-trees}
 
 -- ---- decoders

@@ -7,16 +7,16 @@ use borrow.Author.Tests.{le-leb}
 use lib.ListN.{length, drop, length-append}
 use lib.Seq.{drop-append-le}
 use Rattle.refusal.specs.declared.Fault.{Fault}
-use Rattle.number.specs.Number.{number}
-use Rattle.types.specs.Forest.{Forest, size}
-use Rattle.types.specs.Records.{recordsOf}
-use Rattle.decoder.specs.Packet.{Out}
+use Rattle.wire.specs.Number.{number}
+use Rattle.node.specs.Forest.{Forest, size}
+use Rattle.node.specs.Records.{recordsOf}
+use Rattle.packet.specs.Packet.{Out}
 use Rattle.decoder.specs.Framing.{Whole, trees, waiting, refusal, single, udp, framed, frameOf, first, tcp}
 use Rattle.decoder.specs.Limits.{decoded, forestOf}
 use Rattle.decoder.specs.declared.Decoded.the-variants.{Packets}
 use Rattle.demands.specs.Words.{Continues, message, bundle, Unlimited}
 use Rattle.demands.specs.Demands.{answer, GoesOn, MoreBytes}
-use Rattle.number.proofs.Choices.{by-le}
+use Rattle.wire.proofs.Choices.{by-le}
 use Rattle.decoder.proofs.Chosen.{by-decoded, by-trees}
 use Rattle.demands.proofs.Answers.{accepted, after-is, after-records}
 use Rattle.demands.proofs.LongerArguments.{number-longer}

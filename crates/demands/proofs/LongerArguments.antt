@@ -9,23 +9,23 @@ use lib.Dec.{eqb, ltb}
 use lib.ListN.{length, take, drop, length-append, length-drop}
 use lib.Seq.{take-append-le, drop-append-le}
 use Rattle.refusal.specs.declared.Fault.the-variants.{NotScalar}
-use Rattle.number.specs.Number.{number}
+use Rattle.wire.specs.Number.{number}
 use Rattle.utf8.specs.Derive.{utf8}
-use Rattle.types.specs.Forest.{Forest, nil, snoc}
-use Rattle.types.specs.Tags.{sortOf, isScalar}
-use Rattle.types.specs.declared.tags.Class.{Class}
-use Rattle.types.specs.declared.tags.Class.the-variants.{Four, Eight, Bare, Text as String, Blob, Scalar, Unknown}
-use Rattle.types.specs.declared.tags.Sort.{Sort}
-use Rattle.types.specs.declared.tags.Sort.the-variants.{Opens, Closes, Leaf}
+use Rattle.node.specs.Forest.{Forest, nil, snoc}
+use Rattle.node.specs.Tags.{sortOf, isScalar}
+use Rattle.node.specs.declared.tags.Class.{Class}
+use Rattle.node.specs.declared.tags.Class.the-variants.{Four, Eight, Bare, Text as String, Blob, Scalar, Unknown}
+use Rattle.node.specs.declared.tags.Sort.{Sort}
+use Rattle.node.specs.declared.tags.Sort.the-variants.{Opens, Closes, Leaf}
 use Rattle.text.specs.Text.{untilNul, reach, textOf}
 use Rattle.text.specs.declared.Text.{Text}
 use Rattle.text.specs.declared.Text.the-variants.{Found, Lacks}
-use Rattle.arguments.specs.Argument.{having, textArg, argOf}
+use Rattle.argument.specs.Argument.{having, textArg, argOf}
 use Rattle.arguments.specs.Arguments.{Args, refused, args, later, taken, act, readArgs, argsOf}
-use Rattle.arguments.specs.declared.Arg.{Arg}
-use Rattle.arguments.specs.declared.Arg.the-variants.{Given, Refused}
-use Rattle.number.proofs.Choices.{by-test, by-le}
-use Rattle.arguments.proofs.Within.{given-within}
+use Rattle.argument.specs.declared.Arg.{Arg}
+use Rattle.argument.specs.declared.Arg.the-variants.{Given, Refused}
+use Rattle.wire.proofs.Choices.{by-test, by-le}
+use Rattle.argument.proofs.Within.{given-within}
 
 -- what was accepted stays
 abbrev pub KeptText : Text → Text → Type 0

@@ -8,20 +8,20 @@ use lib.Dec.{eqb}
 use lib.ListN.{length, getD, take, drop, length-append, length-drop, List·getD-append}
 use lib.Seq.{take-append-le, drop-append-le}
 use Rattle.refusal.specs.declared.Fault.{Fault}
-use Rattle.number.specs.Number.{number}
-use Rattle.types.specs.Forest.{Forest, nil, node}
+use Rattle.wire.specs.Number.{number}
+use Rattle.node.specs.Forest.{Forest, nil, node}
 use Rattle.text.specs.Text.{textOf}
 use Rattle.text.specs.declared.Text.{Text}
 use Rattle.text.specs.declared.Text.the-variants.{Found, Lacks}
 use Rattle.arguments.specs.Arguments.{Args, refused, args, argsOf}
-use Rattle.decoder.specs.Packet.{Out, fault, one, Elements, upto, after, tagsIn, messageWith, typesThen, messageOf, same, bundleWord}
-use Rattle.decoder.specs.Packet.{bundleWith, bundleOf, filling, elementOf, startsWith, packetOf, packet, elements}
-use Rattle.decoder.specs.Readings.{bundle, element, treesIn}
+use Rattle.packet.specs.Packet.{Out, fault, one, Elements, upto, after, tagsIn, messageWith, typesThen, messageOf, same, bundleWord}
+use Rattle.packet.specs.Packet.{bundleWith, bundleOf, filling, elementOf, startsWith, packetOf, packet, elements}
+use Rattle.packet.specs.Packet.{bundle, element, treesIn}
 use Rattle.demands.specs.Words.{Begins, none, also}
-use Rattle.number.proofs.Choices.{by-eq, by-le, by-both}
-use Rattle.decoder.proofs.Knot.{packet-eq}
+use Rattle.wire.proofs.Choices.{by-eq, by-le, by-both}
+use Rattle.packet.proofs.Knot.{packet-eq}
 use Rattle.text.proofs.Within.{found-in}
-use Rattle.decoder.proofs.Bundles.{ended, first-trees, first-in}
+use Rattle.packet.proofs.Bundles.{ended, first-trees, first-in}
 use Rattle.demands.proofs.LongerArguments.{KeptText, KeptArgs, number-longer, text-longer, args-longer}
 
 -- a message is the same and takes as many bytes; a bundle keeps its time tag and begins with the same elements

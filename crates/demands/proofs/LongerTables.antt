@@ -6,12 +6,12 @@ use Prim.Native.Nat.{ℕ, _+_, _-_, _*_}
 use native.Mathlib.Omega.{arith}
 use lib.ListN.{length, take, drop}
 use lib.Seq.{take-at, drop-at}
-use Rattle.number.specs.Number.{number, bytes}
-use Rattle.types.specs.Forest.{Forest, nil, node, size}
-use Rattle.types.specs.Records.{recordSize, recordOf, recordsOf, kindAt, aAt, bAt}
+use Rattle.wire.specs.Number.{number, bytes}
+use Rattle.node.specs.Forest.{Forest, nil, node, size}
+use Rattle.node.specs.Records.{recordSize, recordOf, recordsOf, kindAt, aAt, bAt}
 use Rattle.demands.specs.Words.{Begins, none, also, Continues, message, bundle}
 use Rattle.demands.specs.Demands.{TableContinues}
-use Rattle.types.proofs.Recorded.{length-record, length-records}
+use Rattle.node.proofs.Recorded.{length-record, length-records}
 
 begins-all : (f : Forest) → Begins f f
 begins-all nil = none

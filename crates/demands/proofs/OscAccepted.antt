@@ -5,8 +5,8 @@ use Prim.Native.Nat.{ℕ, _-_, _≤_}
 use native.Mathlib.Omega.{arith}
 use borrow.Author.Tests.{le-leb}
 use lib.ListN.{length}
-use Rattle.types.specs.Forest.{Forest, nil, node, size, depth}
-use Rattle.decoder.specs.Packet.{packet, one}
+use Rattle.node.specs.Forest.{Forest, nil, node, size, depth}
+use Rattle.packet.specs.Packet.{packet, one}
 use Rattle.decoder.specs.Framing.{trees, udp}
 use Rattle.decoder.specs.Limits.{decoded}
 use Rattle.decoder.specs.declared.Decoded.the-variants as decoder

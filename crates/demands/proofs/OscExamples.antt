@@ -3,7 +3,7 @@ use mathlib.Core.Path.{refl}
 use mathlib.Core.List.{List, [], _∷_}
 use Prim.Native.Nat.{ℕ}
 use native.Mathlib.Omega.{arith}
-use Rattle.number.specs.Number.{bytes}
+use Rattle.wire.specs.Number.{bytes}
 use Rattle.demands.specs.Words.{NoNul}
 use Rattle.demands.specs.Osc10.{end, atom, word, Packet, message, bundle, none, also, ArgumentsAllowed, Allowed, AllAllowed, deep}
 use Rattle.demands.specs.Osc10.{tagsOf, as-word, no-argument, one-atom, Spells, as-message, as-bundle, no-element, element}

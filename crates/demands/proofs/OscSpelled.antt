@@ -9,17 +9,18 @@ use lib.Dec.{eqb}
 use lib.ListN.{length, drop, replicate}
 use lib.Seq.{append-snoc}
 use Rattle.utf8.specs.Derive.{utf8}
-use Rattle.types.specs.Forest.{Forest, nil, node}
-use Rattle.types.specs.Tags.{among, isScalar, sortOf}
-use Rattle.types.specs.Value.{leafRules, argRules, ownRules}
-use Rattle.types.specs.declared.tags.Class.{Class}
-use Rattle.types.specs.declared.tags.Class.the-variants.{Four, Eight, Bare, Text, Blob, Scalar, Unknown}
-use Rattle.types.specs.declared.tags.Sort.{Sort}
-use Rattle.types.specs.declared.tags.Sort.the-variants.{Opens, Closes, Leaf}
+use Rattle.node.specs.Forest.{Forest, nil, node}
+use Rattle.node.specs.Tags.{among, isScalar, sortOf}
+use Rattle.node.specs.Rules.{leafRules, argRules, ownRules}
+use Rattle.node.specs.declared.tags.Class.{Class}
+use Rattle.node.specs.declared.tags.Class.the-variants.{Four, Eight, Bare, Text, Blob, Scalar, Unknown}
+use Rattle.node.specs.declared.tags.Sort.{Sort}
+use Rattle.node.specs.declared.tags.Sort.the-variants.{Opens, Closes, Leaf}
 use Rattle.table.specs.Formed.{part, inside, rangeOk, isPacket, allowed}
 use Rattle.table.specs.Tree.{Obeys, FieldsFit}
-use Rattle.encoder.specs.Osc.{oscString, oscBlob, argumentOf, dataOf, messageOf, bundleOf, elementsOf, packetOf}
-use Rattle.encoder.specs.Osc as enc
+use Rattle.strings.specs.Atomic.{oscString, oscBlob, argumentOf}
+use Rattle.writers.specs.Osc.{dataOf, messageOf, bundleOf, elementsOf, packetOf}
+use Rattle.writers.specs.Osc as enc
 use Rattle.demands.specs.Words.{Bytes, NoNul, CleanNode, Clean}
 use Rattle.demands.specs.Osc10.{Atom, word, long, bare, string, blob, char, Arguments, end, atom, array, message, bundle, Packets}
 use Rattle.demands.specs.Osc10.{none, also, IsText, AtomAllowed, ArgumentsAllowed, Allowed, AllAllowed, OscString, OscBlob, tagOf}
@@ -29,8 +30,9 @@ use Rattle.demands.specs.Osc10.{FieldsAre, is-word, is-long, is-bare, is
 use Rattle.demands.specs.Osc10.{branch, is-message, is-bundle, StandFor, no-packet, packet}
 use Rattle.demands.specs.Standards.{Spelled}
 use Rattle.utf8.proofs.Grammar.{octets}
-use Rattle.encoder.proofs.Lengths.{packet-even, length-string, length-blob}
-use Rattle.number.proofs.Parts.{take-small, drop-small}
+use Rattle.writers.proofs.Lengths.{packet-even}
+use Rattle.strings.proofs.Lengths.{length-string, length-blob}
+use Rattle.wire.proofs.Parts.{take-small, drop-small}
 use Rattle.demands.proofs.OscTags.{of-among, HasTag, HasSort, has-sort}
 
 no-way : {A : Type 0} → false ≡ true → A

@@ -6,13 +6,13 @@ use Prim.Native.Nat.{ℕ, _^_, _<_}
 use native.Mathlib.Omega.{arith}
 use borrow.Author.Tests.{eqb-true, eqb-false, ltb-true, leb-true}
 use lib.Dec.{eqb, leb, ltb}
-use Rattle.types.specs.Tags.{among, isScalar, classOf, sortOf}
-use Rattle.types.specs.declared.tags.Class.{Class}
-use Rattle.types.specs.declared.tags.Class.the-variants.{Four, Eight, Bare, Text, Blob, Scalar, Unknown}
-use Rattle.types.specs.declared.tags.Sort.{Sort}
-use Rattle.types.specs.declared.tags.Sort.the-variants.{Opens, Closes, Leaf}
+use Rattle.node.specs.Tags.{among, isScalar, classOf, sortOf}
+use Rattle.node.specs.declared.tags.Class.{Class}
+use Rattle.node.specs.declared.tags.Class.the-variants.{Four, Eight, Bare, Text, Blob, Scalar, Unknown}
+use Rattle.node.specs.declared.tags.Sort.{Sort}
+use Rattle.node.specs.declared.tags.Sort.the-variants.{Opens, Closes, Leaf}
 use Rattle.demands.specs.Osc10.{Atom, word, long, bare, string, blob, char, words, longs, bares, AtomAllowed, tagOf}
-use Rattle.number.proofs.Choices.{by-test}
+use Rattle.wire.proofs.Choices.{by-test}
 
 -- ---- one of a list
 

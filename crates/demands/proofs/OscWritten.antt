@@ -7,13 +7,13 @@ use borrow.Author.Tests.{le-leb}
 use lib.Dec.{leb}
 use lib.ListN.{length, take}
 use lib.Seq.{take-at}
-use Rattle.types.specs.Forest.{Forest, nil, node, depth}
+use Rattle.node.specs.Forest.{Forest, nil, node, depth}
 use Rattle.table.specs.Tree.{IsTree}
-use Rattle.encoder.specs.Osc.{packetOf}
+use Rattle.writers.specs.Osc.{packetOf}
 use Rattle.encoder.specs.Outcome.{Outcome, Encodes, malformed, formed, plain, encoded, write}
 use Rattle.encoder.specs.declared.Encoded.the-variants.{Written}
 use Rattle.demands.specs.Standards.{Osc10Written}
-use Rattle.number.proofs.Choices.{by-test}
+use Rattle.wire.proofs.Choices.{by-test}
 use Rattle.table.proofs.Theorem.{tree-formed, tree-unique}
 use Rattle.demands.proofs.OscSpelled.{packet-is}
 use Rattle.demands.proofs.Tables.{spans-fit}

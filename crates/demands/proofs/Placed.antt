@@ -5,7 +5,7 @@ use Prim.Native.Nat.{ℕ, _+_, _≤_}
 use native.Mathlib.Omega.{arith}
 use lib.ListN.{length, take, drop, length-append, take-append-drop}
 use lib.Seq.{take-at, drop-at, drop-drop, length-take-le}
-use Rattle.number.proofs.Parts.{take-small, drop-small}
+use Rattle.wire.proofs.Parts.{take-small, drop-small}
 use Rattle.demands.specs.Words.{Bytes}
 use Rattle.demands.specs.Osc10.{Range}
 

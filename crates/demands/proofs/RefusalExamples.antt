@@ -4,15 +4,15 @@ use mathlib.Core.List.{List, [], _∷_, _++_}
 use Prim.Native.Nat.{ℕ}
 use Rattle.refusal.specs.declared.Fault.the-variants.{Empty}
 use Rattle.refusal.specs.declared.Refusal.the-variants.{Unreadable, BadTable, OutputShort, PadOverflow}
-use Rattle.number.specs.Number.{number, bytes}
-use Rattle.number.specs.declared.Padded.the-variants as padded
-use Rattle.types.specs.Forest.{depth}
-use Rattle.types.specs.Tags.{classOf, sortOf}
-use Rattle.decoder.specs.Packet.{packetOf, packetAt, packet}
+use Rattle.wire.specs.Number.{number, bytes}
+use Rattle.wire.specs.declared.Padded.the-variants as padded
+use Rattle.node.specs.Forest.{depth}
+use Rattle.node.specs.Tags.{classOf, sortOf}
+use Rattle.packet.specs.Packet.{packetOf, packetAt, packet}
 use Rattle.decoder.specs.Framing.{udp, frameOf, tcp}
 use Rattle.decoder.specs.Limits.{decoded}
 use Rattle.decoder.specs.declared.Decoded.the-variants as decodes
-use Rattle.encoder.specs.Osc as osc
+use Rattle.writers.specs.Osc as osc
 use Rattle.encoder.specs.Outcome.{write, encoded, malformed, formed}
 use Rattle.encoder.specs.declared.Encoded.the-variants as encodes
 use Rattle.demands.specs.Calls.{Meets, decode-udp, decode-tcp, encode, pad}

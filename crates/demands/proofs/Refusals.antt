@@ -4,20 +4,21 @@ use mathlib.Core.List.{List}
 use Prim.Native.Nat.{ℕ}
 use lib.ListN.{length}
 use Rattle.utf8.specs.Derive.{utf8}
-use Rattle.number.specs.Pad.{padOf}
-use Rattle.types.specs.Look.{lookAt, textOf}
-use Rattle.types.specs.Forest.{Forest, nil, node, depth}
+use Rattle.wire.specs.Pad.{padOf}
+use Rattle.values.specs.Look.{lookAt, textOf}
+use Rattle.node.specs.Forest.{Forest, nil, node, depth}
 use Rattle.decoder.specs.Framing.{Whole, udp, tcp, tcpVec}
 use Rattle.decoder.specs.Limits.{forestOf, tabled}
 use Rattle.decoder.specs.declared.Decoded.{Decoded}
 use Rattle.decoder.specs.declared.Decoded.the-variants.{Packets, Waiting, Refused}
 use Rattle.table.specs.Tree.{IsTree}
 use Rattle.encoder.specs.Outcome.{Outcome, write, encoded, Encodes, malformed, formed, plain, prefixed, stringOutcome}
-use Rattle.encoder.specs.Osc.{oscString, packetOf}
+use Rattle.strings.specs.Atomic.{oscString}
+use Rattle.writers.specs.Osc.{packetOf}
 use Rattle.demands.specs.Calls.{Call, decode-udp, decode-tcp, decode-tcp-vec, encode, encode-tcp, encode-string, pad, look, text-of}
 use Rattle.demands.specs.Calls.{Ending, Decodes, Answer, Lent, result, byDecoded, byEncoded, Settled, Met, NothingChanged}
 use Rattle.demands.specs.Demands.{answer, after}
-use Rattle.number.proofs.Choices.{by-test, by-le}
+use Rattle.wire.proofs.Choices.{by-test, by-le}
 use Rattle.table.proofs.Theorem.{formed-tree, tree-formed, tree-unique}
 
 -- ---- no second ending

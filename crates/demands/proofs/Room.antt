@@ -5,7 +5,7 @@ use Prim.Native.Nat.{ℕ, _≤_}
 use native.Mathlib.Omega.{arith}
 use lib.ListN.{length}
 use borrow.Author.Tests.{le-leb, lt-leb}
-use Rattle.types.specs.Forest.{size, depth}
+use Rattle.node.specs.Forest.{size, depth}
 use Rattle.decoder.specs.Framing.{Whole, trees, waiting, refusal}
 use Rattle.decoder.specs.Limits.{limited, decoded}
 use Rattle.demands.specs.Words.{NotFull}

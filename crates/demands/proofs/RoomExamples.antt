@@ -5,14 +5,14 @@ use Prim.Native.Nat.{ℕ, _*_}
 use native.Mathlib.Omega.{arith}
 use lib.ListN.{replicate}
 use Rattle.refusal.specs.declared.Refusal.the-variants.{TableFull}
-use Rattle.number.specs.Number.{number}
-use Rattle.types.specs.Forest.{size, depth, snoc}
-use Rattle.types.specs.Tags.{classOf, sortOf}
-use Rattle.types.specs.Records.{recordSize}
+use Rattle.wire.specs.Number.{number}
+use Rattle.node.specs.Forest.{size, depth, snoc}
+use Rattle.node.specs.Tags.{classOf, sortOf}
+use Rattle.node.specs.Records.{recordSize}
 use Rattle.text.specs.Text.{textOf}
-use Rattle.arguments.specs.Argument.{argOf}
+use Rattle.argument.specs.Argument.{argOf}
 use Rattle.arguments.specs.Arguments.{readArgs}
-use Rattle.decoder.specs.Packet.{messageOf, bundleOf, elementOf, elementsOf, packetOf, packetAt, packet}
+use Rattle.packet.specs.Packet.{messageOf, bundleOf, elementOf, elementsOf, packetOf, packetAt, packet}
 use Rattle.decoder.specs.Framing.{udp}
 use Rattle.decoder.specs.Limits.{decoded}
 use Rattle.decoder.specs.declared.Decoded.{Decoded}

@@ -6,7 +6,7 @@ use mathlib.Core.List.{List}
 use Prim.Native.Nat.{ℕ, _+_, _^_, _<_}
 use native.Mathlib.Omega.{arith}
 use lib.ListN.{length}
-use Rattle.types.specs.Forest.{Forest, nil, node, size, level, depth}
+use Rattle.node.specs.Forest.{Forest, nil, node, size, level, depth}
 use Rattle.table.specs.Formed.{part}
 use Rattle.table.specs.Tree.{FieldsFit}
 use Rattle.demands.specs.Words.{ranged, SameField, Same, both}
@@ -16,7 +16,7 @@ use Rattle.demands.specs.Osc10.{Packets, none, also, AtomAllowed, Argume
 use Rattle.demands.specs.Osc10.{Range, FieldsAre, is-word, is-long, is-bare, is-string, is-blob, is-char, ArgumentsAre, no-node}
 use Rattle.demands.specs.Osc10.{leaf, branch, StandsFor, is-message, is-bundle, StandFor, no-packet, packet}
 use Rattle.demands.specs.Osc10 as osc
-use Rattle.number.proofs.Parts.{length-part}
+use Rattle.wire.proofs.Parts.{length-part}
 use Rattle.demands.proofs.OscTags.{of-among, scalar-small}
 
 -- ---- the same tree

@@ -6,15 +6,15 @@ use Prim.Native.Nat.{ℕ, _+_, _≤_, _<_}
 use native.Mathlib.Nat.{eq-or-lt-of-le}
 use native.Mathlib.Omega.{arith}
 use lib.ListN.{drop}
-use Rattle.types.specs.Forest.{Forest, nil, node}
-use Rattle.types.specs.Records.{startOf, kindAt, endAt, aAt, bAt}
+use Rattle.node.specs.Forest.{Forest, nil, node}
+use Rattle.node.specs.Records.{startOf, kindAt, endAt, aAt, bAt}
 use Rattle.table.specs.Tree.{Spans, FieldsFit}
 use Rattle.demands.specs.Words.{Bytes, SameField, Same, both, SameTable}
 use Rattle.demands.specs.Words as words
-use Rattle.number.proofs.Choices.{lt-or-le}
-use Rattle.number.proofs.Numbers.{number-small}
+use Rattle.wire.proofs.Choices.{lt-or-le}
+use Rattle.wire.proofs.Numbers.{number-small}
 use Rattle.table.proofs.Spanned.{spans-size}
-use Rattle.number.proofs.Parts.{drop-small}
+use Rattle.wire.proofs.Parts.{drop-small}
 use Rattle.demands.proofs.SameTree.{same-size}
 
 -- the fields of a record of bytes fit

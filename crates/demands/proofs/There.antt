@@ -5,12 +5,12 @@ use Prim.Native.Nat.{ℕ, _/_, _<_, _≤_}
 use native.Mathlib.Omega.{arith}
 use lib.ListN.{length, take}
 use Rattle.refusal.specs.declared.Refusal.{Refusal}
-use Rattle.types.specs.Forest.{Forest}
-use Rattle.types.specs.Records.{recordSize}
+use Rattle.node.specs.Forest.{Forest}
+use Rattle.node.specs.Records.{recordSize}
 use Rattle.decoder.specs.Framing.{udp}
 use Rattle.decoder.specs.Limits.{decoded, forestOf, tabled}
 use Rattle.decoder.specs.declared.Decoded.{Decoded}
-use Rattle.encoder.specs.Osc.{packetOf}
+use Rattle.writers.specs.Osc.{packetOf}
 use Rattle.encoder.specs.Outcome.{Outcome, Encodes, plain}
 use Rattle.encoder.specs.declared.Encoded.{Encoded}
 use Rattle.encoder.specs.declared.Encoded.the-variants.{Written, Refused}

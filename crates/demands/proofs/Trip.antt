@@ -5,13 +5,13 @@ use mathlib.Core.List.{List, _++_}
 use Prim.Native.Nat.{ℕ, _*_, _/_, _≤_}
 use native.Mathlib.Omega.{arith}
 use lib.ListN.{length, take, drop}
-use Rattle.types.specs.Forest.{Forest, nil, node, size, depth}
-use Rattle.types.specs.Records.{recordSize, recordsOf}
+use Rattle.node.specs.Forest.{Forest, nil, node, size, depth}
+use Rattle.node.specs.Records.{recordSize, recordsOf, stored}
 use Rattle.decoder.specs.Framing.{trees, udp}
-use Rattle.decoder.specs.Limits.{decoded, stored}
+use Rattle.decoder.specs.Limits.{decoded}
 use Rattle.decoder.specs.declared.Decoded.the-variants.{Packets}
 use Rattle.table.specs.Tree.{Spans, IsTree, FieldsFit}
-use Rattle.encoder.specs.Osc.{packetOf}
+use Rattle.writers.specs.Osc.{packetOf}
 use Rattle.encoder.specs.Outcome.{plain, encoded}
 use Rattle.demands.specs.Words.{Same, SameTable}
 use Rattle.demands.specs.Words as words
@@ -19,7 +19,7 @@ use Rattle.demands.specs.Demands.{after, answer, RoundTrip}
 use Rattle.demands.specs.Standards.{AcceptedAs, Spelled}
 use Rattle.table.proofs.Held.{records-held}
 use Rattle.table.proofs.Theorem.{tree-size}
-use Rattle.encoder.proofs.Lengths.{packet-even}
+use Rattle.writers.proofs.Lengths.{packet-even}
 use Rattle.demands.proofs.SameTree.{same-tree, same-size, packet-fits, tree-deep}
 use Rattle.demands.proofs.OscAccepted.{osc10-accepted}
 use Rattle.demands.proofs.OscSpelled.{packet-is}

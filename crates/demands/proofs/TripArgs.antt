@@ -5,11 +5,11 @@ use Prim.Native.Nat.{ℕ, _+_, _%_, _^_, _<_}
 use native.Mathlib.Omega.{arith}
 use lib.ListN.{length, drop, length-append}
 use lib.Seq.{drop-at}
-use Rattle.types.specs.Forest.{Forest, nil, node, snoc}
-use Rattle.types.specs.Tags.{sortOf}
-use Rattle.arguments.specs.Argument.{argOf}
+use Rattle.node.specs.Forest.{Forest, nil, node, snoc}
+use Rattle.node.specs.Tags.{sortOf}
+use Rattle.argument.specs.Argument.{argOf}
 use Rattle.arguments.specs.Arguments.{args, later, readArgs}
-use Rattle.arguments.specs.declared.Arg.the-variants.{Given}
+use Rattle.argument.specs.declared.Arg.the-variants.{Given}
 use Rattle.demands.specs.Osc10.{Atom, Arguments, end, atom, array, AtomAllowed, ArgumentsAllowed, tagOf, tagsOf, ArgumentsSpell}
 use Rattle.demands.specs.Osc10.{no-argument, one-atom, one-array, ArgumentsAre, no-node, leaf, branch}
 use Rattle.arguments.proofs.Kept.{later-none, later-later}

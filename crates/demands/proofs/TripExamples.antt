@@ -8,14 +8,15 @@ use native.Mathlib.Omega.{arith}
 use mir.Facts.{and-yes}
 use lib.Dec.{T, leb, leb→le}
 use lib.ListN.{length, take, replicate}
-use Rattle.number.specs.Number.{bytes}
-use Rattle.types.specs.Forest.{Forest, nil, node, size, depth}
-use Rattle.types.specs.Tags.{classOf, sortOf}
-use Rattle.types.specs.Value.{ownRules}
-use Rattle.types.specs.Records.{recordSize, recordOf, recordsOf}
+use Rattle.wire.specs.Number.{bytes}
+use Rattle.node.specs.Forest.{Forest, nil, node, size, depth}
+use Rattle.node.specs.Tags.{classOf, sortOf}
+use Rattle.node.specs.Rules.{ownRules}
+use Rattle.node.specs.Records.{recordSize, recordOf, recordsOf}
 use Rattle.table.specs.Formed.{rangeOk, allowed}
 use Rattle.table.specs.Tree.{IsTree, Obeys, FieldsFit}
-use Rattle.encoder.specs.Osc.{oscString, dataOf, tagsOf, messageOf, bundleOf, elementsOf, packetOf}
+use Rattle.strings.specs.Atomic.{oscString}
+use Rattle.writers.specs.Osc.{dataOf, tagsOf, messageOf, bundleOf, elementsOf, packetOf}
 use Rattle.encoder.specs.Outcome.{formed, plain, encoded, write}
 use Rattle.demands.specs.Words.{Bytes, NoNul, CleanNode, Clean}
 use Rattle.demands.specs.Demands.{Playable, PlaysBack}

@@ -7,21 +7,20 @@ use borrow.Author.Tests.{le-leb, eq-eqb, ne-eqb}
 use lib.ListN.{length, getD, take, drop, length-append}
 use lib.Seq.{take-at, drop-at, drop-drop}
 use Rattle.utf8.specs.Utf8.{to, here, end, next, char}
-use Rattle.types.specs.Forest.{Forest, nil, node}
+use Rattle.node.specs.Forest.{Forest, nil, node}
 use Rattle.text.specs.Text.{textOf}
 use Rattle.text.specs.declared.Text.the-variants.{Found}
 use Rattle.arguments.specs.Arguments.{args, readArgs}
-use Rattle.decoder.specs.Packet.{one, upto, after, messageOf, bundleOf, elementOf, joined, startsWith, packetOf, packet, elements}
-use Rattle.decoder.specs.Packet.{elementsAt}
-use Rattle.decoder.specs.Readings.{element}
+use Rattle.packet.specs.Packet.{one, upto, after, messageOf, bundleOf, elementOf, joined, startsWith, packetOf, packet, elements}
+use Rattle.packet.specs.Packet.{elementsAt, element}
 use Rattle.demands.specs.Words.{NoNul}
 use Rattle.demands.specs.Osc10.{Atom, word, long, bare, string, blob, Arguments, atom, array, Packet, message, bundle, Packets}
 use Rattle.demands.specs.Osc10.{none, also, IsText, words, longs, bares, AtomAllowed, ArgumentsAllowed, Allowed, AllAllowed, int32}
 use Rattle.demands.specs.Osc10.{OscString, tagOf, tagsOf, bundleWord, Spells, as-message, as-bundle, ElementsSpell, no-element}
 use Rattle.demands.specs.Osc10.{element as one-element, StandsFor, is-message, is-bundle, StandFor, no-packet}
 use Rattle.demands.specs.Osc10 as osc
-use Rattle.number.proofs.Numbers.{length-bytes, read-written}
-use Rattle.decoder.proofs.Knot.{packet-eq, elements-by}
+use Rattle.wire.proofs.Numbers.{length-bytes, read-written}
+use Rattle.packet.proofs.Knot.{packet-eq, elements-by}
 use Rattle.demands.proofs.Placed.{At, at-front, at-next, range-at}
 use Rattle.demands.proofs.TripParts.{string-length, string-take, string-read}
 use Rattle.demands.proofs.OscTags.{of-among}

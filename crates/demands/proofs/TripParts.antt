@@ -7,20 +7,20 @@ use native.Mathlib.Omega.{arith}
 use borrow.Author.Tests.{ne-eqb}
 use lib.ListN.{length, take, drop, replicate, length-append, length-replicate}
 use lib.Seq.{take-at, drop-at}
-use Rattle.number.specs.Number.{number}
+use Rattle.wire.specs.Number.{number}
 use Rattle.utf8.specs.Utf8.{Octets, Decides}
 use Rattle.utf8.specs.Derive.{utf8}
 use Rattle.utf8.proofs.Grammar.{octets, same-answer}
 use Rattle.text.specs.Text.{untilNul, textOf}
 use Rattle.text.specs.declared.Text.the-variants.{Found}
-use Rattle.arguments.specs.Argument.{argOf}
-use Rattle.arguments.specs.declared.Arg.the-variants.{Given}
+use Rattle.argument.specs.Argument.{argOf}
+use Rattle.argument.specs.declared.Arg.the-variants.{Given}
 use Rattle.demands.specs.Words.{NoNul}
 use Rattle.demands.specs.Osc10.{Atom, IsText, AtomAllowed, int32, OscString, OscBlob, AtomSpells, as-word, as-long, as-bare}
 use Rattle.demands.specs.Osc10.{as-string, as-blob, as-char, FieldsAre, is-word, is-long, is-bare, is-string, is-blob, is-char}
-use Rattle.number.proofs.Numbers.{length-bytes, read-written}
+use Rattle.wire.proofs.Numbers.{length-bytes, read-written}
 use Rattle.text.proofs.Texts.{found}
-use Rattle.arguments.proofs.Argued.{four-given, eight-given, scalar-given, text-given, blob-given}
+use Rattle.argument.proofs.Argued.{four-given, eight-given, scalar-given, text-given, blob-given}
 use Rattle.demands.proofs.Placed.{At, at-front, at-back, range-at}
 use Rattle.demands.proofs.OscTags.{classIs, scalar-small}
 

@@ -6,15 +6,15 @@ use Prim.Native.Nat.{ℕ, _/_}
 use lib.ListN.{length}
 use Rattle.refusal.specs.Refusal.{numberOf}
 use Rattle.refusal.specs.declared.Refusal.{Refusal}
-use Rattle.number.specs.Pad.{padOf}
-use Rattle.number.specs.declared.Padded.{Padded}
-use Rattle.number.specs.declared.Padded.the-variants as padded
-use Rattle.types.specs.Tags.{among}
-use Rattle.types.specs.Records.{recordSize}
-use Rattle.types.specs.Look.{lookAt, textOf}
-use Rattle.types.specs.declared.value.OscType.{OscType}
-use Rattle.types.specs.declared.look.Looked.{Looked}
-use Rattle.types.specs.declared.look.Looked.the-variants as looked
+use Rattle.wire.specs.Pad.{padOf}
+use Rattle.wire.specs.declared.Padded.{Padded}
+use Rattle.wire.specs.declared.Padded.the-variants as padded
+use Rattle.node.specs.Tags.{among}
+use Rattle.node.specs.Records.{recordSize}
+use Rattle.values.specs.Look.{lookAt, textOf}
+use Rattle.values.specs.declared.value.OscType.{OscType}
+use Rattle.values.specs.declared.look.Looked.{Looked}
+use Rattle.values.specs.declared.look.Looked.the-variants as looked
 use Rattle.decoder.specs.Framing.{Whole, udp, tcp, tcpVec}
 use Rattle.decoder.specs.Limits.{decoded, forestOf, tabled}
 use Rattle.decoder.specs.declared.Decoded.{Decoded}

@@ -4,15 +4,15 @@ use mathlib.Core.List.{List, _++_}
 use Prim.Native.Nat.{ℕ, _-_, _*_, _/_, _%_, _≤_}
 use lib.ListN.{length, take, drop}
 use Rattle.refusal.specs.declared.Refusal.the-variants.{TableFull}
-use Rattle.types.specs.Forest.{Forest, nil, node, size, depth}
-use Rattle.types.specs.Records.{recordSize, kindAt, aAt, bAt}
+use Rattle.node.specs.Forest.{Forest, nil, node, size, depth}
+use Rattle.node.specs.Records.{recordSize, kindAt, aAt, bAt}
 use Rattle.decoder.specs.Framing.{Whole, trees, udp}
 use Rattle.decoder.specs.Limits.{decoded, forestOf, tabled}
 use Rattle.decoder.specs.declared.Decoded.{Decoded}
 use Rattle.decoder.specs.declared.Decoded.the-variants.{Packets, Refused}
 use Rattle.table.specs.Formed.{WellFormed}
 use Rattle.table.specs.Tree.{IsTree}
-use Rattle.encoder.specs.Osc.{packetOf}
+use Rattle.writers.specs.Osc.{packetOf}
 use Rattle.encoder.specs.Outcome.{Outcome, Encodes, plain}
 use Rattle.encoder.specs.declared.Encoded.the-variants.{Written}
 use Rattle.demands.specs.Words.{Bytes, Clean, SameTable, Continues, NotFull, Unlimited}

@@ -7,10 +7,10 @@ use mathlib.Core.Bool.{true}
 use mathlib.Core.List.{List, [], _∷_, _++_}
 use Prim.Native.Nat.{ℕ, _+_, _%_, _^_, _≤_, _<_, max}
 use lib.ListN.{length, getD, replicate}
-use Rattle.number.specs.Number.{bytes}
+use Rattle.wire.specs.Number.{bytes}
 use Rattle.utf8.specs.Utf8.{Octets}
-use Rattle.types.specs.Tags.{among, isScalar}
-use Rattle.types.specs.Forest.{Forest, nil, node}
+use Rattle.node.specs.Tags.{among, isScalar}
+use Rattle.node.specs.Forest.{Forest, nil, node}
 use Rattle.table.specs.Formed.{part}
 use Rattle.demands.specs.Words.{Bytes, NoNul}
 

@@ -3,7 +3,7 @@ use mathlib.Core.Path.{_≡_}
 use mathlib.Core.List.{List}
 use Prim.Native.Nat.{ℕ, _≤_}
 use lib.ListN.{length, take}
-use Rattle.types.specs.Forest.{Forest, nil, node, size}
+use Rattle.node.specs.Forest.{Forest, nil, node, size}
 use Rattle.decoder.specs.Framing.{trees, udp}
 use Rattle.decoder.specs.Limits.{decoded}
 use Rattle.decoder.specs.declared.Decoded.the-variants as decoder

@@ -3,9 +3,9 @@ use mathlib.Core.Path.{_≡_}
 use mathlib.Core.List.{List}
 use Prim.Native.Nat.{ℕ, _/_, _≤_}
 use lib.ListN.{length, take}
-use Rattle.types.specs.Forest.{Forest}
-use Rattle.types.specs.Records.{recordSize}
-use Rattle.encoder.specs.Osc.{packetOf}
+use Rattle.node.specs.Forest.{Forest}
+use Rattle.node.specs.Records.{recordSize}
+use Rattle.writers.specs.Osc.{packetOf}
 use Rattle.decoder.specs.declared.Decoded.{Decoded}
 use Rattle.decoder.specs.declared.Decoded.the-variants.{Packets}
 use Rattle.demands.specs.Words.{SameTable}

@@ -6,9 +6,9 @@ use Prim.Native.Nat.{ℕ, _<_}
 use lib.Dec.{eqb}
 use lib.ListN.{getD}
 use Rattle.refusal.specs.declared.Refusal.the-variants.{TooLong, TooDeep, TableFull, DepthLimit}
-use Rattle.types.specs.Tags.{among}
-use Rattle.types.specs.Forest.{Forest, nil, node}
-use Rattle.types.specs.Records.{kindAt, endAt, aAt, bAt}
+use Rattle.node.specs.Tags.{among}
+use Rattle.node.specs.Forest.{Forest, nil, node}
+use Rattle.node.specs.Records.{kindAt, endAt, aAt, bAt}
 use Rattle.decoder.specs.declared.Decoded.{Decoded}
 use Rattle.decoder.specs.declared.Decoded.the-variants.{Refused}
 use Rattle.table.specs.Formed.{part}

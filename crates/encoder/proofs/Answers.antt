@@ -12,32 +12,33 @@ use borrow.Rule.Slice.PartMut.{midOf, putMid}
 use Rattle.refusal.specs.declared.Refusal.{Refusal}
 use Rattle.refusal.specs.declared.Refusal.the-variants.{TooLong, Unreadable, TooDeep, BadTable, OutputShort}
 use Rattle.refusal.specs.declared.Fault.the-variants.{NotUtf8}
-use Rattle.number.specs.Number.{bytes}
-use Rattle.number.specs.Wrote.{Wrote, Filled}
-use Rattle.number.proofs.Choices.{lt-or-le}
-use Rattle.number.proofs.Numbers.{length-bytes}
-use Rattle.number.proofs.Writers.{filled-lent}
+use Rattle.wire.specs.Number.{bytes}
+use Rattle.wire.specs.Wrote.{Wrote, Filled}
+use Rattle.wire.proofs.Choices.{lt-or-le}
+use Rattle.wire.proofs.Numbers.{length-bytes}
+use Rattle.wire.proofs.Writers.{filled-lent}
 use Rattle.utf8.specs.Utf8.{Octets, Decides}
 use Rattle.utf8.proofs.Grammar.{octets, same-answer}
-use Rattle.types.specs.Forest.{Forest, nil, node, depth}
-use Rattle.types.specs.Records.{recordSize, recordAt, kindAt, endAt, aAt, bAt}
-use Rattle.types.specs.declared.record.Record.{Record}
+use Rattle.node.specs.Forest.{Forest, nil, node, depth}
+use Rattle.node.specs.Records.{recordSize, recordAt, kindAt, endAt, aAt, bAt}
+use Rattle.node.specs.declared.record.Record.{Record}
 use Rattle.table.specs.Formed.{WellFormed}
 use Rattle.table.specs.Tree.{Spans, Obeys, IsTree, Row}
 use Rattle.table.proofs.Spanned.{spans-size, spans-unique}
 use Rattle.table.proofs.Grown.{tiles-le}
 use Rattle.table.proofs.Theorem.{formed-tree}
-use Rattle.encoder.specs.Osc.{oscString, elementOf}
+use Rattle.strings.specs.Atomic.{oscString}
+use Rattle.writers.specs.Osc.{elementOf}
 use Rattle.encoder.specs.Outcome.{Outcome, refuse, write, plain, prefixed, encoded, Encodes, malformed, formed, stringOutcome}
-use Rattle.encoder.specs.Writers.{Fills, packetAt, Ready}
-use Rattle.encoder.specs.Measure.{sumTo, elementLength, Measured}
-use Rattle.encoder.specs.Survey.{Surveyed}
+use Rattle.writers.specs.Writers.{Fills, packetAt, Ready}
+use Rattle.survey.specs.Measure.{sumTo, elementLength, Measured}
+use Rattle.survey.specs.Survey.{Surveyed}
 use Rattle.encoder.specs.Prepare.{Sized, Prepares}
 use Rattle.encoder.specs.Prepare as prepare
 use Rattle.encoder.specs.declared.Encoded.the-variants.{Written}
 use Rattle.encoder.specs.declared.Prepared.{Prepared}
 use Rattle.encoder.specs.declared.Prepared.the-variants.{Length, Refused}
-use Rattle.encoder.proofs.Sums.{packet-sum}
+use Rattle.survey.proofs.Sums.{packet-sum}
 
 -- ---- the limit and the output's length
 

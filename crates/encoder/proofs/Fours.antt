@@ -4,17 +4,26 @@ use mathlib.Core.Bool.{Bool, true, false, cond}
 use mathlib.Core.List.{List, _++_}
 use Prim.Native.Nat.{ℕ, _%_}
 use native.Mathlib.Omega.{arith}
-use lib.Dec.{leb}
+use lib.Dec.{eqb, leb}
 use lib.ListN.{length, drop}
 use Rattle.refusal.specs.declared.Refusal.{Refusal}
 use Rattle.refusal.specs.declared.Refusal.the-variants.{TooLong, Unreadable, TooDeep, BadTable, OutputShort}
 use Rattle.refusal.specs.declared.Fault.the-variants.{NotUtf8}
 use Rattle.utf8.specs.Derive.{utf8}
-use Rattle.types.specs.Forest.{Forest, nil, node, depth}
-use Rattle.encoder.specs.Osc.{oscString, packetOf}
+use Rattle.node.specs.Forest.{Forest, nil, node, depth}
+use Rattle.strings.specs.Atomic.{oscString}
+use Rattle.writers.specs.Osc.{packetOf}
 use Rattle.encoder.specs.Outcome.{Outcome, refuse, write, plain, prefixed, encoded, Encodes, malformed, formed, stringOutcome}
 use Rattle.encoder.specs.declared.Encoded.the-variants.{Written}
-use Rattle.encoder.proofs.Lengths.{string-even, packet-even, prefixed-even}
+use Rattle.strings.proofs.Lengths.{string-even}
+use Rattle.writers.proofs.Lengths.{packet-even, element-even}
+use Rattle.wire.proofs.Choices.{by-test}
+
+-- what `encode_tcp` writes is a multiple of four bytes long
+pub prefixed-even : (source : List ℕ) (kind a b : ℕ) (inside : Forest) → length (prefixed kind (packetOf source kind a b inside)) % 4 ≡ 0
+prefixed-even source kind a b inside =
+    let e = packet-even source kind a b inside in
+    by-test (λ (bs : List ℕ). length bs % 4 ≡ 0) (eqb kind 47) (λ _. element-even (packetOf source kind a b inside) e) (λ _. e)
 
 -- an outcome that answers a count answers a multiple of four
 abbrev Even : Outcome → Type 0

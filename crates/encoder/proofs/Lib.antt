@@ -1,10 +1,3 @@
-pub mod Lengths
-pub mod Classed
-pub mod Rows
-pub mod Arguments
-pub mod Packets
-pub mod Sums
-pub mod Surveyed
 pub mod Answers
-pub mod Only
 pub mod Fours
+pub mod Only

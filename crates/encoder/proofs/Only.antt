@@ -2,8 +2,8 @@
 use mathlib.Core.Path.{_≡_, sym, _∙_}
 use mathlib.Core.List.{List}
 use Prim.Native.Nat.{ℕ}
-use Rattle.number.proofs.Only.{one-outcome}
-use Rattle.types.specs.Forest.{nil, node}
+use Rattle.wire.proofs.Only.{one-outcome}
+use Rattle.node.specs.Forest.{nil, node}
 use Rattle.table.proofs.Theorem.{tree-formed, tree-unique}
 use Rattle.encoder.specs.Outcome.{Outcome, plain, prefixed, encoded, Encodes, malformed, formed, stringOutcome}
 

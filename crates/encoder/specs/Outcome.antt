@@ -9,10 +9,11 @@ use Rattle.refusal.specs.declared.Refusal.{Refusal}
 use Rattle.refusal.specs.declared.Refusal.the-variants.{TooLong, Unreadable, TooDeep, BadTable, OutputShort}
 use Rattle.refusal.specs.declared.Fault.the-variants.{NotUtf8}
 use Rattle.utf8.specs.Derive.{utf8}
-use Rattle.types.specs.Forest.{Forest, nil, node, depth}
+use Rattle.node.specs.Forest.{Forest, nil, node, depth}
 use Rattle.table.specs.Formed.{WellFormed}
 use Rattle.table.specs.Tree.{IsTree}
-use Rattle.encoder.specs.Osc.{oscString, elementOf, packetOf}
+use Rattle.strings.specs.Atomic.{oscString}
+use Rattle.writers.specs.Osc.{elementOf, packetOf}
 use Rattle.encoder.specs.declared.Encoded.{Encoded}
 use Rattle.encoder.specs.declared.Encoded.the-variants.{Written, Refused}
 

@@ -5,12 +5,12 @@ use mathlib.Core.List.{List}
 use Prim.Native.Nat.{ℕ, _*_, _≤_, _<_}
 use lib.ListN.{length}
 use Rattle.refusal.specs.declared.Refusal.the-variants.{TooDeep, BadTable}
-use Rattle.types.specs.Forest.{Forest, nil, node, depth}
-use Rattle.types.specs.Records.{recordSize, kindAt, endAt, aAt, bAt}
+use Rattle.node.specs.Forest.{Forest, nil, node, depth}
+use Rattle.node.specs.Records.{recordSize, kindAt, endAt, aAt, bAt}
 use Rattle.table.specs.Formed.{WellFormed, rangeOk}
 use Rattle.table.specs.Tree.{Spans, IsTree}
 use Rattle.encoder.specs.Outcome.{Outcome, write}
-use Rattle.encoder.specs.Writers.{Sound, packetAt}
+use Rattle.writers.specs.Writers.{Sound, packetAt}
 use Rattle.encoder.specs.declared.Prepared.{Prepared}
 use Rattle.encoder.specs.declared.Prepared.the-variants.{Length, Refused}
 

@@ -1,21 +1,16 @@
 // Packets back to bytes (encoder.rs).
-mod measure; // measure.rt: how long a packet will be
-mod survey; // survey.rt: one reading of a table for its check, its depth and its length
-mod write; // write.rt: the writers
-
-use measure::measure;
-use number::put_u32;
+use wire::put_u32;
 use refusal::Fault;
 use refusal::Refusal;
+use survey::length::measure;
 use survey::survey;
 use table::deeper_than;
 use table::is_well_formed;
-use types::record::read_record;
+use node::record::read_record;
 use utf8::is_utf8;
-use write::encode_packet;
-use write::encode_string_into;
-ghost use mathlib.Core.Path.{_≡_};
-ghost use Rattle.encoder.specs.Osc.{elementOf};
+use strings::encode_string_into;
+use writers::encode_packet;
+ghost use Rattle.writers.specs.Osc.{elementOf};
 ghost use Rattle.encoder.specs.Outcome.{Outcome, plain, prefixed, Encodes, stringOutcome};
 ghost use Rattle.encoder.specs.Prepare.{Sized, Writes, Prepares};
 

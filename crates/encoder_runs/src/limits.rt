@@ -4,7 +4,7 @@ use crate::ask::refused_with;
 use crate::ask::refuses;
 use crate::ask::writes;
 use encoder::Encoded;
-use number::put_u32;
+use wire::put_u32;
 ghost use Prim.Native.Nat.{_*_, _≤_};
 ghost use lib.ListN.{length};
 

@@ -9,12 +9,12 @@ use crate::words::Space;
 use crate::words::front;
 use crate::written::put;
 use crate::written::put_number;
-use number::Padded;
+use wire::Padded;
 use refusal::Refusal;
 use text::Lack;
 use text::Text;
-use types::look::Looked;
-use types::value::OscType;
+use values::look::Looked;
+use values::value::OscType;
 
 // The largest number of a field.
 const MOST: u64 = 0xffff_ffff;
@@ -48,7 +48,7 @@ fn lead_answer(out: &mut Space, bytes: &[u8]) -> usize {
 
 // The next multiple of 4.
 fn pad_answer(out: &mut Space, pos: u64) -> usize {
-    match number::pad(pos) {
+    match wire::pad(pos) {
         Padded::At(x) => put_number(out, 0, x),
         Padded::Refused(refusal) => put_refusal(out, refusal),
     }
@@ -67,9 +67,9 @@ fn u32_answer(out: &mut Space, bytes: &[u8]) -> usize {
     if bytes.len() != 4 {
         return put_out_of_range(out);
     }
-    let x = number::be_u32(bytes, 0);
+    let x = wire::be_u32(bytes, 0);
     let mut back = [0xffu8; 4];
-    number::put_u32(&mut back, x);
+    wire::put_u32(&mut back, x);
     put_number_back(out, x as u64, bytes, &back)
 }
 
@@ -78,9 +78,9 @@ fn u64_answer(out: &mut Space, bytes: &[u8]) -> usize {
     if bytes.len() != 8 {
         return put_out_of_range(out);
     }
-    let x = number::be_u64(bytes, 0);
+    let x = wire::be_u64(bytes, 0);
     let mut back = [0xffu8; 8];
-    number::put_u64(&mut back, x);
+    wire::put_u64(&mut back, x);
     put_number_back(out, x, bytes, &back)
 }
 
@@ -116,17 +116,17 @@ fn text_answer(out: &mut Space, pos: u64, bytes: &[u8]) -> usize {
 
 // Whether the record at the front of a table has these fields.
 fn is_record(table: &[u8], kind: u8, end: u32, a: u32, b: u32) -> bool {
-    if types::record::capacity(table) == 0 {
+    if node::record::capacity(table) == 0 {
         return false;
     }
-    let found = types::record::read_record(table, 0);
+    let found = node::record::read_record(table, 0);
     found.kind == kind && found.zeros == 0 && found.end == end && found.a == a && found.b == b
 }
 
 // The bytes of a record, where reading them gives its fields back. What stood there before is not 0.
 fn put_record(out: &mut Space, kind: u8, end: u32, a: u32, b: u32) -> usize {
     let mut table = [0xffu8; 16];
-    types::record::put_record(&mut table, kind, end, a, b);
+    node::record::put_record(&mut table, kind, end, a, b);
     if is_record(&table, kind, end, a, b) {
         return put_bytes(out, 0, &table);
     }
@@ -152,7 +152,7 @@ fn record_answer(out: &mut Space, kind: u64, end: u64, a: u64, b: u64) -> usize 
 
 // A record of a table as a value.
 fn look_answer(out: &mut Space, index: u64, table: &[u8]) -> usize {
-    match types::look::look(table, index as usize) {
+    match values::look::look(table, index as usize) {
         Looked::Value(value) => put_value(out, value),
         Looked::Refused(refusal) => put_refusal(out, refusal),
     }
@@ -160,7 +160,7 @@ fn look_answer(out: &mut Space, index: u64, table: &[u8]) -> usize {
 
 // The text that a value names.
 fn put_text<'a>(out: &mut Space, value: OscType, packet: &'a [u8], label: &'a [u8]) -> usize {
-    put_bytes(out, 0, types::look::text_of(value, packet, label))
+    put_bytes(out, 0, values::look::text_of(value, packet, label))
 }
 
 // The text that the value of a kind and two fields names.
@@ -183,7 +183,7 @@ fn name_answer<'a>(
     }
     put_text(
         out,
-        types::value::value_of(kind as u8, a as u32, b as u32),
+        values::value::value_of(kind as u8, a as u32, b as u32),
         packet,
         label,
     )

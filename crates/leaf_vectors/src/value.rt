@@ -6,7 +6,7 @@ use crate::written::put_four;
 use crate::written::put_number;
 use crate::written::put_signed;
 use crate::written::put_two;
-use types::value::OscType;
+use values::value::OscType;
 
 // Puts the bits of a float and whether its value is a NaN, which is equal to nothing.
 fn put_float(out: &mut Space, name: &[u8], bits: &[u8], is_nan: bool) -> usize {
@@ -21,14 +21,14 @@ fn put_float(out: &mut Space, name: &[u8], bits: &[u8], is_nan: bool) -> usize {
 // A float of 32 bits.
 fn put_f32(out: &mut Space, bits: u32, value: f32) -> usize {
     let mut four = [0u8; 4];
-    number::put_u32(&mut four, bits);
+    wire::put_u32(&mut four, bits);
     put_float(out, b" float", &four, value != value)
 }
 
 // A float of 64 bits.
 fn put_f64(out: &mut Space, bits: u64, value: f64) -> usize {
     let mut eight = [0u8; 8];
-    number::put_u64(&mut eight, bits);
+    wire::put_u64(&mut eight, bits);
     put_float(out, b" double", &eight, value != value)
 }
 

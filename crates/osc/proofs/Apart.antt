@@ -6,12 +6,13 @@ use Prim.Native.Nat.{ℕ, _/_, _%_, _≤_}
 use native.Mathlib.Omega.{arith}
 use lib.ListN.{length}
 use Rattle.refusal.specs.Refusal.{numberOf}
-use Rattle.number.proofs.Choices.{by-test, by-le}
+use Rattle.wire.proofs.Choices.{by-test, by-le}
 use Rattle.utf8.specs.Derive.{utf8}
-use Rattle.types.specs.Forest.{Forest, nil, node, depth}
+use Rattle.node.specs.Forest.{Forest, nil, node, depth}
 use Rattle.decoder.specs.declared.Decoded.{Decoded}
 use Rattle.decoder.specs.declared.Decoded.the-variants as decodes
-use Rattle.encoder.specs.Osc.{oscString, packetOf}
+use Rattle.strings.specs.Atomic.{oscString}
+use Rattle.writers.specs.Osc.{packetOf}
 use Rattle.encoder.specs.Outcome.{Outcome, write, encoded, Encodes, malformed, formed, stringOutcome}
 use Rattle.encoder.specs.declared.Encoded.{Encoded}
 use Rattle.encoder.specs.declared.Encoded.the-variants as encodes

@@ -1,3 +1,3 @@
-pub mod Fits
 pub mod Apart
+pub mod Fits
 pub mod Only

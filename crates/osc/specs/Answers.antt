@@ -5,12 +5,12 @@ use mathlib.Core.List.{List}
 use Prim.Native.Nat.{ℕ, _+_, _*_, _≤_}
 use Rattle.refusal.specs.Refusal.{numberOf}
 use Rattle.refusal.specs.declared.Refusal.{Refusal}
-use Rattle.number.specs.declared.Padded.{Padded}
-use Rattle.number.specs.declared.Padded.the-variants as padded
-use Rattle.types.specs.declared.value.OscType.{OscType}
-use Rattle.types.specs.declared.value.OscType.the-variants as value
-use Rattle.types.specs.declared.look.Looked.{Looked}
-use Rattle.types.specs.declared.look.Looked.the-variants as looked
+use Rattle.wire.specs.declared.Padded.{Padded}
+use Rattle.wire.specs.declared.Padded.the-variants as padded
+use Rattle.values.specs.declared.value.OscType.{OscType}
+use Rattle.values.specs.declared.value.OscType.the-variants as value
+use Rattle.values.specs.declared.look.Looked.{Looked}
+use Rattle.values.specs.declared.look.Looked.the-variants as looked
 use Rattle.decoder.specs.declared.Decoded.{Decoded}
 use Rattle.decoder.specs.declared.Decoded.the-variants as decodes
 use Rattle.encoder.specs.Outcome.{Outcome}

@@ -1,16 +1,16 @@
 // The C boundary: the public calls, each with its answer as one number of 64 bits. include/osc.h declares them for C and C++.
 use decoder::Decoded;
 use encoder::Encoded;
-use number::Padded;
+use wire::Padded;
 use refusal::Refusal;
-use types::look::Looked;
-use types::value::OscType;
+use values::look::Looked;
+use values::value::OscType;
 ghost use mathlib.Core.Path.{_≡_};
 ghost use Prim.Native.Nat.{_/_};
 ghost use lib.ListN.{length};
-ghost use Rattle.number.specs.Pad.{padOf};
-ghost use Rattle.types.specs.Records.{recordSize};
-ghost use Rattle.types.specs.Look.{lookAt};
+ghost use Rattle.wire.specs.Pad.{padOf};
+ghost use Rattle.node.specs.Records.{recordSize};
+ghost use Rattle.values.specs.Look.{lookAt};
 ghost use Rattle.decoder.specs.Framing.{udp, tcp, tcpVec};
 ghost use Rattle.decoder.specs.Limits.{decoded, forestOf, tabled};
 ghost use Rattle.encoder.specs.Outcome.{plain, prefixed, Encodes, stringOutcome};
@@ -151,7 +151,7 @@ pub extern "C" fn osc_encode_string(text: &[u8], out: &mut [u8]) -> u64
 pub extern "C" fn osc_pad(pos: u64) -> u64
     ensures { λ r. ⌜ r ≡ paddedNumber (padOf pos) ⌝ }
 {
-    match number::pad(pos) {
+    match wire::pad(pos) {
         Padded::At(at) => at,
         Padded::Refused(refusal) => refusal::number_of(refusal) as u64,
     }
@@ -164,7 +164,7 @@ pub extern "C" fn osc_pad(pos: u64) -> u64
 pub extern "C" fn osc_look(table: &[u8], index: u64) -> u64
     ensures { λ r. ⌜ r ≡ lookedNumber (lookAt (now (table .entry)) index) ⌝ }
 {
-    match types::look::look(table, index as usize) {
+    match values::look::look(table, index as usize) {
         Looked::Value(value) => kind_of(value),
         Looked::Refused(refusal) => refusal_number(refusal),
     }

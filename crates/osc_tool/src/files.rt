@@ -4,7 +4,7 @@ ghost use mathlib.Core.Path.{_≡_};
 ghost use Prim.Native.Nat.{_+_, _≤_};
 ghost use lib.ListN.{length, take};
 ghost use Rattle.io.specs.Counts.{Counts};
-ghost use Rattle.number.specs.Wrote.{Filled};
+ghost use Rattle.wire.specs.Wrote.{Filled};
 ghost use Rattle.osc_tool.specs.Beside.{besideName};
 
 // How a read went: whether it did, and how many bytes it put at the start of the buffer.

@@ -5,12 +5,12 @@ use crate::space;
 use crate::value;
 use crate::words;
 use crate::words::Numeral;
-use types::look::Looked;
-use types::record;
+use values::look::Looked;
+use node::record;
 
 // Says what record `index` holds.
 fn look_at(table: &[u8], index: usize) {
-    match types::look::look(table, index) {
+    match values::look::look(table, index) {
         Looked::Value(found) => {
             if index < record::capacity(table) {
                 value::say_record(index, found, record::read_record(table, index));

@@ -2,8 +2,8 @@
 use crate::say::number;
 use crate::say::text;
 use libc::STDOUT_FILENO;
-use types::record::Record;
-use types::value::OscType;
+use node::record::Record;
+use values::value::OscType;
 ghost use mir.Syntax.{w32, w64};
 ghost use mir.Val.{toZ};
 ghost use Rattle.osc_tool.specs.Signed.{Spells};

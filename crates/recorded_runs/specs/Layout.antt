@@ -3,7 +3,7 @@ use mathlib.Core.Path.{_≡_}
 use Prim.Native.Nat.{ℕ, _+_, _≤_, _<_}
 use mathlib.Core.List.{List}
 use lib.ListN.{length, drop, getD}
-use Rattle.number.specs.Number.{number as be}
+use Rattle.wire.specs.Number.{number as be}
 use Rattle.recorded_runs.specs.declared.case.End.{End}
 use Rattle.recorded_runs.specs.declared.case.End.the-variants.{At, Damaged}
 use Rattle.recorded_runs.specs.declared.case.Case.{Case}

@@ -1,6 +1,6 @@
 // The layout of a case in the file: its numbers, and where its slices end.
-use number::be_u32;
-use number::be_u64;
+use wire::be_u32;
+use wire::be_u64;
 ghost use Rattle.recorded_runs.specs.Layout.{CaseIn, EndIn};
 
 // Where a slice ends, or that it is longer than it may be or than the file.

@@ -6,9 +6,9 @@ use Prim.Native.Nat.{ℕ, _+_, _-_, _≤_, _<_, max}
 use native.Mathlib.Omega.{arith}
 use lib.Dec.{ltb}
 use borrow.Author.Tests.{lt-ltb, le-ltb, ltb-true, ltb-false, ne-eqb}
-use Rattle.types.specs.Forest.{Forest, nil, level, depth}
-use Rattle.types.specs.Records.{recordAt}
-use Rattle.types.specs.declared.record.Record.{Record}
+use Rattle.node.specs.Forest.{Forest, nil, level, depth}
+use Rattle.node.specs.Records.{recordAt}
+use Rattle.node.specs.declared.record.Record.{Record}
 use Rattle.table.specs.Tree.{Spans, Row}
 use Rattle.table.proofs.Spanned.{cut, no-more}
 

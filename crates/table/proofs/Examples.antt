@@ -5,11 +5,11 @@ use mathlib.Core.Bool.{true, false, true≢false}
 use mathlib.Core.List.{List, [], _∷_}
 use Prim.Native.Nat.{ℕ, _≤_}
 use native.Mathlib.Omega.{arith}
-use Rattle.number.specs.Number.{number, bytes}
-use Rattle.types.specs.Forest.{Forest, nil, node, size}
-use Rattle.types.specs.Tags.{sortOf, classOf}
-use Rattle.types.specs.Records.{recordOf, recordsOf, kindAt, endAt, aAt, bAt}
-use Rattle.types.specs.Value.{ownRules}
+use Rattle.wire.specs.Number.{number, bytes}
+use Rattle.node.specs.Forest.{Forest, nil, node, size}
+use Rattle.node.specs.Tags.{sortOf, classOf}
+use Rattle.node.specs.Records.{recordOf, recordsOf, kindAt, endAt, aAt, bAt}
+use Rattle.node.specs.Rules.{ownRules}
 use Rattle.table.specs.Formed.{rangeOk, allowed, WellFormed}
 use Rattle.table.specs.Tree.{IsTree, Obeys, FieldsFit}
 use Rattle.table.proofs.Theorem.{tree-formed, bytes-tree}

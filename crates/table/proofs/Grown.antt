@@ -6,10 +6,10 @@ use mathlib.Core.List.{List}
 use Prim.Native.Nat.{ℕ, zero, suc, _+_, _-_, _≤_, _<_}
 use native.Mathlib.Nat.{eq-or-lt-of-le}
 use native.Mathlib.Omega.{arith}
-use Rattle.number.proofs.Choices.{lt-or-le}
-use Rattle.types.specs.Forest.{Forest, nil, node}
-use Rattle.types.specs.Records.{kindAt, endAt, aAt, bAt}
-use Rattle.types.specs.Value.{ownRules}
+use Rattle.wire.proofs.Choices.{lt-or-le}
+use Rattle.node.specs.Forest.{Forest, nil, node}
+use Rattle.node.specs.Records.{kindAt, endAt, aAt, bAt}
+use Rattle.node.specs.Rules.{ownRules}
 use Rattle.table.specs.Formed.{rangeOk, allowed, Tiles, done, step, NodeOk, WellFormed}
 use Rattle.table.specs.Tree.{Spans, Obeys, IsTree}
 use Rattle.table.proofs.Spanned.{spans-size}

@@ -8,12 +8,12 @@ use native.Mathlib.Numerals.{add-one}
 use native.Mathlib.Omega.{arith}
 use lib.ListN.{length, getD, drop}
 use lib.Seq.{drop-cons, drop-drop, drop-at, getD-drop}
-use Rattle.number.specs.Number.{number, bytes}
-use Rattle.number.proofs.Choices.{lt-or-le}
-use Rattle.number.proofs.Numbers.{length-bytes, read-written, number-bytes}
-use Rattle.types.specs.Forest.{Forest, nil, node, size}
-use Rattle.types.specs.Records.{startOf, recordOf, recordsOf, kindAt, zerosAt, endAt, aAt, bAt}
-use Rattle.types.proofs.Recorded.{length-record, length-records}
+use Rattle.wire.specs.Number.{number, bytes}
+use Rattle.wire.proofs.Choices.{lt-or-le}
+use Rattle.wire.proofs.Numbers.{length-bytes, read-written, number-bytes}
+use Rattle.node.specs.Forest.{Forest, nil, node, size}
+use Rattle.node.specs.Records.{startOf, recordOf, recordsOf, kindAt, zerosAt, endAt, aAt, bAt}
+use Rattle.node.proofs.Recorded.{length-record, length-records}
 use Rattle.table.specs.Tree.{Spans, FieldsFit}
 use Rattle.table.proofs.Spanned.{spans-size}
 

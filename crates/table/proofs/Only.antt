@@ -6,7 +6,7 @@ use Prim.Native.Nat.{ℕ}
 use lib.Dec.{ltb}
 use Rattle.utf8.specs.Utf8.{Decides}
 use Rattle.utf8.proofs.Grammar.{same-answer}
-use Rattle.types.specs.Forest.{Forest, depth}
+use Rattle.node.specs.Forest.{Forest, depth}
 use Rattle.table.specs.Formed.{WellFormed}
 use Rattle.table.specs.Tree.{Spans, Row}
 

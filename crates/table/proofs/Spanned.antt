@@ -4,9 +4,9 @@ use mathlib.Core.Bool.{true}
 use mathlib.Core.List.{List}
 use Prim.Native.Nat.{ℕ, _+_, _≤_, _<_}
 use native.Mathlib.Omega.{arith}
-use Rattle.types.specs.Forest.{Forest, nil, node, size}
-use Rattle.types.specs.Records.{kindAt, endAt, aAt, bAt}
-use Rattle.types.specs.Value.{ownRules}
+use Rattle.node.specs.Forest.{Forest, nil, node, size}
+use Rattle.node.specs.Records.{kindAt, endAt, aAt, bAt}
+use Rattle.node.specs.Rules.{ownRules}
 use Rattle.table.specs.Formed.{rangeOk, allowed}
 use Rattle.table.specs.Tree.{Spans, Obeys}
 

@@ -5,9 +5,9 @@ use Prim.Native.Nat.{ℕ, _*_, _≤_, _<_}
 use native.Mathlib.Omega.{arith}
 use lib.ListN.{length, getD, take, length-append}
 use lib.Seq.{take-at}
-use Rattle.types.specs.Forest.{Forest, nil, node, size}
-use Rattle.types.specs.Records.{recordSize, recordsOf, kindAt, aAt, bAt}
-use Rattle.types.proofs.Recorded.{length-records}
+use Rattle.node.specs.Forest.{Forest, nil, node, size}
+use Rattle.node.specs.Records.{recordSize, recordsOf, kindAt, aAt, bAt}
+use Rattle.node.proofs.Recorded.{length-records}
 use Rattle.table.specs.Formed.{WellFormed}
 use Rattle.table.specs.Tree.{Spans, Obeys, IsTree, FieldsFit}
 use Rattle.table.proofs.Spanned.{spans-size, spans-unique}

@@ -10,9 +10,9 @@ use borrow.Author.Tests.{eqb-true, eq-eqb, le-leb}
 use Rattle.utf8.specs.Utf8.{Octets, Decides}
 use Rattle.utf8.proofs.Decided.{no}
 use Rattle.utf8.proofs.Grammar.{octets, same-answer}
-use Rattle.types.specs.Records.{recordAt, kindAt, endAt}
-use Rattle.types.specs.Value.{ownRules}
-use Rattle.types.specs.declared.record.Record.{Record}
+use Rattle.node.specs.Records.{recordAt, kindAt, endAt}
+use Rattle.node.specs.Rules.{ownRules}
+use Rattle.node.specs.declared.record.Record.{Record}
 use Rattle.table.specs.Formed.{part, textOk, rangeOk, allowed, Tiles, done, step, NodeOk}
 use Rattle.table.proofs.Grown.{tiles-le}
 

@@ -6,9 +6,9 @@ use Prim.Native.Nat.{ℕ, _+_, _*_, _≤_, _<_}
 use lib.Dec.{eqb, leb}
 use lib.ListN.{length, take, drop}
 use Rattle.utf8.specs.Derive.{utf8}
-use Rattle.types.specs.Tags.{among}
-use Rattle.types.specs.Records.{recordSize, kindAt, zerosAt, endAt, aAt, bAt}
-use Rattle.types.specs.Value.{ownRules}
+use Rattle.node.specs.Tags.{among}
+use Rattle.node.specs.Records.{recordSize, kindAt, zerosAt, endAt, aAt, bAt}
+use Rattle.node.specs.Rules.{ownRules}
 
 -- n bytes of the source from `offset` on
 abbrev pub part : List ℕ → ℕ → ℕ → List ℕ

@@ -4,9 +4,9 @@ use mathlib.Core.Bool.{true}
 use mathlib.Core.List.{List}
 use Prim.Native.Nat.{ℕ, _+_, _*_, _^_, _≤_, _<_}
 use lib.ListN.{length}
-use Rattle.types.specs.Forest.{Forest, nil, node}
-use Rattle.types.specs.Records.{recordSize, kindAt, zerosAt, endAt, aAt, bAt}
-use Rattle.types.specs.Value.{ownRules}
+use Rattle.node.specs.Forest.{Forest, nil, node}
+use Rattle.node.specs.Records.{recordSize, kindAt, zerosAt, endAt, aAt, bAt}
+use Rattle.node.specs.Rules.{ownRules}
 use Rattle.table.specs.Formed.{rangeOk, allowed}
 
 -- the records lo to hi - 1 are the nodes of a forest in preorder, with their ends

@@ -1,15 +1,15 @@
 // The well-formed node table: what the encoder takes, as document 01 states it record by record.
-use types::record::capacity;
-use types::record::read_record;
-use types::value::own_rules;
+use node::record::capacity;
+use node::record::read_record;
+use node::rules::own_rules;
 use utf8::is_utf8;
 ghost use mathlib.Core.Path.{_≡_};
 ghost use Prim.Native.Nat.{_*_, _≤_, _<_};
 ghost use lib.Dec.{ltb};
 ghost use lib.ListN.{length};
 ghost use Rattle.utf8.specs.Utf8.{Decides};
-ghost use Rattle.types.specs.Forest.{Forest, depth};
-ghost use Rattle.types.specs.Records.{recordSize};
+ghost use Rattle.node.specs.Forest.{Forest, depth};
+ghost use Rattle.node.specs.Records.{recordSize};
 ghost use Rattle.table.specs.Formed.{inside, textOk, rangeOk, isPacket, allowed, Tiles, NodeOk, WellFormed};
 ghost use Rattle.table.specs.Tree.{Spans, Row};
 

@@ -1,5 +1,5 @@
 pub mod Nuls
+pub mod Only
 pub mod Passing
 pub mod Texts
 pub mod Within
-pub mod Only

@@ -4,7 +4,7 @@ use mathlib.Core.List.{List}
 use Prim.Native.Nat.{ℕ}
 use Rattle.text.specs.Text.{textOf}
 use Rattle.text.specs.declared.Text.{Text}
-use Rattle.number.proofs.Only.{one-outcome}
+use Rattle.wire.proofs.Only.{one-outcome}
 
 pub read-osc-string-only : (input : List ℕ) (pos : ℕ) (r s : Text) → r ≡ textOf input pos → s ≡ textOf input pos → r ≡ s
 read-osc-string-only input pos r s = one-outcome

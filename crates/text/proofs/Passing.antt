@@ -10,7 +10,7 @@ use borrow.Author.Tests.{lt-ltb, le-ltb, ltb-true, ltb-false}
 use lib.Dec.{eqb, ltb}
 use lib.ListN.{length, take, drop, getD, length-drop, drop-of-length-le}
 use lib.Seq.{drop-cons, drop-drop}
-use Rattle.number.proofs.Parts.{tail}
+use Rattle.wire.proofs.Parts.{tail}
 use Rattle.utf8.specs.Utf8.{Range}
 use Rattle.utf8.specs.Derive.{run, utf8}
 use Rattle.utf8.proofs.Plain.{single}

@@ -7,7 +7,7 @@ use native.Mathlib.Nat.{add-zero, add-sub-cancel-left}
 use native.Mathlib.Omega.{arith}
 use borrow.Author.Tests.{lt-ltb, le-ltb, le-leb, lt-leb}
 use lib.ListN.{length, take, drop}
-use Rattle.number.proofs.Parts.{tail}
+use Rattle.wire.proofs.Parts.{tail}
 use Rattle.utf8.specs.Utf8.{Octets, Decides}
 use Rattle.utf8.specs.Derive.{utf8}
 use Rattle.text.specs.Text.{untilNul, reach, textOf}

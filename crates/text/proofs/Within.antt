@@ -6,7 +6,7 @@ use Prim.Native.Nat.{ℕ, _+_, _<_, _≤_}
 use native.Mathlib.Omega.{arith}
 use lib.Dec.{ltb}
 use lib.ListN.{length, take}
-use Rattle.number.proofs.Choices.{by-test, by-le}
+use Rattle.wire.proofs.Choices.{by-test, by-le}
 use Rattle.utf8.specs.Derive.{utf8}
 use Rattle.text.specs.Text.{reach, untilNul, textOf}
 use Rattle.text.specs.declared.Text.{Text}

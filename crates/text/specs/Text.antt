@@ -6,7 +6,7 @@ use lib.Dec.{eqb, leb, ltb}
 use lib.ListN.{length, take}
 use Rattle.refusal.specs.declared.Fault.{Fault}
 use Rattle.refusal.specs.declared.Fault.the-variants.{RunsOut, NotUtf8}
-use Rattle.number.specs.Pad.{padded}
+use Rattle.wire.specs.Pad.{padded}
 use Rattle.utf8.specs.Derive.{utf8}
 use Rattle.text.specs.declared.Text.{Text}
 use Rattle.text.specs.declared.Text.the-variants.{Found, Lacks}

@@ -3,8 +3,8 @@ use Prim.Native.Nat.{_-_}
 use native.Mathlib.Omega.{arith}
 use lib.ListN.{length}
 use borrow.Rule.Slice.PartMut.{midOf}
-use Rattle.number.proofs.Parts.{length-lent}
-use Rattle.number.proofs.Writers.{wrote-length, filled-le}
+use Rattle.wire.proofs.Parts.{length-lent}
+use Rattle.wire.proofs.Writers.{wrote-length, filled-le}
 use Rattle.encoder.proofs.Answers.{element-long, element-short, ready, element-written}
 use borrow.Author.Needs.{needs}
 use Rattle.encoder.proofs.encode_message_tcp.Statement.{statement}

@@ -1,7 +1,7 @@
 -- `encoder::encode_string` meets its contract.
 use native.Mathlib.Omega.{arith}
-use Rattle.encoder.specs.Osc.{oscString}
-use Rattle.encoder.proofs.Lengths.{length-string}
+use Rattle.strings.specs.Atomic.{oscString}
+use Rattle.strings.proofs.Lengths.{length-string}
 use Rattle.encoder.proofs.Answers.{write-long, write-short, written, not-text, text-outcome}
 use borrow.Author.Needs.{needs}
 use Rattle.encoder.proofs.encode_string.Statement.{statement}

@@ -1,12 +1,12 @@
 -- `table::deeper` meets its contract. The loop's invariant: what is left is too deep exactly where the whole is. A call of itself has a
 -- lower limit, which is the measure; the loop's is how many records are left.
-use Prim.Native.Nat.{ℕ, _<_, _-_}
+use Prim.Native.Nat.{ℕ, _-_, _<_}
 use native.Mathlib.Omega.{arith}
 use borrow.Author.Needs.{needs}
 use borrow.Fn.Kinds.{In}
 use borrow.Fn.PlainCycle.{Measures, is, falls, and}
-use Rattle.types.specs.Forest.{Forest}
-use Rattle.types.proofs.record.read_record.Reads as read-record-reads
+use Rattle.node.specs.Forest.{Forest}
+use Rattle.node.proofs.record.read_record.Reads as read-record-reads
 use Rattle.table.specs.Tree.{Spans}
 use Rattle.table.proofs.Depths.{Passed, passed-none, passed-all, next-row, next-on, passed-other, found-here, found-inside}
 use Rattle.table.proofs.Depths.{passed-bundle}

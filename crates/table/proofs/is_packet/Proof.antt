@@ -2,7 +2,7 @@
 use mathlib.Core.Path.{refl, sym}
 use mathlib.Core.Bool.{true}
 use mathlib.Core.List.{[], _∷_}
-use Rattle.types.proofs.Keys.{by-keys, not-among}
+use Rattle.node.proofs.Keys.{by-keys, not-among}
 use Rattle.table.specs.Formed.{isPacket}
 use Rattle.table.proofs.is_packet.Statement.{statement}
 use Rattle.table.proofs.is_packet.Tie as tie

@@ -7,7 +7,7 @@ use borrow.Author.Count.{below-more}
 use borrow.Author.Needs.{needs}
 use borrow.Author.Tests.{not-true, not-false}
 use Rattle.utf8.proofs.Decided.{yes, no, fails}
-use Rattle.types.specs.declared.record.Record.{Record}
+use Rattle.node.specs.declared.record.Record.{Record}
 use Rattle.table.specs.Formed.{isPacket, NodeOk}
 use Rattle.table.proofs.is_well_formed.Statement.{statement}
 use Rattle.table.proofs.is_well_formed.Tie as tie

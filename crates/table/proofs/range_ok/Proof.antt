@@ -3,7 +3,7 @@ use mathlib.Core.List.{[], _∷_}
 use Prim.Native.Nat.{ℕ}
 use borrow.Author.Needs.{needs}
 use borrow.Author.Tests.{ne-eqb}
-use Rattle.types.proofs.Keys.{by-keys, not-among}
+use Rattle.node.proofs.Keys.{by-keys, not-among}
 use Rattle.table.specs.Formed.{rangeOk}
 use Rattle.table.proofs.range_ok.Statement.{statement}
 use Rattle.table.proofs.range_ok.Tie as tie

@@ -4,7 +4,7 @@ use Prim.Native.Nat.{_-_}
 use native.Mathlib.Omega.{arith}
 use borrow.Author.Needs.{needs}
 use lib.ListN.{length}
-use Rattle.number.proofs.Parts.{length-part}
+use Rattle.wire.proofs.Parts.{length-part}
 use Rattle.text.specs.Plain.{Passed}
 use Rattle.text.proofs.Passing.{one-passed, all-passed, stops, ends}
 use Rattle.text.proofs.plain.Statement.{statement}

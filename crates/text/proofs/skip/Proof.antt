@@ -4,7 +4,7 @@ use Prim.Native.Nat.{_-_}
 use native.Mathlib.Omega.{arith}
 use borrow.Author.Needs.{needs}
 use lib.ListN.{length, length-drop}
-use Rattle.number.proofs.Parts.{tail}
+use Rattle.wire.proofs.Parts.{tail}
 use Rattle.text.specs.Plain.{Passed}
 use Rattle.text.proofs.Passing.{block}
 use Rattle.text.proofs.skip.Statement.{statement}

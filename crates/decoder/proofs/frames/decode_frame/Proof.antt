@@ -1,8 +1,8 @@
 -- `decoder::frames::decode_frame` meets its contract. What is written of the packet after the prefix.
 use Rattle.decoder.proofs.FrameFills.{frame-room, frame-fills, waits-nothing, short-nothing}
-use Rattle.decoder.proofs.Fills.{fills-none}
-use Rattle.decoder.proofs.Prefixes.{prefix-in}
-use Rattle.number.proofs.Parts.{tail}
+use Rattle.fill.proofs.Fills.{fills-none}
+use Rattle.packet.proofs.Fronts.{prefix-in}
+use Rattle.wire.proofs.Parts.{tail}
 use native.Mathlib.Omega.{arith}
 use mathlib.Core.Path.{sym, _∙_}
 use borrow.Author.Needs.{needs}

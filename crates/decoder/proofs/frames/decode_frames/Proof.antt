@@ -1,7 +1,7 @@
 -- `decoder::frames::decode_frames` meets its contract. The invariant: the table, completed by the frames that are left, is the
 -- table at the end.
 use Rattle.decoder.proofs.FrameFills.{Listing, fills-tail, listing-start, listing-end, next-fits, next-in, listing-on, listing-waits}
-use Rattle.number.proofs.Parts.{tail}
+use Rattle.wire.proofs.Parts.{tail}
 use native.Mathlib.Omega.{arith}
 use lib.ListN.{length}
 use Prim.Native.Nat.{_-_, _≤_}

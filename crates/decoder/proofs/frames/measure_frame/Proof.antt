@@ -1,7 +1,7 @@
 -- `decoder::frames::measure_frame` meets its contract. The extent of the packet after the prefix, whose position is 4.
 use Rattle.decoder.proofs.FrameExtents.{frame-by-packet, frame-waits, frame-runs-out}
-use Rattle.decoder.proofs.Prefixes.{prefix-in}
-use Rattle.number.proofs.Parts.{tail}
+use Rattle.packet.proofs.Fronts.{prefix-in}
+use Rattle.wire.proofs.Parts.{tail}
 use native.Mathlib.Omega.{arith}
 use mathlib.Core.Path.{sym, _∙_}
 use borrow.Author.Needs.{needs}

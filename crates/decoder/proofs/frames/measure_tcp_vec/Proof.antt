@@ -2,7 +2,7 @@
 -- of what is left.
 use Rattle.decoder.proofs.FrameExtents.{Totalling, empty-list, totalling-start, totalling-tree, totalling-deep, totalling-waits}
 use Rattle.decoder.proofs.FrameExtents.{totalling-refused, totalling-end}
-use Rattle.number.proofs.Parts.{tail}
+use Rattle.wire.proofs.Parts.{tail}
 use native.Mathlib.Omega.{arith}
 use lib.ListN.{length}
 use Prim.Native.Nat.{_-_}

@@ -1,7 +1,7 @@
 -- `decoder::frames::measure_udp` meets its contract. The total of one tree.
 use Rattle.decoder.proofs.Answers.{udp-total}
-use Rattle.decoder.proofs.Extents.{tree-in}
-use Rattle.decoder.proofs.Within.{packet-in}
+use Rattle.measure.proofs.Extents.{tree-in}
+use Rattle.packet.proofs.Within.{packet-in}
 use native.Mathlib.Omega.{arith}
 use mathlib.Core.Path.{sym, _∙_}
 use borrow.Author.Needs.{needs}

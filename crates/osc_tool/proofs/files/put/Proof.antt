@@ -6,8 +6,8 @@ use native.Mathlib.Omega.{arith}
 use lib.ListN.{length, take, length-set}
 use native.Mathlib.Numerals.{add-one}
 use lib.Seq.{take-all, take-suc, length-take-le}
-use Rattle.number.specs.Wrote.{Wrote}
-use Rattle.number.proofs.Writers.{wrote-none, wrote-set}
+use Rattle.wire.specs.Wrote.{Wrote}
+use Rattle.wire.proofs.Writers.{wrote-none, wrote-set}
 use Rattle.osc_tool.proofs.files.put.Statement.{statement}
 use Rattle.osc_tool.proofs.files.put.Tie as tie
 

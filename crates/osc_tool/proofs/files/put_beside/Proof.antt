@@ -1,6 +1,6 @@
 -- `osc_tool::files::put_beside` meets its contract: three writers, each after the one before it.
 -- Assumes nothing.
-use Rattle.number.proofs.Writers.{filled-lent}
+use Rattle.wire.proofs.Writers.{filled-lent}
 use borrow.Author.Needs.{needs}
 use Rattle.osc_tool.proofs.files.put_beside.Statement.{statement}
 use Rattle.osc_tool.proofs.files.put_beside.Tie as tie

@@ -1,0 +1,88 @@
+-- The answers of `argOf`, each by the tests that lead to it.
+use mathlib.Core.Path.{_≡_, ap, sym, _∙_}
+use mathlib.Core.Bool.{true, false}
+use mathlib.Core.List.{List}
+use Prim.Native.Nat.{ℕ, _+_, _-_, _*_, _/_, _<_, _≤_}
+use native.Mathlib.Omega.{arith}
+use borrow.Author.Tests.{le-leb, lt-leb}
+use lib.ListN.{length, drop}
+use Rattle.refusal.specs.declared.Fault.{Fault}
+use Rattle.refusal.specs.declared.Fault.the-variants.{RunsOut, NotScalar}
+use Rattle.wire.specs.Number.{number}
+use Rattle.node.specs.Tags.{isScalar}
+use Rattle.node.specs.declared.tags.Class.{Class}
+use Rattle.node.specs.declared.tags.Class.the-variants.{Four, Eight, Text as String, Blob, Scalar}
+use Rattle.text.specs.Text.{reach, textOf, faultOf}
+use Rattle.text.specs.declared.Lack.{Lack}
+use Rattle.text.specs.declared.Text.the-variants.{Found, Lacks}
+use Rattle.argument.specs.Argument.{argOf, having}
+use Rattle.argument.specs.declared.Arg.{Arg}
+use Rattle.argument.specs.declared.Arg.the-variants.{Given, Refused}
+
+-- the reach of a blob, as the code computes it
+reached : (p n : ℕ) → (p + 4 + n + 3) / 4 * 4 - p ≡ reach p (4 + n)
+reached p n = omega arith
+
+module _ (l : List ℕ) where
+  there : (n : ℕ) (x : Arg) → n ≤ length l → having n l x ≡ x
+  there n x h = rw (le-leb n (length l) h)
+
+  lacking : (n : ℕ) (x : Arg) → length l < n → having n l x ≡ Refused RunsOut
+  lacking n x h = rw (lt-leb n (length l) h)
+
+  module _ (base p : ℕ) where
+    -- an answer for the class that a match found
+    pub of-class : {k class : Class} {r : Arg} → class ≡ k → r ≡ argOf k base l p → r ≡ argOf class base l p
+    of-class e f = f ∙ ap (λ (c : Class). argOf c base l p) (sym e)
+
+    pub four-short : length l < 4 → Refused RunsOut ≡ argOf Four base l p
+    unfolding argOf
+    four-short h = rw (lacking 4 (Given (number 4 l) 0 4) h)
+
+    pub four-given : {x : ℕ} → 4 ≤ length l → x ≡ number 4 l → Given x 0 4 ≡ argOf Four base l p
+    unfolding argOf
+    four-given h e = rw (e, there 4 (Given (number 4 l) 0 4) h)
+
+    pub eight-short : length l < 8 → Refused RunsOut ≡ argOf Eight base l p
+    unfolding argOf
+    eight-short h = rw (lacking 8 (Given (number 4 l) (number 4 (drop 4 l)) 8) h)
+
+    pub eight-given : {x y : ℕ} → 8 ≤ length l → x ≡ number 4 l → y ≡ number 4 (drop 4 l) → Given x y 8 ≡ argOf Eight base l p
+    unfolding argOf
+    eight-given h e f = rw (e, f, there 8 (Given (number 4 l) (number 4 (drop 4 l)) 8) h)
+
+    pub scalar-short : length l < 4 → Refused RunsOut ≡ argOf Scalar base l p
+    unfolding argOf
+    scalar-short h = rw (lt-leb 4 (length l) h)
+
+    pub scalar-given : {x : ℕ} → 4 ≤ length l → x ≡ number 4 l → isScalar x ≡ true → Given x 0 4 ≡ argOf Scalar base l p
+    unfolding argOf
+    scalar-given h e s = rw (le-leb 4 (length l) h, ← e, s)
+
+    pub not-scalar : {x : ℕ} → 4 ≤ length l → x ≡ number 4 l → isScalar x ≡ false → Refused NotScalar ≡ argOf Scalar base l p
+    unfolding argOf
+    not-scalar h e s = rw (le-leb 4 (length l) h, ← e, s)
+
+    pub text-given : {n used : ℕ} → Found n used ≡ textOf l p → Given (base + p) n used ≡ argOf String base l p
+    unfolding argOf
+    text-given e = rw (← e)
+
+    pub text-lacks : {lack : Lack} {fault : Fault} → Lacks lack ≡ textOf l p → fault ≡ faultOf lack → Refused fault ≡ argOf String base l p
+    unfolding argOf
+    text-lacks e f = rw (f, ← e)
+
+    pub blob-short : length l < 4 → Refused RunsOut ≡ argOf Blob base l p
+    unfolding argOf
+    blob-short h = rw (lt-leb 4 (length l) h)
+
+    pub blob-lacks : {n : ℕ} → 4 ≤ length l → n ≡ number 4 l → length l < (p + 4 + n + 3) / 4 * 4 - p
+        → Refused RunsOut ≡ argOf Blob base l p
+    unfolding argOf
+    blob-lacks {n} h e k = rw (le-leb 4 (length l) h, ← e, lt-leb (reach p (4 + n)) (length l) (rw reached at k))
+
+    pub blob-given : {n : ℕ} → 4 ≤ length l → n ≡ number 4 l → (p + 4 + n + 3) / 4 * 4 - p ≤ length l
+        → Given (base + p + 4) n ((p + 4 + n + 3) / 4 * 4 - p) ≡ argOf Blob base l p
+    unfolding argOf
+    blob-given {n} h e k =
+        let s : base + p + 4 ≡ base + (p + 4) = omega arith in
+        rw (le-leb 4 (length l) h, ← e, le-leb (reach p (4 + n)) (length l) (rw reached at k), reached p n, s)

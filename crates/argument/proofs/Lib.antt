@@ -1,0 +1,2 @@
+pub mod Argued
+pub mod Within

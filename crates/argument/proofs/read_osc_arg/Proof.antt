@@ -1,0 +1,32 @@
+-- `arguments::read_osc_arg` meets its contract.
+use mathlib.Core.Path.{refl}
+use Rattle.argument.specs.Argument.{argOf}
+use Rattle.argument.proofs.Argued.{of-class}
+use borrow.Author.Needs.{needs}
+use Rattle.argument.proofs.read_osc_arg.Statement.{statement}
+use Rattle.argument.proofs.read_osc_arg.Tie as tie
+
+returns : tie.Need-returns
+returns c = of-class _ _ _ (c .before .enum-told .given .1) (c .read-four .ensures _ _)
+
+returns-2 : tie.Need-returns-2
+returns-2 c = of-class _ _ _ (c .before .enum-told2 .given .1) (c .read-eight .ensures _ _)
+
+returns-3 : tie.Need-returns-3
+unfolding argOf
+returns-3 c = of-class _ _ _ (c .enum-told3 .given .1) refl
+
+pub read-osc-arg-spec : {M : Type 1} → statement M
+read-osc-arg-spec =
+    tie.close
+    (tie.spec
+    (λ c. search needs)
+    (λ c κs. search needs)
+    (λ c. search needs)
+    (λ c κs. search needs)
+    (λ c. search needs)
+    (λ c κs. search needs)
+    returns
+    returns-2
+    returns-3
+    (λ c. search needs))

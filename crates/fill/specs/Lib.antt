@@ -1,0 +1,2 @@
+pub mod SecondReading
+pub mod Known

@@ -1,0 +1,31 @@
+-- What the second reading of a packet answers and leaves in a table that has room. These describe code, not the document.
+-- A position that is answered is the one after the last byte that was read.
+use mathlib.Core.Path.{_≡_}
+use mathlib.Core.List.{List}
+use Prim.Native.Nat.{ℕ, _+_, _*_, _≤_}
+use lib.ListN.{length}
+use Rattle.node.specs.Forest.{Forest, nil, node, size}
+use Rattle.node.specs.Records.{recordSize, stored}
+use Rattle.packet.specs.Packet.{Out, fault, one}
+use Rattle.fill.specs.declared.Filled.{Filled}
+use Rattle.fill.specs.declared.Filled.the-variants.{Wrote, Nothing}
+
+-- the tree that is written: none of a packet that is refused
+abbrev pub treeOf : Out → Forest
+treeOf (fault k) = nil
+treeOf (one kind a b inside used) = node kind a b inside nil
+
+-- what the second reading of a packet at position p answers
+abbrev pub filled : ℕ → Out → Filled
+filled p (fault k) = Nothing
+filled p (one kind a b inside used) = Wrote (1 + size inside) (p + used)
+
+-- a table has room for a forest's records, the first of which has index i
+pub record Room (f : Forest) (i : ℕ) (table : List ℕ) : Type 0 where
+  pub fits : recordSize * size f ≤ length table
+  pub low : i + size f ≤ 65535
+
+-- a packet at position p was written to a table, from index i on
+pub record Fills (o : Out) (p i : ℕ) (before : List ℕ) (answer : Filled) (after : List ℕ) : Type 0 where
+  pub answered : answer ≡ filled p o
+  pub table : after ≡ stored i (treeOf o) before

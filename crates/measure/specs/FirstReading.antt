@@ -1,0 +1,27 @@
+-- What the first reading of a packet answers, from what `packet` says: it writes nothing. These describe code, not the document.
+-- A position that is answered is the one after the last byte that was read.
+use mathlib.Core.Bool.{Bool, true, false, cond}
+use Prim.Native.Nat.{ℕ, _+_}
+use lib.Dec.{leb}
+use Rattle.node.specs.Forest.{size, depth, level}
+use Rattle.packet.specs.Packet.{Out, fault, one}
+use Rattle.measure.specs.declared.Extent.{Extent}
+use Rattle.measure.specs.declared.Extent.the-variants.{Tree, Deep, Refused}
+use Rattle.measure.specs.declared.Skimmed.{Skimmed}
+use Rattle.measure.specs.declared.Skimmed.the-variants.{Takes, Fails}
+
+-- a packet at position p, where `room` levels of bundles may be opened yet: its records and where it ends; or that it is too
+-- deep, and where it ends
+unfoldable pub extent : ℕ → ℕ → Out → Extent
+extent room p (fault k) = Refused k
+extent room p (one kind a b inside used) = cond (leb (level kind (depth inside)) room) (Tree (1 + size inside) (p + used)) (Deep (p + used))
+
+-- whether an element is accepted, and its size then
+abbrev pub skimmed : Out → Skimmed
+skimmed (fault k) = Fails
+skimmed (one kind a b inside used) = Takes used
+
+-- whether a packet is accepted
+abbrev pub accepted : Out → Bool
+accepted (fault k) = false
+accepted (one kind a b inside used) = true

@@ -1,0 +1,170 @@
+// The first reading of a packet: it writes nothing, and goes no deeper than the limit on nested bundles.
+use packet::Sized;
+use packet::Start;
+use arguments::Measured;
+use refusal::Fault;
+use text::Text;
+ghost use mathlib.Core.Path.{_≡_};
+ghost use Prim.Native.Nat.{ℕ, _+_, _≤_};
+ghost use lib.ListN.{length};
+ghost use Rattle.packet.specs.Packet.{messageOf, packet, elements, bundle, element, usedBy};
+ghost use Rattle.measure.specs.FirstReading.{extent, skimmed, accepted};
+
+// What the first reading of a packet answers; `next` is the position after its last byte.
+pub enum Extent {
+    // Its records.
+    Tree { count: usize, next: usize },
+    // Its bundles are nested deeper than the limit.
+    Deep { next: usize },
+    Refused(Fault),
+}
+
+// What a look at an element answers.
+pub enum Skimmed {
+    // It is accepted, and has so many bytes.
+    Takes(usize),
+    Fails,
+}
+
+// A packet at `pos`; `room` levels of bundles may be opened yet.
+pub fn measure_packet(input: &[u8], pos: usize, room: usize) -> Extent
+    requires { ⌜ pos + length (now input) ≤ 65535 ⌝ }
+    ensures { λ r. ⌜ ((base : ℕ) → r ≡ extent room pos (packet base (now (input .entry)) pos)) ⌝ }
+{
+    match packet::read_start(input, pos) {
+        Start::Message { length: _, used } => measure_message(&input[used..], pos + used),
+        Start::Bundle { used } => measure_bundle(&input[used..], pos + used, room),
+        Start::Refused(fault) => Extent::Refused(fault),
+    }
+}
+
+// What follows the address of a message: the type text, then the data.
+pub fn measure_message(input: &[u8], pos: usize) -> Extent
+    requires { ⌜ pos + length (now input) ≤ 65535 ⌝ }
+    ensures { λ r. ⌜ ((base offset n room : ℕ) → r ≡ extent room pos (messageOf base offset n (now (input .entry)) pos)) ⌝ }
+{
+    match text::read_osc_string(input, pos) {
+        Text::Found { length, used } => {
+            let tags = packet::tags_in(&input[0..length]);
+            match arguments::measure_osc_args(tags, &input[used..], pos + used) {
+                Measured::Kept { count, used: data } => Extent::Tree {
+                    count: 1 + count,
+                    next: pos + used + data,
+                },
+                Measured::Refused(fault) => Extent::Refused(fault),
+            }
+        }
+        Text::Lacks(lack) => Extent::Refused(text::fault_of(lack)),
+    }
+}
+
+// What follows "#bundle". Where the limit is reached, or was passed in an element, no bundle is opened any more: the
+// elements that are left say where the bundle ends.
+fn measure_bundle(input: &[u8], pos: usize, room: usize) -> Extent
+    requires { ⌜ pos + length (now input) ≤ 65535 ⌝ }
+    ensures { λ r. ⌜ ((base : ℕ) → r ≡ extent room pos (bundle base (now (input .entry)) pos)) ⌝ }
+{
+    if input.len() < 8 {
+        return Extent::Refused(Fault::RunsOut);
+    }
+    let mut rest = &input[8..];
+    let mut at = pos + 8;
+    let mut count = 1;
+    if room == 0 {
+        return Extent::Deep {
+            next: skim_elements(rest, at),
+        };
+    }
+    loop {
+        match measure_element(rest, at, room - 1) {
+            Extent::Tree { count: n, next } => {
+                count += n;
+                rest = &rest[next - at..];
+                at = next;
+            }
+            Extent::Deep { next: _ } => {
+                return Extent::Deep {
+                    next: skim_elements(rest, at),
+                };
+            }
+            Extent::Refused(_) => return Extent::Tree { count, next: at },
+        }
+    }
+}
+
+// An element: a size and that many bytes, which hold a packet.
+fn measure_element(input: &[u8], pos: usize, room: usize) -> Extent
+    requires { ⌜ pos + length (now input) ≤ 65535 ⌝ }
+    ensures { λ r. ⌜ ((base : ℕ) → r ≡ extent room (pos + 4) (element base (now (input .entry)) pos)) ⌝ }
+{
+    match packet::read_size(input) {
+        Sized::Holds(size) => match measure_packet(&input[4..4 + size], pos + 4, room) {
+            Extent::Tree { count, next: _ } => Extent::Tree {
+                count,
+                next: pos + 4 + size,
+            },
+            Extent::Deep { next: _ } => Extent::Deep {
+                next: pos + 4 + size,
+            },
+            Extent::Refused(fault) => Extent::Refused(fault),
+        },
+        Sized::RunsOut => Extent::Refused(Fault::RunsOut),
+    }
+}
+
+// The position after the elements that are accepted. No bundle in them is opened.
+fn skim_elements(input: &[u8], pos: usize) -> usize
+    requires { ⌜ pos + length (now input) ≤ 65535 ⌝ }
+    ensures { λ r. ⌜ ((base : ℕ) → r ≡ pos + usedBy (elements base (now (input .entry)) pos)) ⌝ }
+{
+    let mut rest = input;
+    let mut at = pos;
+    loop {
+        match skim_element(rest, at) {
+            Skimmed::Takes(size) => {
+                rest = &rest[4 + size..];
+                at += 4 + size;
+            }
+            Skimmed::Fails => return at,
+        }
+    }
+}
+
+// Whether an element is accepted.
+fn skim_element(input: &[u8], pos: usize) -> Skimmed
+    requires { ⌜ pos + length (now input) ≤ 65535 ⌝ }
+    ensures { λ r. ⌜ ((base : ℕ) → r ≡ skimmed (element base (now (input .entry)) pos)) ⌝ }
+{
+    match packet::read_size(input) {
+        Sized::Holds(size) => {
+            if is_packet(&input[4..4 + size], pos + 4) {
+                return Skimmed::Takes(size);
+            }
+            Skimmed::Fails
+        }
+        Sized::RunsOut => Skimmed::Fails,
+    }
+}
+
+// Whether a packet is accepted: a bundle is, once its time tag is read.
+fn is_packet(input: &[u8], pos: usize) -> bool
+    requires { ⌜ pos + length (now input) ≤ 65535 ⌝ }
+    ensures { λ r. ⌜ ((base : ℕ) → r ≡ accepted (packet base (now (input .entry)) pos)) ⌝ }
+{
+    match packet::read_start(input, pos) {
+        Start::Message { length: _, used } => {
+            match measure_message(&input[used..], pos + used) {
+                Extent::Tree { count: _, next: _ } => true,
+                Extent::Deep { next: _ } => true,
+                Extent::Refused(_) => false,
+            }
+        }
+        Start::Bundle { used } => {
+            if input.len() - used < 8 {
+                return false;
+            }
+            true
+        }
+        Start::Refused(_) => false,
+    }
+}

@@ -1,0 +1,4 @@
+pub mod Forests
+pub mod Keys
+pub mod Recorded
+pub mod Stored

@@ -1,0 +1,67 @@
+-- A record as it is written and as it is read, and how many bytes the records of a forest take.
+use mathlib.Core.Path.{_≡_, refl}
+use mathlib.Core.List.{List, [], _∷_, _++_, append-assoc}
+use Prim.Native.Nat.{ℕ, _+_, _-_, _*_, _%_, _^_, _<_, _≤_}
+use native.Mathlib.Omega.{arith}
+use lib.ListN.{length, getD, set, drop, length-append}
+use borrow.Rule.Slice.PartMut.{midOf, putMid}
+use Rattle.wire.specs.Number.{number, bytes}
+use Rattle.wire.specs.Wrote.{Wrote}
+use Rattle.node.specs.Records.{recordSize, recordOf, recordsOf, kindAt, zerosAt, endAt, aAt, bAt, startOf, recordAt}
+use Rattle.node.specs.declared.record.Record.{Record}
+use Rattle.node.specs.Forest.{Forest, nil, node, size}
+use Rattle.wire.proofs.Numbers.{length-bytes, number-parts, number-small}
+use Rattle.wire.proofs.Parts.{drop-small}
+use Rattle.wire.proofs.Writers.{wrote-none, wrote-set, wrote-lent}
+
+-- a kind and three zeros, byte by byte
+pub kind-written : (o : List ℕ) (kind : ℕ) → 4 ≤ length o → Wrote (kind ∷ 0 ∷ 0 ∷ 0 ∷ []) o (set (set (set (set o 0 kind) 1 0) 2 0) 3 0)
+kind-written o kind h =
+    wrote-set (kind ∷ 0 ∷ 0 ∷ []) o _
+    (wrote-set (kind ∷ 0 ∷ []) o _
+    (wrote-set (kind ∷ []) o _
+    (wrote-set [] o o (wrote-none o) 0 kind refl (omega arith))
+    1 0 refl (omega arith))
+    2 0 refl (omega arith))
+    3 0 refl (omega arith)
+
+pub length-record : (kind end a b : ℕ) → length (recordOf kind end a b) ≡ recordSize
+unfolding recordOf
+length-record kind end a b = simp (length-append, length-bytes)
+
+-- the four steps of a record are its bytes
+record-joined : (kind end a b : ℕ) → (((kind ∷ 0 ∷ 0 ∷ 0 ∷ []) ++ bytes 4 end) ++ bytes 4 a) ++ bytes 4 b ≡ recordOf kind end a b
+unfolding recordOf
+record-joined kind end a b = simp append-assoc
+
+pub record-written : (kind end a b : ℕ) {o₀ o₁ p₁ p₂ p₃ : List ℕ}
+    → (let o₂ = putMid 4 (length o₁ - 4) o₁ p₁ in let o₃ = putMid 8 (length o₂ - 8) o₂ p₂ in
+    Wrote (kind ∷ 0 ∷ 0 ∷ 0 ∷ []) o₀ o₁
+    → Wrote (bytes 4 end) (midOf 4 (length o₁ - 4) o₁) p₁
+    → Wrote (bytes 4 a) (midOf 8 (length o₂ - 8) o₂) p₂
+    → Wrote (bytes 4 b) (midOf 12 (length o₃ - 12) o₃) p₃
+    → Wrote (recordOf kind end a b) o₀ (putMid 12 (length o₃ - 12) o₃ p₃))
+record-written kind end a b w₁ w₂ w₃ w₄ =
+    rw (← record-joined kind end a b)
+    (wrote-lent 12 (wrote-lent 8 (wrote-lent 4 w₁ refl w₂) (simp length-bytes) w₃) (simp (length-append, length-bytes)) w₄)
+
+-- the three bytes after a byte, from the number of all four
+pub zeros-read : (t : List ℕ) (i : ℕ) → ((j : ℕ) → getD t j 0 < 256) → startOf i + 4 ≤ length t
+    → number 4 (drop (startOf i) t) % 0x100_0000 ≡ zerosAt t i
+unfolding zerosAt
+zeros-read t i b h =
+    let p : number 4 (drop (startOf i) t) ≡ number 1 (drop (startOf i) t) * 256 ^ 3 + number 3 (drop (startOf i + 1) t)
+    = number-parts 1 3 t (startOf i) h in
+    let s : number 3 (drop (startOf i + 1) t) < 256 ^ 3 = number-small 3 (drop (startOf i + 1) t) (drop-small (startOf i + 1) t b) in
+    omega arith
+
+-- a record, field by field
+pub record-read : (t : List ℕ) (i : ℕ) {k z e a b : ℕ} → k ≡ kindAt t i → z ≡ zerosAt t i → e ≡ endAt t i → a ≡ aAt t i → b ≡ bAt t i
+    → _≡_ {A = Record} (record { kind = k; zeros = z; end = e; a = a; b = b }) (recordAt t i)
+record-read t i o p q r s = rw (o, p, q, r, s)
+
+pub length-records : (i : ℕ) (f : Forest) → length (recordsOf i f) ≡ recordSize * size f
+unfolding recordsOf size
+length-records i nil = refl
+length-records i (node k a b inside rest) =
+    simp (length-append, length-record, length-records (i + 1) inside, length-records (i + 1 + size inside) rest) (omega arith)

@@ -1,0 +1,4 @@
+pub mod Forest
+pub mod Records
+pub mod Tags
+pub mod Rules

@@ -1,0 +1,101 @@
+-- Elements of a bundle, one after another.
+use mathlib.Core.Path.{_≡_, refl, ap, _∙_, subst}
+use mathlib.Core.List.{List}
+use Prim.Native.Nat.{ℕ, _+_, _-_, _<_, _≤_}
+use native.Mathlib.Omega.{arith}
+use borrow.Author.Tests.{le-leb, lt-leb}
+use lib.ListN.{length, take, drop, length-drop}
+use Rattle.refusal.specs.declared.Fault.{Fault}
+use Rattle.refusal.specs.declared.Fault.the-variants.{RunsOut}
+use Rattle.wire.specs.Number.{number}
+use Rattle.wire.proofs.Parts.{tail}
+use Rattle.node.specs.Forest.{Forest, nil, node, size}
+use Rattle.packet.specs.Packet.{fault, one, Elements, upto, bundleWith, bundleOf, joined, goOn, elements}
+use Rattle.packet.specs.Packet.{bundle, element, usedBy, treesIn}
+use Rattle.packet.proofs.Knot.{elements-by}
+use Rattle.packet.proofs.Within.{Within, element-in, elements-in}
+
+-- ---- a bundle by its length
+
+-- the elements of the bundle
+abbrev pub contents : ℕ → List ℕ → ℕ → Elements
+contents base l p = elements base (drop 8 l) (p + 8)
+
+module _ (base : ℕ) (l : List ℕ) (p : ℕ) where
+  pub bundle-short : length l < 8 → bundle base l p ≡ fault RunsOut
+  unfolding bundle bundleOf
+  bundle-short h = rw (bundleOf, lt-leb 8 (length l) h)
+
+  pub bundle-long : 8 ≤ length l → bundle base l p ≡ bundleWith (number 4 l) (number 4 (drop 4 l)) (contents base l p)
+  unfolding bundle bundleOf
+  bundle-long h = rw (bundleOf, le-leb 8 (length l) h)
+
+-- ---- elements by the first one
+
+joined-trees : (k a b : ℕ) (f : Forest) (n : ℕ) (g : Elements) → treesIn (joined k a b f n g) ≡ node k a b f (treesIn g)
+joined-trees k a b f n (upto g u) = refl
+
+joined-used : (k a b : ℕ) (f : Forest) (n : ℕ) (g : Elements) → usedBy (joined k a b f n g) ≡ 4 + n + usedBy g
+joined-used k a b f n (upto g u) = refl
+
+module _ (base : ℕ) (m : List ℕ) (q : ℕ) where
+  -- an element that fails ends them
+  pub ended : {k : Fault} → element base m q ≡ fault k → elements base m q ≡ upto nil 0
+  ended e = elements-by base m q ∙ ap (goOn (λ l p. elements base l p) m q) e
+
+  module _ {k a b n : ℕ} {f : Forest} (e : element base m q ≡ one k a b f n) where
+    -- the elements after the first
+    abbrev rest : Elements
+    rest = elements base (drop (4 + n) m) (q + (4 + n))
+
+    first-one : elements base m q ≡ joined k a b f n rest
+    first-one = elements-by base m q ∙ ap (goOn (λ l p. elements base l p) m q) e
+
+    pub first-trees : treesIn (elements base m q) ≡ node k a b f (treesIn rest)
+    first-trees = ap treesIn first-one ∙ joined-trees k a b f n rest
+
+    pub first-used : usedBy (elements base m q) ≡ 4 + n + usedBy rest
+    first-used = ap usedBy first-one ∙ joined-used k a b f n rest
+
+    pub first-in : Within (length m - 4) (one k a b f n)
+    first-in = subst (Within (length m - 4)) e (element-in base m q)
+
+    pub first-rest : elements base (drop (q + 4 + n - q) m) (q + 4 + n) ≡ rest
+    first-rest = let d : q + 4 + n - q ≡ 4 + n = omega arith in let a : q + 4 + n ≡ q + (4 + n) = omega arith in rw (d, a)
+
+-- ---- counting
+
+-- the elements from m on, at q, by those after the first, which has n records and ends at `next`
+pub record Stepped (base : ℕ) (m : List ℕ) (q n next : ℕ) : Type 0 where
+  pub nodes : size (treesIn (elements base m q)) ≡ n + size (treesIn (elements base (drop (next - q) m) next))
+  pub bytes : q + usedBy (elements base m q) ≡ next + usedBy (elements base (drop (next - q) m) next)
+  pub low : (1 ≤ n) × (q + 4 + n ≤ next)
+  pub high : next ≤ q + length m
+
+pub stepped : {k a b u : ℕ} {f : Forest} (base : ℕ) (m : List ℕ) (q : ℕ) → element base m q ≡ one k a b f u
+    → Stepped base m q (1 + size f) (q + 4 + u)
+unfolding size
+stepped {k} {a} {b} {u} {f} base m q e =
+    let w = first-in base m q e in
+    record {
+      nodes = rw (first-rest base m q e) (ap size (first-trees base m q e));
+      bytes = rw (first-rest base m q e) (omega (arith, first-used base m q e));
+      low = (omega arith, omega arith);
+      high = omega arith;
+    }
+
+-- the bundle l at p has c records so far, and the elements from m on, at q, are left
+pub record Counted (base : ℕ) (l : List ℕ) (p : ℕ) (m : List ℕ) (q c : ℕ) : Type 0 where
+  pub count : 1 + size (treesIn (contents base l p)) ≡ c + size (treesIn (elements base m q))
+  pub used : p + 8 + usedBy (contents base l p) ≡ q + usedBy (elements base m q)
+
+pub counted-start : (base : ℕ) (l : List ℕ) (p : ℕ) → Counted base l p (take (length l - 8) (drop 8 l)) (p + 8) 1
+counted-start base l p = rw (tail l 8) (record { count = refl; used = refl })
+
+pub counted-on : {n next : ℕ} (base : ℕ) (l : List ℕ) (p : ℕ) (m : List ℕ) (q c : ℕ) → Counted base l p m q c → Stepped base m q n next
+    → Counted base l p (take (length m - (next - q)) (drop (next - q) m)) next (c + n)
+counted-on {n} {next} base l p m q c w s = rw (tail m (next - q)) (record { count = omega arith; used = omega arith })
+
+-- there are no more records than bytes
+pub counted-in : (base : ℕ) (l : List ℕ) (p : ℕ) → 1 + size (treesIn (contents base l p)) ≤ 1 + (length l - 8)
+counted-in base l p = omega (arith, elements-in base (drop 8 l) (p + 8), length-drop 8 l)

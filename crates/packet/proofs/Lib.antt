@@ -1,0 +1,4 @@
+pub mod Knot
+pub mod Fronts
+pub mod Within
+pub mod Bundles

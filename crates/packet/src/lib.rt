@@ -1,0 +1,116 @@
+// What stands at the front of a packet, of an element of a bundle, and of a frame of a TCP stream.
+use wire::be_u32;
+use refusal::Fault;
+use text::Text;
+ghost use mathlib.Core.Path.{_≡_};
+ghost use mathlib.Core.Bool.{true};
+ghost use Prim.Native.Nat.{_+_, _≤_};
+ghost use lib.ListN.{length};
+ghost use Rattle.utf8.specs.Derive.{utf8};
+ghost use Rattle.packet.specs.Packet.{same, tagsIn};
+ghost use Rattle.packet.specs.Heads.{startOf, sizeOf, prefixOf};
+
+// What a packet starts with; `used` bytes are the first text's.
+pub enum Start {
+    // An address of `length` bytes.
+    Message { length: usize, used: usize },
+    // "#bundle".
+    Bundle { used: usize },
+    Refused(Fault),
+}
+
+// The size of an element.
+pub enum Sized {
+    // So many bytes follow the size.
+    Holds(usize),
+    // There are fewer.
+    RunsOut,
+}
+
+// The prefix of a frame.
+pub enum Prefix {
+    // The length is at most that of the input, prefix included.
+    Whole,
+    // The length is greater.
+    Waiting,
+    // There are fewer than 4 bytes.
+    RunsOut,
+}
+
+// Whether two lists of bytes are the same.
+fn same(a: &[u8], b: &[u8]) -> bool
+    ensures { λ r. ⌜ r ≡ same (now (a .entry)) (now (b .entry)) ⌝ }
+{
+    if a.len() != b.len() {
+        return false;
+    }
+    let mut i = 0;
+    while i < a.len() {
+        if a[i] != b[i] {
+            return false;
+        }
+        i += 1;
+    }
+    true
+}
+
+// The first text of a packet decides what it is.
+pub fn read_start(input: &[u8], pos: usize) -> Start
+    requires { ⌜ pos + length (now input) ≤ 65535 ⌝ }
+    ensures { λ r. ⌜ r ≡ startOf (now (input .entry)) pos ⌝ }
+{
+    if input.len() == 0 {
+        return Start::Refused(Fault::Empty);
+    }
+    match text::read_osc_string(input, pos) {
+        Text::Found { length, used } => {
+            if input[0] == b'/' {
+                return Start::Message { length, used };
+            }
+            if same(&input[0..length], b"#bundle") {
+                return Start::Bundle { used };
+            }
+            Start::Refused(Fault::BadStart)
+        }
+        Text::Lacks(lack) => Start::Refused(text::fault_of(lack)),
+    }
+}
+
+// The tags of a type text: its first character is skipped, whatever it is.
+pub fn tags_in(types: &[u8]) -> &[u8]
+    requires { ⌜ utf8 (now types) ≡ true ⌝ }
+    ensures { λ r. ⌜ now r ≡ tagsIn (now (types .entry)) ⌝ }
+{
+    if types.len() == 0 {
+        return types;
+    }
+    let skipped = utf8::lead(types[0]);
+    &types[skipped..]
+}
+
+// The size of an element, where that many bytes follow it.
+pub fn read_size(input: &[u8]) -> Sized
+    ensures { λ r. ⌜ r ≡ sizeOf (now (input .entry)) ⌝ }
+{
+    if input.len() < 4 {
+        return Sized::RunsOut;
+    }
+    let size = be_u32(input, 0) as usize;
+    if input.len() - 4 < size {
+        return Sized::RunsOut;
+    }
+    Sized::Holds(size)
+}
+
+// The length of a frame against all of the input, prefix included. It cuts nothing.
+pub fn read_prefix(input: &[u8]) -> Prefix
+    ensures { λ r. ⌜ r ≡ prefixOf (now (input .entry)) ⌝ }
+{
+    if input.len() < 4 {
+        return Prefix::RunsOut;
+    }
+    if input.len() < be_u32(input, 0) as usize {
+        return Prefix::Waiting;
+    }
+    Prefix::Whole
+}

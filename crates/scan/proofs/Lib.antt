@@ -1,0 +1,3 @@
+pub mod Flat
+pub mod Within
+pub mod Turns

@@ -1,0 +1,147 @@
+// The tags and their data without records: what the first reading finds out. Linear, with no stack for arrays.
+use argument::Arg;
+use argument::read_rare;
+use refusal::Fault;
+use node::tags::Class;
+use node::tags::Sort;
+use node::tags::sort_of;
+ghost use mathlib.Core.Path.{_≡_};
+ghost use Prim.Native.Nat.{ℕ, _+_, _≤_};
+ghost use lib.ListN.{length};
+ghost use Rattle.argument.specs.Argument.{having, argOf};
+ghost use Rattle.scan.specs.Scans.{usedOf, scan, back, bracket, brackets};
+
+// How many bytes of data tags take, or the fault.
+pub enum Scanned {
+    Used(usize),
+    Refused(Fault),
+}
+
+// What the tags from some place on keep.
+pub enum Back {
+    // They close every array that they open, and `closed` more; they give `count` records.
+    Whole { closed: usize, count: usize },
+    // An array that they open stays open. The last such '[' ends the first `first` of them; those after it give `count` records.
+    Cut { first: usize, count: usize },
+}
+
+// `n` bytes, where the data has them.
+fn pass_bytes(input: &[u8], n: usize) -> Scanned
+    ensures { λ r. ⌜ ((a b : ℕ) → r ≡ usedOf (having n (now (input .entry)) (Arg.Given a b n))) ⌝ }
+{
+    if input.len() < n {
+        return Scanned::Refused(Fault::RunsOut);
+    }
+    Scanned::Used(n)
+}
+
+// How many bytes of data one argument takes.
+fn pass_arg(class: Class, input: &[u8], pos: usize) -> Scanned
+    requires { ⌜ pos + length (now input) ≤ 65535 ⌝ }
+    ensures { λ r. ⌜ r ≡ usedOf (argOf class 0 (now (input .entry)) pos) ⌝ }
+{
+    match class {
+        Class::Four => pass_bytes(input, 4),
+        Class::Eight => pass_bytes(input, 8),
+        Class::Bare => Scanned::Used(0),
+        _ => match read_rare(class, input, 0, pos) {
+            Arg::Given { a: _, b: _, used } => Scanned::Used(used),
+            Arg::Refused(fault) => Scanned::Refused(fault),
+        },
+    }
+}
+
+// Forward: whether the tags and their data are accepted, and how many bytes they take. Only the number of open arrays is kept.
+pub fn scan_args(tags: &[u8], input: &[u8], pos: usize) -> Scanned
+    requires { ⌜ pos + length (now input) ≤ 65535 ⌝ }
+    ensures { λ r. ⌜ r ≡ scan (now (tags .entry)) (now (input .entry)) pos 0 ⌝ }
+{
+    let mut left = tags;
+    let mut rest = input;
+    let mut at = pos;
+    let mut waiting: usize = 0;
+    while 0 < left.len() {
+        let tag = left[0];
+        left = &left[1..];
+        match sort_of(tag) {
+            Sort::Opens => waiting += 1,
+            Sort::Closes => {
+                if waiting == 0 {
+                    return Scanned::Refused(Fault::NotOpen);
+                }
+                waiting -= 1;
+            }
+            Sort::Leaf(class) => match pass_arg(class, rest, at) {
+                Scanned::Used(used) => {
+                    rest = &rest[used..];
+                    at += used;
+                }
+                Scanned::Refused(fault) => return Scanned::Refused(fault),
+            },
+        }
+    }
+    Scanned::Used(at - pos)
+}
+
+// Whether a tag opens or closes an array.
+fn is_bracket(tag: u8) -> bool
+    ensures { λ r. ⌜ r ≡ bracket tag ⌝ }
+{
+    match tag {
+        b'[' | b']' => true,
+        _ => false,
+    }
+}
+
+// Whether one of the tags is a bracket. With no early exit, a compiled step takes many of them.
+fn any_bracket(tags: &[u8]) -> bool
+    ensures { λ r. ⌜ r ≡ brackets (now (tags .entry)) ⌝ }
+{
+    let mut any = false;
+    let mut i = 0;
+    while i < tags.len() {
+        if is_bracket(tags[i]) {
+            any = true;
+        }
+        i += 1;
+    }
+    any
+}
+
+// Backward, tags only: where the last '[' stands that is never closed, and how many records follow.
+fn walk_back(tags: &[u8]) -> Back
+    ensures { λ r. ⌜ r ≡ back (now (tags .entry)) ⌝ }
+{
+    let mut at = tags.len();
+    let mut closed: usize = 0;
+    let mut count: usize = 0;
+    while 0 < at {
+        at -= 1;
+        match sort_of(tags[at]) {
+            Sort::Opens => {
+                if closed == 0 {
+                    let first = at + 1;
+                    return Back::Cut { first, count };
+                }
+                closed -= 1;
+                count += 1;
+            }
+            Sort::Closes => closed += 1,
+            Sort::Leaf(_) => count += 1,
+        }
+    }
+    Back::Whole { closed, count }
+}
+
+// The same. Where no tag is a bracket, each one is a record, and none is looked at by itself.
+pub fn look_back(tags: &[u8]) -> Back
+    ensures { λ r. ⌜ r ≡ back (now (tags .entry)) ⌝ }
+{
+    if any_bracket(tags) {
+        return walk_back(tags);
+    }
+    Back::Whole {
+        closed: 0,
+        count: tags.len(),
+    }
+}

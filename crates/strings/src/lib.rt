@@ -1,0 +1,118 @@
+// The writers (encoder.rs, `encode_message` and what it calls): each fills the first bytes of the slice that it is lent, and
+// answers how many these are.
+use wire::put_u32;
+use node::tags::Class;
+ghost use mathlib.Core.Path.{_≡_};
+ghost use mathlib.Core.Bool.{true};
+ghost use mathlib.Core.List.{_++_};
+ghost use Prim.Native.Nat.{_+_, _^_, _≤_, _<_};
+ghost use lib.ListN.{length, replicate};
+ghost use Rattle.wire.specs.Wrote.{Wrote, Filled};
+ghost use Rattle.table.specs.Formed.{part};
+ghost use Rattle.strings.specs.Atomic.{int32, oscString, oscBlob, argumentOf, stringLength, blobLength, ranged};
+
+// Writes `bytes`.
+pub fn write(bytes: &[u8], out: &mut [u8])
+    requires { ⌜ length (now bytes) ≤ length (now out) ⌝ }
+    ensures { λ _. ⌜ Wrote (now (bytes .entry)) (now (out .entry)) (now (out .exit)) ⌝ }
+{
+    let mut i: usize = 0;
+    while i < bytes.len() {
+        out[i] = bytes[i];
+        i += 1;
+    }
+}
+
+// Writes n zero bytes, at most 4: a loop would be compiled to a call.
+pub fn write_zeros(n: usize, out: &mut [u8]) -> usize
+    requires { ⌜ (n ≤ 4) × (n ≤ length (now out)) ⌝ }
+    ensures { λ r. ⌜ Filled (replicate n 0) (now (out .entry)) (now (out .exit)) r ⌝ }
+{
+    if n == 0 {
+        return 0;
+    }
+    out[0] = 0;
+    if n == 1 {
+        return 1;
+    }
+    out[1] = 0;
+    if n == 2 {
+        return 2;
+    }
+    out[2] = 0;
+    if n == 3 {
+        return 3;
+    }
+    out[3] = 0;
+    4
+}
+
+// Writes a text and its 1 to 4 NULs.
+pub fn encode_string_into(text: &[u8], out: &mut [u8]) -> usize
+    requires { ⌜ stringLength (length (now text)) ≤ length (now out) ⌝ }
+    ensures { λ r. ⌜ Filled (oscString (now (text .entry))) (now (out .entry)) (now (out .exit)) r ⌝ }
+{
+    let n = text.len();
+    write(text, out);
+    n + write_zeros(4 - n % 4, &mut out[n..])
+}
+
+// Writes a blob: its size, its bytes and 0 to 3 zeros.
+fn encode_blob_into(content: &[u8], out: &mut [u8]) -> usize
+    requires { ⌜ length (now content) < 2 ^ 32 ⌝ }
+    requires { ⌜ blobLength (length (now content)) ≤ length (now out) ⌝ }
+    ensures { λ r. ⌜ Filled (oscBlob (now (content .entry))) (now (out .entry)) (now (out .exit)) r ⌝ }
+{
+    let n = content.len();
+    put_u32(out, n as u32);
+    write(content, &mut out[4..]);
+    let end = 4 + n;
+    end + write_zeros((4 - n % 4) % 4, &mut out[end..])
+}
+
+// Writes a number.
+fn encode_number_into(x: u32, out: &mut [u8]) -> usize
+    requires { ⌜ 4 ≤ length (now out) ⌝ }
+    ensures { λ r. ⌜ Filled (int32 x) (now (out .entry)) (now (out .exit)) r ⌝ }
+{
+    put_u32(out, x);
+    4
+}
+
+// Writes two numbers, as a time tag has them.
+pub fn encode_pair_into(high: u32, low: u32, out: &mut [u8]) -> usize
+    requires { ⌜ 8 ≤ length (now out) ⌝ }
+    ensures { λ r. ⌜ Filled (int32 high ++ int32 low) (now (out .entry)) (now (out .exit)) r ⌝ }
+{
+    put_u32(out, high);
+    put_u32(&mut out[4..], low);
+    8
+}
+
+// The part of the source that a record names.
+fn range(source: &[u8], a: u32, b: u32) -> &[u8]
+    requires { ⌜ a + b ≤ length (now source) ⌝ }
+    ensures { λ r. ⌜ now r ≡ part (now (source .entry)) a b ⌝ }
+{
+    let start = a as usize;
+    let end = start + b as usize;
+    &source[start..end]
+}
+
+// Writes the data of one argument that is no array. An address is written by it too: called from two places, it stays a function of
+// its own, and a level of nested arrays takes no more of the stack than its own frame.
+pub fn encode_leaf_data(class: Class, a: u32, b: u32, source: &[u8], out: &mut [u8]) -> usize
+    requires { ⌜ (ranged class ≡ true → a + b ≤ length (now source)) ⌝ }
+    requires { ⌜ length (argumentOf class (now source) a b) ≤ length (now out) ⌝ }
+    ensures { λ r. ⌜ Filled (argumentOf class (now (source .entry)) a b) (now (out .entry)) (now (out .exit)) r ⌝ }
+{
+    match class {
+        Class::Four => encode_number_into(a, out),
+        Class::Eight => encode_pair_into(a, b, out),
+        Class::Bare => 0,
+        Class::Text => encode_string_into(range(source, a, b), out),
+        Class::Blob => encode_blob_into(range(source, a, b), out),
+        Class::Scalar => encode_number_into(a, out),
+        Class::Unknown => 0,
+    }
+}

@@ -1,0 +1,276 @@
+-- The length of a packet is the sum over its records.
+use mathlib.Core.Path.{_≡_, refl, sym, ap, _∙_}
+use mathlib.Core.Bool.{Bool, true, false, not, cond, true≢false, false≢true}
+use mathlib.Core.Logic.{_⊎_, inl, inr, ⊎-elim}
+use mathlib.Core.List.{List, [], _∷_}
+use Prim.Native.Nat.{ℕ, zero, suc, _+_, _-_, _≤_}
+use native.Mathlib.Omega.{arith}
+use native.Mathlib.Numerals.{add-one}
+use lib.Dec.{eqb}
+use lib.ListN.{length, length-append}
+use borrow.Author.Tests.{eqb-true, eqb-false, ne-eqb, not-true}
+use Rattle.wire.proofs.Numbers.{length-bytes}
+use Rattle.wire.proofs.Parts.{length-part}
+use Rattle.node.specs.Forest.{Forest, nil, node}
+use Rattle.node.specs.Tags.{sortOf, among}
+use Rattle.node.specs.Records.{kindAt, endAt, aAt, bAt, recordAt}
+use Rattle.node.specs.declared.record.Record.{Record}
+use Rattle.node.specs.declared.tags.Class.{Class}
+use Rattle.node.specs.declared.tags.Class.the-variants.{Four, Eight, Bare, Text, Blob, Scalar, Unknown}
+use Rattle.node.specs.declared.tags.Sort.{Sort}
+use Rattle.node.specs.declared.tags.Sort.the-variants.{Opens, Closes, Leaf}
+use Rattle.table.specs.Formed.{part, rangeOk, isPacket, allowed}
+use Rattle.table.specs.Tree.{Spans, Obeys}
+use Rattle.table.proofs.Spanned.{Parts, parts}
+use Rattle.strings.specs.Atomic.{oscString, argumentOf, stringLength, ranged}
+use Rattle.writers.specs.Osc.{dataBy, dataOf, tagsBy, tagsOf, messageOf, elementsOf, packetOf}
+use Rattle.survey.specs.Measure.{argumentLength, dataLength, tagLength, sumTo, tagsTo, dataTo, messageLength, elementLength}
+use Rattle.strings.proofs.Lengths.{length-string, length-blob}
+use Rattle.writers.proofs.Lengths.{length-bundle, length-message}
+use Rattle.writers.proofs.Classed.{opens, leaf-range, address-range, tags-none, data-none, elements-none, tags-is, data-is}
+use Rattle.writers.proofs.Classed.{elements-is, message-is, bundle-is}
+
+-- ---- sums
+
+pub sum-more : (g : ℕ → ℕ) (n : ℕ) → sumTo g (n + 1) ≡ sumTo g n + g n
+unfolding sumTo
+sum-more g n = rw add-one
+
+sum-on : (g : ℕ → ℕ) (i d : ℕ) → sumTo g i ≤ sumTo g (i + d)
+sum-on g i zero = let e : i + 0 ≡ i = omega arith in rw e (omega arith)
+sum-on g i (suc d) = let e : i + suc d ≡ (i + d) + 1 = omega arith in rw (e, sum-more) (omega (arith, sum-on g i d))
+
+pub sum-up : (g : ℕ → ℕ) (i n : ℕ) → i ≤ n → sumTo g i ≤ sumTo g n
+sum-up g i n h = let e : i + (n - i) ≡ n = omega arith in rw e at (sum-on g i (n - i))
+
+-- ---- which kinds stand in a message, and which contain nothing
+
+pub is-or : (k j : ℕ) → (k ≡ j) ⊎ (k ≡ j → ⊥)
+is-or k j = go (eqb k j) refl
+  where
+    go : (x : Bool) → eqb k j ≡ x → (k ≡ j) ⊎ (k ≡ j → ⊥)
+    go true e = inl (eqb-true k j e)
+    go false e = inr (eqb-false k j e)
+
+-- what stands in no bundle is no packet
+no-packet : (container k : ℕ) → (container ≡ 35 → ⊥) → allowed container k ≡ true → isPacket k ≡ false
+unfolding allowed
+no-packet container k n a = not-true (isPacket k) (go (among container (47 ∷ 91 ∷ [])) (rw (ne-eqb container 35 n) at a))
+  where
+    go : (x : Bool) → cond x (not (isPacket k)) false ≡ true → not (isPacket k) ≡ true
+    go true e = e
+    go false e = absurd (false≢true e)
+
+no-bundle : (container k : ℕ) → (container ≡ 35 → ⊥) → allowed container k ≡ true → k ≡ 35 → ⊥
+no-bundle container k n a e = true≢false (sym (ap isPacket e) ∙ no-packet container k n a)
+
+no-message : (container k : ℕ) → (container ≡ 35 → ⊥) → allowed container k ≡ true → k ≡ 47 → ⊥
+no-message container k n a e = true≢false (sym (ap isPacket e) ∙ no-packet container k n a)
+
+-- in a bundle, what is no message is a bundle
+other-bundle : (k : ℕ) → (k ≡ 47 → ⊥) → allowed 35 k ≡ true → k ≡ 35
+unfolding allowed
+other-bundle k n a = ⊎-elim (λ e. e) (λ m. absurd (false≢true (rw (ne-eqb k 35 m, ne-eqb k 47 n) at a))) (is-or k 35)
+
+leaf-empty : (source : List ℕ) (k : ℕ) (inside : Forest) → (k ≡ 35 → ⊥) → (k ≡ 47 → ⊥) → (k ≡ 91 → ⊥) → Obeys source k inside → inside ≡ nil
+unfolding Obeys allowed
+leaf-empty source k nil n₁ n₂ n₃ o = refl
+leaf-empty source k (node k′ a b inside rest) n₁ n₂ n₃ o =
+    absurd (false≢true (rw (ne-eqb k 35 n₁, ne-eqb k 47 n₂, ne-eqb k 91 n₃) at (o .2)))
+
+-- ---- the tags and the data of one record
+
+closes-apart : Closes ≡ Opens → ⊥
+closes-apart e = let z : _≡_ {A = ℕ} 0 1 = cc in omega arith
+
+leaf-apart : (class : Class) → Leaf class ≡ Opens → ⊥
+leaf-apart class e = let z : _≡_ {A = ℕ} 0 1 = cc in omega arith
+
+length-argument : (class : Class) (source : List ℕ) (a b : ℕ) → (ranged class ≡ true → a + b ≤ length source)
+    → length (argumentOf class source a b) ≡ argumentLength class b
+length-argument Four source a b h = length-bytes 4 a
+length-argument Eight source a b h = simp (length-append, length-bytes)
+length-argument Bare source a b h = refl
+length-argument Text source a b h = length-string (part source a b) ∙ rw (length-part source a b (h refl))
+length-argument Blob source a b h = length-blob (part source a b) ∙ rw (length-part source a b (h refl))
+length-argument Scalar source a b h = length-bytes 4 a
+length-argument Unknown source a b h = refl
+
+data-by : (sort : Sort) (source : List ℕ) (a b : ℕ) (within : List ℕ)
+    → ((class : Class) → sort ≡ Leaf class → ranged class ≡ true → a + b ≤ length source)
+    → ((sort ≡ Opens → ⊥) → within ≡ []) → length (dataBy sort source a b within) ≡ dataLength sort b + length within
+data-by Opens source a b within h m = omega arith
+data-by Closes source a b within h m = omega (arith, ap length (m closes-apart))
+data-by (Leaf class) source a b within h m =
+    omega (arith, length-argument class source a b (h class refl), ap length (m (leaf-apart class)))
+
+tags-by : (sort : Sort) (k : ℕ) (within : List ℕ) → ((sort ≡ Opens → ⊥) → within ≡ [])
+    → length (tagsBy sort k within) ≡ tagLength sort + length within
+tags-by Opens k within m = simp length-append (omega arith)
+tags-by Closes k within m = omega (arith, ap length (m closes-apart))
+tags-by (Leaf class) k within m = omega (arith, ap length (m (leaf-apart class)))
+
+module _ (source : List ℕ) (container k a b : ℕ) (inside rest : Forest) (n : container ≡ 35 → ⊥)
+    (p : Parts source container k a b inside rest) where
+  -- only an array among the arguments contains anything
+  only-arrays : (sortOf k ≡ Opens → ⊥) → inside ≡ nil
+  only-arrays m =
+      leaf-empty source k inside (no-bundle container k n (p .may)) (no-message container k n (p .may)) (λ e. m (opens k e)) (p .in-obeys)
+
+  pub tags-one : length (tagsOf (node k a b inside rest)) ≡ tagLength (sortOf k) + length (tagsOf inside) + length (tagsOf rest)
+  tags-one =
+      let e = tags-by (sortOf k) k (tagsOf inside) (λ m. ap tagsOf (only-arrays m) ∙ tags-none) in
+      omega (arith, simp length-append at (ap length (tags-is k a b inside rest)))
+
+  pub data-one : length (dataOf source (node k a b inside rest)) ≡ dataLength (sortOf k) b + length (dataOf source inside) + length
+      (dataOf source rest)
+  data-one =
+      let e = data-by (sortOf k) source a b (dataOf source inside) (λ class. leaf-range source k a b class (p .range))
+      (λ m. ap (dataOf source) (only-arrays m) ∙ data-none source) in
+      omega (arith, simp length-append at (ap length (data-is k a b inside rest source (sortOf k) refl)))
+
+-- ---- the records of a message
+
+-- a number of forests that is the sum of a number of each record
+module _ (source t : List ℕ) (g : ℕ → ℕ) (f : Forest → ℕ) (none : f nil ≡ 0)
+    (one : (container lo : ℕ) (inside rest : Forest) → (container ≡ 35 → ⊥)
+    → Parts source container (kindAt t lo) (aAt t lo) (bAt t lo) inside rest
+    → f (node (kindAt t lo) (aAt t lo) (bAt t lo) inside rest) ≡ g lo + f inside + f rest) where
+  sum-args : (container lo hi : ℕ) (F : Forest) → (container ≡ 35 → ⊥) → Spans t lo hi F → Obeys source container F
+      → sumTo g hi ≡ sumTo g lo + f F
+  unfolding Spans
+  sum-args container lo hi nil n s o = rw s (omega (arith, none))
+  sum-args container lo hi (node k a b inside rest) n s o =
+      let p = parts source container k a b inside rest o in
+      let i = sum-args k (lo + 1) (endAt t lo) inside (no-bundle container k n (p .may)) (s .3) (p .in-obeys) in
+      let r = sum-args container (endAt t lo) hi rest n (s .4) (p .rest-obeys) in
+      let e : f (node k a b inside rest) ≡ g lo + f inside + f rest
+      = rw (s .0, s .1, s .2) at (one container lo inside rest n (rw (s .0, s .1, s .2) p)) in
+      omega (arith, sum-more g lo)
+
+module _ (source t : List ℕ) (lo hi : ℕ) (F : Forest) (s : Spans t lo hi F) (o : Obeys source 47 F) where
+  no-bundle-here : _≡_ {A = ℕ} 47 35 → ⊥
+  no-bundle-here e = omega (arith, e)
+
+  tags-sum : tagsTo t hi ≡ tagsTo t lo + length (tagsOf F)
+  tags-sum =
+      sum-args source t (λ i. tagLength (sortOf (kindAt t i))) (λ G. length (tagsOf G)) (ap length tags-none)
+      (λ c i inside rest n p. tags-one source c _ _ _ inside rest n p) 47 lo hi F no-bundle-here s o
+
+  data-sum : dataTo t hi ≡ dataTo t lo + length (dataOf source F)
+  data-sum =
+      sum-args source t (λ i. dataLength (sortOf (kindAt t i)) (bAt t i)) (λ G. length (dataOf source G)) (ap length (data-none source))
+      (λ c i inside rest n p. data-one source c _ _ _ inside rest n p) 47 lo hi F no-bundle-here s o
+
+  -- an argument adds nothing of its own to a packet
+  argument-adds : (i : ℕ) → (kindAt t i ≡ 35 → ⊥) → (kindAt t i ≡ 47 → ⊥) → elementLength t i ≡ 0
+  unfolding elementLength
+  argument-adds i n₁ n₂ = rw (ne-eqb (kindAt t i) 47 n₂, ne-eqb (kindAt t i) 35 n₁)
+
+  arguments-sum : sumTo (elementLength t) hi ≡ sumTo (elementLength t) lo + 0
+  arguments-sum =
+      sum-args source t (elementLength t) (λ G. 0) refl
+      (λ c i inside rest n p. omega (arith, argument-adds i (no-bundle c (kindAt t i) n (p .may)) (no-message c (kindAt t i) n (p .may))))
+      47 lo hi F no-bundle-here s o
+
+-- a message's length by its records is that of its bytes
+message-sum : (source t : List ℕ) (at : ℕ) (F : Forest) → Spans t (at + 1) (endAt t at) F → Obeys source 47 F
+    → aAt t at + bAt t at ≤ length source
+    → messageLength t at ≡ length (messageOf source (aAt t at) (bAt t at) F)
+unfolding messageLength
+message-sum source t at F s o h =
+    let x : tagsTo t (endAt t at) - tagsTo t (at + 1) ≡ length (tagsOf F) = omega (arith, tags-sum source t (at + 1) (endAt t at) F s o) in
+    let y : dataTo t (endAt t at) - dataTo t (at + 1) ≡ length (dataOf source F) = omega
+    (arith, data-sum source t (at + 1) (endAt t at) F s o) in
+    let z : length (oscString (part source (aAt t at) (bAt t at))) ≡ stringLength (bAt t at) = length-string _
+    ∙ rw (length-part source (aAt t at) (bAt t at) h) in
+    rw (length-message, x, y, z)
+
+-- ---- the elements of a bundle
+
+message-adds : (source t : List ℕ) (at : ℕ) (F : Forest) → kindAt t at ≡ 47 → Spans t (at + 1) (endAt t at) F → Obeys source (kindAt t at) F
+    → rangeOk source (kindAt t at) (aAt t at) (bAt t at) ≡ true
+    → elementLength t at ≡ 4 + length (packetOf source (kindAt t at) (aAt t at) (bAt t at) F)
+unfolding elementLength
+message-adds source t at F y s o r =
+    let m = message-sum source t at F s (rw y at o) (address-range source (kindAt t at) (aAt t at) (bAt t at) r y) in
+    rw (message-is source (kindAt t at) (aAt t at) (bAt t at) F y, y, m)
+
+bundle-adds : (source t : List ℕ) (at : ℕ) (F : Forest) → kindAt t at ≡ 35
+    → elementLength t at + length (elementsOf source F) ≡ 4 + length (packetOf source (kindAt t at) (aAt t at) (bAt t at) F)
+unfolding elementLength
+bundle-adds source t at F y =
+    let n : kindAt t at ≡ 47 → ⊥ = λ q. omega (arith, y, q) in
+    rw (bundle-is source (kindAt t at) (aAt t at) (bAt t at) F n, y) (simp (length-append, length-bundle) (omega arith))
+
+elements-sum : (source t : List ℕ) (lo hi : ℕ) (F : Forest) → Spans t lo hi F → Obeys source 35 F
+    → sumTo (elementLength t) hi ≡ sumTo (elementLength t) lo + length (elementsOf source F)
+unfolding Spans
+elements-sum source t lo hi nil s o = rw s (omega (arith, ap length (elements-none source)))
+elements-sum source t lo hi (node k a b inside rest) s o =
+    let p : Parts source 35 (kindAt t lo) (aAt t lo) (bAt t lo) inside rest = rw (s .0, s .1, s .2) (parts source 35 k a b inside rest o) in
+    let r = elements-sum source t (endAt t lo) hi rest (s .4) (p .rest-obeys) in
+    let deeper = elements-sum source t (lo + 1) (endAt t lo) inside (s .3) in
+    let l : length (elementsOf source (node k a b inside rest)) ≡ 4 + length (packetOf source (kindAt t lo) (aAt t lo) (bAt t lo) inside) + length (elementsOf source rest)
+    = ap length (elements-is k a b inside rest source) ∙ rw (s .0, s .1, s .2) (simp (length-append, length-bytes)) in
+    ⊎-elim
+    (λ y.
+    let c = message-adds source t lo inside y (s .3) (p .in-obeys) (p .range) in
+    let i = arguments-sum source t (lo + 1) (endAt t lo) inside (s .3) (rw y at (p .in-obeys)) in
+    omega (arith, sum-more (elementLength t) lo))
+    (λ n.
+    let y : kindAt t lo ≡ 35 = other-bundle (kindAt t lo) n (p .may) in
+    let c = bundle-adds source t lo inside y in
+    let i = deeper (rw y at (p .in-obeys)) in
+    omega (arith, sum-more (elementLength t) lo))
+    (is-or (kindAt t lo) 47)
+
+pub sum-none : (g : ℕ → ℕ) → sumTo g 0 ≡ 0
+unfolding sumTo
+sum-none g = refl
+
+-- the sum over all records is the length of the packet as an element
+pub packet-sum : (source t : List ℕ) (count k a b : ℕ) (inside : Forest) → Spans t 0 count (node k a b inside nil)
+    → Obeys source 35 (node k a b inside nil)
+    → sumTo (elementLength t) count ≡ 4 + length (packetOf source k a b inside)
+packet-sum source t count k a b inside s o =
+    let l : length (elementsOf source (node k a b inside nil)) ≡ 4 + length (packetOf source k a b inside) + 0
+    = ap length (elements-is k a b inside nil source) ∙ simp (length-append, length-bytes, elements-none) in
+    omega (arith, elements-sum source t 0 count (node k a b inside nil) s o, sum-none (elementLength t))
+
+-- ---- what the measuring functions answer
+
+-- one argument further
+pub argument-passed : (t : List ℕ) (i : ℕ) {r : Record} {sort : Sort} {x y : ℕ} → r ≡ recordAt t i → sort ≡ sortOf (r .kind)
+    → x ≡ tagLength sort → y ≡ dataLength sort (r .b)
+    → (tagsTo t (i + 1) ≡ tagsTo t i + x) × (dataTo t (i + 1) ≡ dataTo t i + y)
+argument-passed t i {r} {sort} {x} {y} e s p q =
+    let u : x ≡ tagLength (sortOf (kindAt t i)) = p ∙ ap tagLength s ∙ ap (λ (z : Record). tagLength (sortOf (z .kind))) e in
+    let v : y ≡ dataLength (sortOf (kindAt t i)) (bAt t i) = q ∙ ap (λ (z : Sort). dataLength z (r .b)) s
+    ∙ ap (λ (z : Record). dataLength (sortOf (z .kind)) (z .b)) e in
+    (rw u (sum-more (λ j. tagLength (sortOf (kindAt t j))) i), rw v (sum-more (λ j. dataLength (sortOf (kindAt t j)) (bAt t j)) i))
+
+-- a message's numbers, once its records are passed
+pub message-measured : (t : List ℕ) (at i tags content : ℕ) {r : Record} → r ≡ recordAt t at → at + 1 ≤ i → i ≡ r .end
+    → tagsTo t i + 1 ≡ tagsTo t (at + 1) + tags
+    → dataTo t i ≡ dataTo t (at + 1) + content → stringLength (r .b) + stringLength tags + content ≡ messageLength t at
+unfolding messageLength
+message-measured t at i tags content {r} e h ei x y =
+    let q : i ≡ endAt t at = ei ∙ ap (λ (z : Record). z .end) e in
+    let m = sum-up (λ j. tagLength (sortOf (kindAt t j))) (at + 1) i h in
+    let u : 1 + (tagsTo t (endAt t at) - tagsTo t (at + 1)) ≡ tags = omega (arith, ap (tagsTo t) q) in
+    let v : dataTo t (endAt t at) - dataTo t (at + 1) ≡ content = omega (arith, ap (dataTo t) q) in
+    rw (u, v, e)
+
+module _ (t : List ℕ) (at : ℕ) {r : Record} (e : r ≡ recordAt t at) where
+  pub element-message : r .kind ≡ 47 → elementLength t at ≡ 4 + messageLength t at
+  unfolding elementLength
+  element-message y = let k : kindAt t at ≡ 47 = rw e at y in rw k
+
+  pub element-bundle : (r .kind ≡ 47 → ⊥) → r .kind ≡ 35 → elementLength t at ≡ 20
+  unfolding elementLength
+  element-bundle n y = let k : kindAt t at ≡ 35 = rw e at y in rw k
+
+  pub element-other : (r .kind ≡ 47 → ⊥) → (r .kind ≡ 35 → ⊥) → elementLength t at ≡ 0
+  unfolding elementLength
+  element-other n m = rw (ne-eqb (kindAt t at) 47 (rw e at n), ne-eqb (kindAt t at) 35 (rw e at m))

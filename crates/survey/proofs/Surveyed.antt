@@ -1,0 +1,352 @@
+-- What the survey of a table has found, record by record.
+use mathlib.Core.Path.{_≡_, refl, sym, ap, _∙_}
+use mathlib.Core.Bool.{true, false, cond, false≢true}
+use mathlib.Core.Logic.{⊎-elim}
+use mathlib.Core.List.{List}
+use Prim.Native.Nat.{ℕ, _+_, _-_, _*_, _≤_, _<_}
+use native.Mathlib.Omega.{arith}
+use lib.Dec.{eqb, leb, ltb}
+use lib.ListN.{length, length-append}
+use borrow.Author.Tests.{eqb-true, ltb-true, leb-true, ne-eqb}
+use Rattle.wire.proofs.Choices.{lt-or-le}
+use Rattle.wire.proofs.Numbers.{length-bytes}
+use Rattle.wire.proofs.Parts.{length-part}
+use Rattle.node.specs.Forest.{Forest, nil, node, depth}
+use Rattle.node.specs.Tags.{sortOf, classOf}
+use Rattle.node.specs.Rules.{leafRules, ownRules}
+use Rattle.node.specs.Records.{recordSize, kindAt, zerosAt, endAt, aAt, bAt}
+use Rattle.node.specs.declared.tags.Class.{Class}
+use Rattle.node.specs.declared.tags.Class.the-variants.{Text, Blob, Unknown}
+use Rattle.node.specs.declared.tags.Sort.{Sort}
+use Rattle.node.specs.declared.tags.Sort.the-variants.{Opens, Leaf}
+use Rattle.table.specs.Formed.{part, inside, textOk, rangeOk, isPacket, allowed}
+use Rattle.table.specs.Tree.{Spans, Obeys}
+use Rattle.table.proofs.Spanned.{Parts, cut, no-more}
+use Rattle.strings.specs.Atomic.{oscString, stringLength}
+use Rattle.writers.specs.Osc.{elementsOf}
+use Rattle.survey.specs.Measure.{argumentLength}
+use Rattle.survey.specs.Survey.{placed, leafRange, leafOk, Found, Stands, Argument, Arguments, Message, Element, Elements, Surveyed}
+use Rattle.strings.proofs.Lengths.{length-string}
+use Rattle.writers.proofs.Lengths.{length-message, length-bundle}
+use Rattle.writers.proofs.Classed.{then-only, opens-only, tags-none, data-none, elements-is, message-is, bundle-is}
+use Rattle.writers.proofs.Classed.{elements-none as no-elements}
+use Rattle.survey.proofs.Sums.{is-or, tags-one, data-one}
+
+-- ---- a record by itself
+
+-- a record that is placed
+pub record Placed (t : List ℕ) (at hi : ℕ) : Type 0 where
+  pub zeros : zerosAt t at ≡ 0
+  pub on : at < endAt t at
+  pub within : endAt t at ≤ hi
+
+pub placed-is : (t : List ℕ) (at hi : ℕ) → placed t at hi ≡ true → Placed t at hi
+placed-is t at hi e =
+    let z : eqb (zerosAt t at) 0 ≡ true = then-only (eqb (zerosAt t at) 0) (cond (ltb at (endAt t at)) (leb (endAt t at) hi) false) e
+    false≢true in
+    let f : cond (ltb at (endAt t at)) (leb (endAt t at) hi) false ≡ true = rw z at e in
+    let o : ltb at (endAt t at) ≡ true = then-only (ltb at (endAt t at)) (leb (endAt t at) hi) f false≢true in
+    record { zeros = eqb-true (zerosAt t at) 0 z; on = ltb-true at (endAt t at) o; within = leb-true (endAt t at) hi (rw o at f) }
+
+-- the class of an argument that obeys its rules is known
+known-class : (source : List ℕ) (a b : ℕ) (class : Class) → leafOk source class a b ≡ true → class ≡ Unknown → ⊥
+known-class source a b class o e = false≢true (rw e at o)
+
+-- so its kind is no packet's
+leaf-no-packet : (source : List ℕ) (k a b : ℕ) (class : Class) → sortOf k ≡ Leaf class → leafOk source class a b ≡ true → isPacket k ≡ false
+unfolding sortOf classOf
+leaf-no-packet source k a b class s o =
+    ⊎-elim
+    (λ q. absurd (known-class source a b class o (let e : Leaf Unknown ≡ Leaf class = rw q at s in cc)))
+    (λ n. ⊎-elim (λ q. absurd (known-class source a b class o (let e : Leaf Unknown ≡ Leaf class = rw q at s in cc)))
+    (λ m. rw (ne-eqb k 35 n, ne-eqb k 47 m)) (is-or k 47))
+    (is-or k 35)
+
+module _ (source : List ℕ) (k a b : ℕ) (class : Class) (s : sortOf k ≡ Leaf class) (o : leafOk source class a b ≡ true) where
+  ruled : leafRules class a b ≡ true
+  ruled = then-only (leafRules class a b) (leafRange source class a b) o false≢true
+
+  pub leaf-rules : ownRules k a b ≡ true
+  unfolding ownRules
+  leaf-rules = rw (leaf-no-packet source k a b class s o, s) ruled
+
+  pub leaf-may : allowed 47 k ≡ true
+  unfolding allowed
+  leaf-may = rw (leaf-no-packet source k a b class s o)
+
+  ranged : leafRange source class a b ≡ true
+  ranged = rw ruled at o
+
+  pub leaf-range-ok : rangeOk source k a b ≡ true
+  unfolding rangeOk sortOf classOf
+  leaf-range-ok =
+      ⊎-elim
+      (λ q. let e : Leaf Text ≡ Leaf class = rw q at s in let c : Text ≡ class = cc in rw q (rw (← c) at ranged))
+      (λ n. ⊎-elim
+      (λ q. let e : Leaf Blob ≡ Leaf class = rw q at s in let c : Blob ≡ class = cc in rw q (rw (← c) at ranged))
+      (λ m. ⊎-elim
+      (λ q. absurd (known-class source a b class o (let e : Leaf Unknown ≡ Leaf class = rw q at s in cc)))
+      (λ l. rw (ne-eqb k 47 l, ne-eqb k 115 n, ne-eqb k 98 m))
+      (is-or k 47))
+      (is-or k 98))
+      (is-or k 115)
+
+-- ---- rows
+
+pub found-none : (t source : List ℕ) (container at : ℕ) → Found t source container at at nil
+unfolding Spans Obeys
+found-none t source container at = record { spans = refl; obeys = tt; zeros = λ i l h. absurd (omega arith) }
+
+-- a record that may stand before a row makes it longer
+pub found-more : {t source : List ℕ} {container at hi : ℕ} {inside rest : Forest} → Placed t at hi → Stands t source container at inside
+    → Found t source container (endAt t at) hi rest → Found t source container at hi (node (kindAt t at) (aAt t at) (bAt t at) inside rest)
+unfolding Spans Obeys
+found-more {t} {source} {container} {at} {hi} {inside} {rest} p s f =
+    record {
+      spans = (refl, refl, refl, s .found .spans, f .spans);
+      obeys = (s .rules, s .range, s .may, s .found .obeys, f .obeys);
+      zeros = λ i l h. ⊎-elim
+          (λ (q : i < endAt t at). ⊎-elim (λ (m : at < i). s .found .zeros i (omega arith) q)
+          (λ (m : i ≤ at). let e : at ≡ i = omega arith in rw e at (p .zeros)) (lt-or-le at i))
+          (λ (q : endAt t at ≤ i). f .zeros i q h)
+          (lt-or-le i (endAt t at));
+    }
+
+-- arguments may stand in an array as in a message
+in-array : (source : List ℕ) (F : Forest) → Obeys source 47 F → Obeys source 91 F
+unfolding Obeys allowed
+in-array source nil o = tt
+in-array source (node k a b inside rest) o = (o .0, o .1, o .2, o .3, in-array source rest (o .4))
+
+-- ---- arguments
+
+-- what was read of a record, and its sort
+module _ (t source : List ℕ) (at : ℕ) {k e a b : ℕ} {sort : Sort} (ke : k ≡ kindAt t at) (ee : e ≡ endAt t at) (ae : a ≡ aAt t at)
+    (be : b ≡ bAt t at)
+    (se : sort ≡ sortOf k) where
+  sort-is : {x : Sort} → sort ≡ x → sortOf (kindAt t at) ≡ x
+  sort-is q = sym (se ∙ ap sortOf ke) ∙ q
+
+  -- an argument that is no array, and contains nothing
+  pub argument-leaf : {class : Class} → sort ≡ Leaf class → e ≡ at + 1 → leafOk source class a b ≡ true
+      → Argument t source at 1 (argumentLength class b)
+  argument-leaf {class} q l h =
+      let s = sort-is q in
+      let o : leafOk source class (aAt t at) (bAt t at) ≡ true = rw (ae, be) at h in
+      record {
+        inside = nil;
+        stands = record {
+          rules = leaf-rules source (kindAt t at) (aAt t at) (bAt t at) class s o;
+          range = leaf-range-ok source (kindAt t at) (aAt t at) (bAt t at) class s o;
+          may = leaf-may source (kindAt t at) (aAt t at) (bAt t at) class s o;
+          found = rw (← ee, l) (found-none t source (kindAt t at) (at + 1));
+        };
+        tagged = rw (s, tags-none) (omega arith);
+        sized = rw (s, data-none, be) (omega arith);
+      }
+
+  -- an array of arguments
+  pub argument-array : {tags content : ℕ} → sort ≡ Opens → a ≡ 0 → b ≡ 0 → Arguments t source (at + 1) e tags content
+      → Argument t source at (2 + tags) content
+  unfolding ownRules rangeOk allowed sortOf
+  argument-array q x y w =
+      let k = opens-only (kindAt t at) (sort-is q) in
+      let za : aAt t at ≡ 0 = sym ae ∙ x in
+      let zb : bAt t at ≡ 0 = sym be ∙ y in
+      let f : Found t source 47 (at + 1) (endAt t at) (w .forest) = rw ee at (w .found) in
+      record {
+        inside = w .forest;
+        stands = record {
+          rules = rw (k, za, zb);
+          range = rw k;
+          may = rw k;
+          found = record { spans = f .spans; obeys = rw k (in-array source (w .forest) (f .obeys)); zeros = f .zeros };
+        };
+        tagged = rw k (omega (arith, w .tagged));
+        sized = rw k (omega (arith, w .sized));
+      }
+
+-- an argument before arguments
+pub arguments-more : {t source : List ℕ} {at hi n m tags content : ℕ} → Placed t at hi → Argument t source at n m
+    → Arguments t source (endAt t at) hi tags content → Arguments t source at hi (n + tags) (m + content)
+arguments-more {t} {source} {at} p x w =
+    let f = found-more p (x .stands) (w .found) in
+    let q : Parts source 47 (kindAt t at) (aAt t at) (bAt t at) (x .inside) (w .forest)
+    = record {
+      rules = x .stands .rules;
+      range = x .stands .range;
+      may = x .stands .may;
+      in-obeys = x .stands .found .obeys;
+      rest-obeys = w .found .obeys;
+    } in
+    record {
+      forest = node (kindAt t at) (aAt t at) (bAt t at) (x .inside) (w .forest);
+      found = f;
+      tagged = omega (arith, tags-one source 47 _ _ _ (x .inside) (w .forest) (λ e. omega (arith, e)) q, x .tagged, w .tagged);
+      sized = omega (arith, data-one source 47 _ _ _ (x .inside) (w .forest) (λ e. omega (arith, e)) q, x .sized, w .sized);
+    }
+
+pub arguments-none : (t source : List ℕ) (at : ℕ) → Arguments t source at at 0 0
+arguments-none t source at =
+    record { forest = nil; found = found-none t source 47 at; tagged = rw tags-none; sized = rw data-none }
+
+-- the records from lo to `at` have been passed, with n tags and m bytes of data: whatever arguments follow, these stand before them
+pub record Behind (t source : List ℕ) (lo hi at n m : ℕ) : Type 0 where
+  pub before : (tags content : ℕ) → Arguments t source at hi tags content → Arguments t source lo hi (n + tags) (m + content)
+  pub passed : lo ≤ at
+  pub within : at ≤ hi
+  pub few : n ≤ 2 * (at - lo)
+  pub short : m ≤ 65539
+
+pub behind-none : (t source : List ℕ) (lo hi : ℕ) → lo ≤ hi → Behind t source lo hi lo 0 0
+behind-none t source lo hi h =
+    record {
+      before = λ tags content w. let e : 0 + tags ≡ tags = omega arith in let f : 0 + content ≡ content = omega arith in
+          rw (e, f) w;
+      passed = omega arith;
+      within = h;
+      few = omega arith;
+      short = omega arith;
+    }
+
+module _ {t source : List ℕ} {lo hi at n m : ℕ} (b : Behind t source lo hi at n m) where
+  pub behind-more : (x y : ℕ) → Placed t at hi → Argument t source at x y → x ≤ 2 * (endAt t at - at) → m + y ≤ 65539
+      → Behind t source lo hi (endAt t at) (n + x) (m + y)
+  behind-more x y p a l h =
+      record {
+        before = λ tags content w.
+            let e : n + x + tags ≡ n + (x + tags) = omega arith in
+            let f : m + y + content ≡ m + (y + content) = omega arith in
+            rw (e, f) (b .before (x + tags) (y + content) (arguments-more p a w));
+        passed = omega (arith, b .passed, p .on);
+        within = p .within;
+        few = omega (arith, b .few, b .passed, p .on);
+        short = h;
+      }
+
+  pub behind-all : hi ≤ at → Arguments t source lo hi n m
+  behind-all q =
+      let z : at ≡ hi = omega (arith, b .within) in
+      let e : n + 0 ≡ n = omega arith in
+      let f : m + 0 ≡ m = omega arith in
+      rw (e, f) at (b .before 0 0 (rw z (arguments-none t source hi)))
+
+-- ---- packets
+
+-- a message, by what was read of its record
+pub message-found : (t source : List ℕ) (at : ℕ) {a b e x y tags content : ℕ} → a ≡ aAt t at → b ≡ bAt t at → e ≡ endAt t at
+    → textOk source a b ≡ true
+    → Arguments t source (at + 1) e tags content → x ≡ stringLength b → y ≡ stringLength (1 + tags) → Message t source at (x + y + content)
+message-found t source at {a} {b} {e} ae be ee r w xe ye =
+    let i : inside source a b ≡ true = then-only (inside source a b) _ r false≢true in
+    let l : length (oscString (part source a b)) ≡ stringLength b = length-string _ ∙ rw (length-part source a b (leb-true _ _ i)) in
+    record {
+      forest = w .forest;
+      found = rw (← ee) (w .found);
+      range = rw (← ae, ← be) r;
+      sized = rw (← ae, ← be) (length-message source a b (w .forest) ∙ rw (l, w .tagged, w .sized, xe, ye));
+    }
+
+module _ {t source : List ℕ} {at levels : ℕ} where
+  pub element-message : {n : ℕ} → kindAt t at ≡ 47 → Message t source at n → Element t source at levels (4 + n)
+  unfolding ownRules rangeOk allowed
+  element-message k w =
+      record {
+        inside = w .forest;
+        stands = record { rules = rw k; range = rw k (w .range); may = rw k; found = rw k (w .found) };
+        shallow = rw k (omega arith);
+        sized = omega (arith, ap length (message-is source (kindAt t at) (aAt t at) (bAt t at) (w .forest) k), w .sized);
+      }
+
+  pub element-bundle : {n : ℕ} → kindAt t at ≡ 35 → (levels ≡ 0 → ⊥) → Elements t source (at + 1) (endAt t at) (levels - 1) n
+      → Element t source at levels (20 + n)
+  unfolding ownRules rangeOk allowed
+  element-bundle k z w =
+      let no-message : kindAt t at ≡ 47 → ⊥ = λ e. omega (arith, e, k) in
+      let l = ap length (bundle-is source (kindAt t at) (aAt t at) (bAt t at) (w .forest) no-message) in
+      record {
+        inside = w .forest;
+        stands = record { rules = rw k; range = rw k; may = rw k; found = rw k (w .found) };
+        shallow = rw k (omega (arith, w .shallow));
+        sized = omega (arith, simp (length-append, length-bundle) at l, w .sized);
+      }
+
+pub elements-more : {t source : List ℕ} {at hi levels n m : ℕ} → Placed t at hi → Element t source at levels n
+    → Elements t source (endAt t at) hi levels m → Elements t source at hi levels (n + m)
+unfolding depth
+elements-more {t} {source} {at} p x w =
+    record {
+      forest = node (kindAt t at) (aAt t at) (bAt t at) (x .inside) (w .forest);
+      found = found-more p (x .stands) (w .found);
+      shallow = omega (arith, x .shallow, w .shallow);
+      sized = omega (
+        arith,
+        simp (length-append, length-bytes) at
+            (ap length (elements-is (kindAt t at) (aAt t at) (bAt t at) (x .inside) (w .forest) source)),
+        x .sized,
+        w .sized,
+      );
+    }
+
+pub elements-none : (t source : List ℕ) (at levels : ℕ) → Elements t source at at levels 0
+unfolding depth
+elements-none t source at levels =
+    record { forest = nil; found = found-none t source 35 at; shallow = omega arith; sized = ap length (no-elements source) }
+
+-- the records from lo to `at` have been passed, and are n bytes: whatever elements follow, these stand before them
+pub record Ahead (t source : List ℕ) (levels lo hi at n : ℕ) : Type 0 where
+  pub before : (m : ℕ) → Elements t source at hi levels m → Elements t source lo hi levels (n + m)
+  pub passed : lo ≤ at
+  pub within : at ≤ hi
+  pub short : n ≤ 65539
+
+pub ahead-none : (t source : List ℕ) (levels lo hi : ℕ) → lo ≤ hi → Ahead t source levels lo hi lo 0
+ahead-none t source levels lo hi h =
+    record { before = λ m w. let e : 0 + m ≡ m = omega arith in rw e w; passed = omega arith; within = h; short = omega arith }
+
+module _ {t source : List ℕ} {levels lo hi at n : ℕ} (b : Ahead t source levels lo hi at n) where
+  pub ahead-more : (x : ℕ) → Placed t at hi → Element t source at levels x → n + x ≤ 65539
+      → Ahead t source levels lo hi (endAt t at) (n + x)
+  ahead-more x p a h =
+      record {
+        before = λ m w. let e : n + x + m ≡ n + (x + m) = omega arith in rw e (b .before (x + m) (elements-more p a w));
+        passed = omega (arith, b .passed, p .on);
+        within = p .within;
+        short = h;
+      }
+
+  pub ahead-all : hi ≤ at → Elements t source lo hi levels n
+  ahead-all q =
+      let z : at ≡ hi = omega (arith, b .within) in
+      let e : n + 0 ≡ n = omega arith in
+      rw e at (b .before 0 (rw z (elements-none t source hi levels)))
+
+-- ---- a table
+
+pub tree-surveyed : {t source : List ℕ} {count n : ℕ} → 1 ≤ count → count ≤ 65535 → recordSize * count ≤ length t → endAt t 0 ≡ count
+    → Elements t source 0 count 64 n → Surveyed t count source n
+unfolding Spans Obeys
+tree-surveyed {t} {source} {count} {n} some few fits e w =
+    let u = cut t 0 count (w .forest) (omega arith) (w .found .spans) in
+    let r : u .rest ≡ nil = no-more t (endAt t 0) count (u .rest) (omega (arith, e)) (u .rest-spans) in
+    let is : w .forest ≡ node (kindAt t 0) (aAt t 0) (bAt t 0) (u .inside) nil = u .is ∙ rw r in
+    record {
+      inside = u .inside;
+      tree = record {
+        spans = rw is at (w .found .spans);
+        obeys = rw is at (w .found .obeys);
+        few = few;
+        fits = fits;
+        zeros = λ i h.
+            w .found .zeros i (omega arith) h;
+      };
+      shallow = rw is at (w .shallow);
+      sized = omega (
+        arith,
+        simp (length-append, length-bytes) at
+            (ap length (ap (elementsOf source) is ∙ elements-is (kindAt t 0) (aAt t 0) (bAt t 0) (u .inside) nil source)),
+        ap length
+            (no-elements source),
+        w .sized,
+      );
+    }

@@ -1,0 +1,43 @@
+-- `encoder::survey::survey` meets its contract: the first record is the whole table's.
+use mathlib.Core.Path.{sym, _∙_}
+use native.Mathlib.Omega.{arith}
+use Rattle.survey.proofs.Surveyed.{tree-surveyed}
+use borrow.Author.Needs.{needs}
+use Rattle.survey.proofs.survey.Statement.{statement}
+use Rattle.survey.proofs.survey.Tie as tie
+
+returns : tie.Need-returns
+returns c = λ h. absurd (omega (arith, h))
+
+returns-2 : tie.Need-returns-2
+returns-2 c = λ h. absurd (omega (arith, h))
+
+returns-3 : tie.Need-returns-3
+returns-3 c = λ h. absurd (omega (arith, h))
+
+returns-4 : tie.Need-returns-4
+returns-4 c = λ h. absurd (omega (arith, h))
+
+returns-5 : tie.Need-returns-5
+returns-5 c =
+    let p2 = c .before .before in
+    let p3 = p2 .before in
+    λ h.
+    let room = p3 in
+    tree-surveyed (omega (arith, room .before .before .before .if1 .left)) (omega (arith, room .before .before .if2 .left))
+    (omega (arith, room .if3 .left, room .before .capacity .ensures)) (sym (p2 .end-at .ensures) ∙ c .before .if4 .left)
+    (c .survey-packets .ensures .0 h)
+
+pub survey-spec : {M : Type 1} → statement M
+survey-spec =
+    tie.close
+    (tie.spec
+    returns
+    returns-2
+    (λ c κs. search needs)
+    returns-3
+    (λ c κs. search needs)
+    (λ c. search needs)
+    returns-4
+    (λ c κs. search needs)
+    returns-5)

@@ -1,5 +1,0 @@
-pub mod Tags
-pub mod Forest
-pub mod Records
-pub mod Value
-pub mod Look

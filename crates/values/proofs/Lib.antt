@@ -1,0 +1,4 @@
+pub mod Floats
+pub mod Looks
+pub mod Named
+pub mod Only

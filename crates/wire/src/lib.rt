@@ -1,0 +1,81 @@
+// Big-endian numbers (nom's `be_u32` and `be_u64`), and the next multiple of 4 (encoder.rs, `pad`).
+use refusal::Refusal;
+ghost use mathlib.Core.Path.{_≡_};
+ghost use Prim.Native.Nat.{_+_, _≤_, _<_};
+ghost use lib.ListN.{length, drop, getD};
+ghost use Rattle.wire.specs.Number.{number, bytes};
+ghost use Rattle.wire.specs.Pad.{padOf};
+ghost use Rattle.wire.specs.Wrote.{Wrote};
+
+// One byte, widened.
+fn byte_at(s: &[u8], at: usize) -> u32
+    requires { ⌜ at < length (now s) ⌝ }
+    ensures { λ r. ⌜ (r < 256) × (r ≡ getD (now (s .entry)) at 0) ⌝ }
+{
+    s[at] as u32
+}
+
+// The number of the 4 bytes from `at` on.
+pub fn be_u32(s: &[u8], at: usize) -> u32
+    requires { ⌜ at + 4 ≤ length (now s) ⌝ }
+    ensures { λ r. ⌜ r ≡ number 4 (drop at (now (s .entry))) ⌝ }
+{
+    ((byte_at(s, at) * 256 + byte_at(s, at + 1)) * 256 + byte_at(s, at + 2)) * 256
+        + byte_at(s, at + 3)
+}
+
+// The number of the 8 bytes from `at` on.
+pub fn be_u64(s: &[u8], at: usize) -> u64
+    requires { ⌜ at + 8 ≤ length (now s) ⌝ }
+    ensures { λ r. ⌜ r ≡ number 8 (drop at (now (s .entry))) ⌝ }
+{
+    be_u32(s, at) as u64 * 0x1_0000_0000 + be_u32(s, at + 4) as u64
+}
+
+// The n lowest bytes of x over the first n of out.
+fn put(out: &mut [u8], n: usize, x: u64)
+    requires { ⌜ n ≤ length (now out) ⌝ }
+    ensures { λ _. ⌜ Wrote (bytes n x) (now (out .entry)) (now (out .exit)) ⌝ }
+{
+    let mut left = x;
+    let mut i = n;
+    while 0 < i {
+        i -= 1;
+        out[i] = (left % 256) as u8;
+        left = left / 256;
+    }
+}
+
+// The 4 bytes of x over the first 4 of out.
+pub fn put_u32(out: &mut [u8], x: u32)
+    requires { ⌜ 4 ≤ length (now out) ⌝ }
+    ensures { λ _. ⌜ Wrote (bytes 4 x) (now (out .entry)) (now (out .exit)) ⌝ }
+{
+    put(out, 4, x as u64);
+}
+
+// The 8 bytes of x over the first 8 of out.
+pub fn put_u64(out: &mut [u8], x: u64)
+    requires { ⌜ 8 ≤ length (now out) ⌝ }
+    ensures { λ _. ⌜ Wrote (bytes 8 x) (now (out .entry)) (now (out .exit)) ⌝ }
+{
+    put(out, 8, x);
+}
+
+// A padded position, or the refusal.
+pub enum Padded {
+    At(u64),
+    Refused(Refusal),
+}
+
+// The next multiple of 4: the position itself where it is one.
+//
+// Ruled out: 4 for the position 0; a wrapped 0 for a position over 2^64 - 4.
+pub fn pad(pos: u64) -> Padded
+    ensures { λ r. ⌜ r ≡ padOf pos ⌝ }
+{
+    if 0xffff_ffff_ffff_fffc < pos {
+        return Padded::Refused(Refusal::PadOverflow);
+    }
+    Padded::At((pos + 3) / 4 * 4)
+}

@@ -1,0 +1,166 @@
+-- What a record's kind says of its range, its tags and its data.
+use mathlib.Core.Path.{_≡_, refl, sym, ap, _∙_}
+use mathlib.Core.Bool.{Bool, true, false, cond, false≢true}
+use mathlib.Core.List.{List, [], _∷_, _++_, append-assoc, append-nil}
+use mathlib.Core.Logic.{_⊎_, inl, inr, ⊎-elim}
+use Prim.Native.Nat.{ℕ, _+_, _≤_}
+use lib.Dec.{eqb}
+use native.Mathlib.Omega.{arith}
+use lib.ListN.{length, length-append}
+use borrow.Author.Tests.{eqb-true, ne-eqb, leb-true}
+use Rattle.utf8.specs.Derive.{utf8}
+use Rattle.node.specs.Forest.{Forest, nil, node}
+use Rattle.node.specs.Tags.{sortOf, classOf, among}
+use Rattle.node.specs.declared.tags.Class.{Class}
+use Rattle.node.specs.declared.tags.Class.the-variants.{Four, Eight, Bare, Text, Blob, Scalar, Unknown}
+use Rattle.node.specs.declared.tags.Sort.{Sort}
+use Rattle.node.specs.declared.tags.Sort.the-variants.{Opens, Closes, Leaf}
+use Rattle.table.specs.Formed.{part, inside, rangeOk}
+use Rattle.writers.specs.Osc.{dataBy, dataOf, tagsBy, tagsOf, messageOf, bundleOf, elementOf, elementsOf, packetOf}
+use Rattle.strings.specs.Atomic.{ranged}
+
+-- ---- which branch of a test gave an answer
+
+else-only : {A : Type 0} (x : Bool) {p q r : A} → cond x p q ≡ r → (p ≡ r → ⊥) → q ≡ r
+else-only true e n = absurd (n e)
+else-only false e n = e
+
+pub then-only : {A : Type 0} (x : Bool) (p : A) {q r : A} → cond x p q ≡ r → (q ≡ r → ⊥) → x ≡ true
+then-only true p e n = refl
+then-only false p e n = absurd (n e)
+
+-- two sorts, or two classes, that a test tells apart
+apart : {A : Type 0} (f : A → Bool) (x y : A) → f x ≡ false → f y ≡ true → x ≡ y → ⊥
+apart f x y p q e = false≢true (sym p ∙ ap f e ∙ q)
+
+-- ---- the kind of an array, and of a range
+
+abbrev opening : Sort → Bool
+opening Opens = true
+opening Closes = false
+opening (Leaf class) = false
+
+abbrev leafy : Sort → Bool
+leafy Opens = false
+leafy Closes = false
+leafy (Leaf class) = true
+
+pub opens : (k : ℕ) → k ≡ 91 → sortOf k ≡ Opens
+unfolding sortOf
+opens k e = rw e
+
+pub opens-only : (k : ℕ) → sortOf k ≡ Opens → k ≡ 91
+unfolding sortOf
+opens-only k e =
+    eqb-true k 91 (then-only (eqb k 91) Opens e
+    (λ f. apart opening (Leaf (classOf k)) Opens refl refl (else-only (eqb k 93) f (apart opening Closes Opens refl refl))))
+
+class-of : (k : ℕ) (class : Class) → sortOf k ≡ Leaf class → classOf k ≡ class
+unfolding sortOf
+class-of k class e =
+    let f : Leaf (classOf k) ≡ Leaf class
+    = else-only (eqb k 93) (else-only (eqb k 91) e (apart leafy Opens (Leaf class) refl refl))
+    (apart leafy Closes (Leaf class) refl refl) in
+    cc
+
+skip : (x : Bool) (p q : Class) → ranged p ≡ false → ranged (cond x p q) ≡ true → ranged q ≡ true
+skip true p q n e = absurd (false≢true (sym n ∙ e))
+skip false p q n e = e
+
+-- only s and b have a range
+ranged-kind : (k : ℕ) → ranged (classOf k) ≡ true → (k ≡ 115) ⊎ (k ≡ 98)
+unfolding classOf
+ranged-kind k e =
+    let late = cond (eqb k 115) Text (cond (eqb k 98) Blob (cond (eqb k 99) Scalar Unknown)) in
+    let bare = among k (70 ∷ 73 ∷ 78 ∷ 84 ∷ []) in
+    let eight = among k (100 ∷ 104 ∷ 116 ∷ []) in
+    let four = among k (102 ∷ 105 ∷ 109 ∷ 114 ∷ []) in
+    text (eqb k 115) refl
+    (skip bare Bare late refl
+    (skip eight Eight (cond bare Bare late) refl (skip four Four (cond eight Eight (cond bare Bare late)) refl e)))
+  where
+    blob : (x : Bool) → ranged (cond x Blob (cond (eqb k 99) Scalar Unknown)) ≡ true → x ≡ true
+    blob true e = refl
+    blob false e = absurd (false≢true (skip (eqb k 99) Scalar Unknown refl e))
+
+    text : (x : Bool) → eqb k 115 ≡ x → ranged (cond x Text (cond (eqb k 98) Blob (cond (eqb k 99) Scalar Unknown))) ≡ true
+        → (k ≡ 115) ⊎ (k ≡ 98)
+    text true q e = inl (eqb-true k 115 q)
+    text false q e = inr (eqb-true k 98 (blob (eqb k 98) e))
+
+-- the range of a text or a blob lies in the source
+pub leaf-range : (source : List ℕ) (k a b : ℕ) (class : Class) → rangeOk source k a b ≡ true → sortOf k ≡ Leaf class → ranged class ≡ true
+    → a + b ≤ length source
+unfolding rangeOk
+leaf-range source k a b class r s e =
+    ⊎-elim
+    (λ q. leb-true _ _ (then-only (inside source a b) (utf8 (part source a b)) (rw q at r) false≢true))
+    (λ q. leb-true _ _ (rw q at r))
+    (ranged-kind k (rw (class-of k class s) e))
+
+-- and so does an address
+pub address-range : (source : List ℕ) (k a b : ℕ) → rangeOk source k a b ≡ true → k ≡ 47 → a + b ≤ length source
+unfolding rangeOk
+address-range source k a b r q = leb-true _ _ (then-only (inside source a b) (utf8 (part source a b)) (rw q at r) false≢true)
+
+-- ---- the first node's tags and data
+
+tags-by-leaf : (sort : Sort) (k : ℕ) (within : List ℕ) → (sort ≡ Opens → ⊥) → tagsBy sort k within ≡ k ∷ []
+tags-by-leaf Opens k within n = absurd (n refl)
+tags-by-leaf Closes k within n = refl
+tags-by-leaf (Leaf class) k within n = refl
+
+tags-by-some : (sort : Sort) (k : ℕ) (within : List ℕ) → 1 ≤ length (tagsBy sort k within)
+tags-by-some Opens k within = omega arith
+tags-by-some Closes k within = omega arith
+tags-by-some (Leaf class) k within = omega arith
+
+pub tags-none : tagsOf nil ≡ []
+unfolding tagsOf
+tags-none = refl
+
+pub data-none : (source : List ℕ) → dataOf source nil ≡ []
+unfolding dataOf
+data-none source = refl
+
+pub elements-none : (source : List ℕ) → elementsOf source nil ≡ []
+unfolding elementsOf
+elements-none source = refl
+
+module _ (k a b : ℕ) (inside rest : Forest) where
+  pub tags-some : 1 ≤ length (tagsOf (node k a b inside rest))
+  unfolding tagsOf
+  tags-some = simp length-append (omega (arith, tags-by-some (sortOf k) k (tagsOf inside)))
+
+  pub tags-array : k ≡ 91 → tagsOf (node k a b inside rest) ≡ (k ∷ (tagsOf inside ++ (93 ∷ []))) ++ tagsOf rest
+  unfolding tagsOf
+  tags-array e = rw (opens k e)
+
+  pub tags-leaf : (k ≡ 91 → ⊥) → tagsOf (node k a b inside rest) ≡ (k ∷ []) ++ tagsOf rest
+  unfolding tagsOf
+  tags-leaf n = rw (tags-by-leaf (sortOf k) k (tagsOf inside) (λ e. n (opens-only k e)))
+
+  pub tags-is : tagsOf (node k a b inside rest) ≡ tagsBy (sortOf k) k (tagsOf inside) ++ tagsOf rest
+  unfolding tagsOf
+  tags-is = refl
+
+  pub data-is : (source : List ℕ) (sort : Sort) → sort ≡ sortOf k
+      → dataOf source (node k a b inside rest) ≡ dataBy sort source a b (dataOf source inside) ++ dataOf source rest
+  unfolding dataOf
+  data-is source sort e = rw e
+
+  pub elements-is : (source : List ℕ)
+      → elementsOf source (node k a b inside rest) ≡ elementOf (packetOf source k a b inside) ++ elementsOf source rest
+  unfolding elementsOf packetOf
+  elements-is source = refl
+
+-- ---- a packet by its kind
+
+module _ (source : List ℕ) (k a b : ℕ) (inside : Forest) where
+  pub message-is : k ≡ 47 → packetOf source k a b inside ≡ messageOf source a b inside
+  unfolding packetOf
+  message-is e = rw e
+
+  pub bundle-is : (k ≡ 47 → ⊥) → packetOf source k a b inside ≡ bundleOf a b [] ++ elementsOf source inside
+  unfolding packetOf bundleOf
+  bundle-is n = rw (ne-eqb k 47 n) (simp (append-assoc, append-nil))

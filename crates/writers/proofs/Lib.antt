@@ -1,0 +1,5 @@
+pub mod Classed
+pub mod Lengths
+pub mod Rows
+pub mod Arguments
+pub mod Packets
