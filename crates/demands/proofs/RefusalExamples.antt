@@ -12,6 +12,7 @@ use Rattle.packet.specs.Packet.{packetOf, packetAt, packet}
 use Rattle.decoder.specs.Framing.{udp, frameOf, tcp}
 use Rattle.decoder.specs.Limits.{decoded}
 use Rattle.decoder.specs.declared.Decoded.the-variants as decodes
+use Rattle.strings.specs.Atomic.{oscString}
 use Rattle.writers.specs.Osc as osc
 use Rattle.encoder.specs.Outcome.{write, encoded, malformed, formed}
 use Rattle.encoder.specs.declared.Encoded.the-variants as encodes
@@ -38,12 +39,12 @@ eleven : List ℕ
 eleven = 1 ∷ 2 ∷ 3 ∷ 4 ∷ 5 ∷ 6 ∷ 7 ∷ 8 ∷ 9 ∷ 10 ∷ 11 ∷ []
 
 short : Meets (encode (p3.table 2 2) 2 p3.packet eleven) (record { answer = encodes.Refused OutputShort; lent = eleven })
-unfolding eleven bytes depth classOf sortOf osc.oscString osc.dataOf osc.tagsOf osc.messageOf osc.packetOf write encoded
+unfolding eleven bytes depth classOf sortOf oscString osc.dataOf osc.tagsOf osc.messageOf osc.packetOf write encoded
 short = formed 47 0 2 p3.five p3.p3-tree refl
 
 written : Meets (encode (p3.table 2 2) 2 p3.packet (eleven ++ (12 ∷ 13 ∷ [])))
     (record { answer = encodes.Written 12; lent = p3.packet ++ (13 ∷ []) })
-unfolding eleven bytes depth classOf sortOf osc.oscString osc.dataOf osc.tagsOf osc.messageOf osc.packetOf write encoded
+unfolding eleven bytes depth classOf sortOf oscString osc.dataOf osc.tagsOf osc.messageOf osc.packetOf write encoded
 written = formed 47 0 2 p3.five p3.p3-tree refl
 
 -- 2^64 - 1 has no next multiple of 4

@@ -10,6 +10,7 @@ use node::record::read_record;
 use utf8::is_utf8;
 use strings::encode_string_into;
 use writers::encode_packet;
+ghost use mathlib.Core.Path.{_≡_};
 ghost use Rattle.writers.specs.Osc.{elementOf};
 ghost use Rattle.encoder.specs.Outcome.{Outcome, plain, prefixed, Encodes, stringOutcome};
 ghost use Rattle.encoder.specs.Prepare.{Sized, Writes, Prepares};
