@@ -23,7 +23,7 @@ use Rattle.wire.proofs.Numbers.{number-small}
 use Rattle.text.proofs.Within.{found-in}
 use Rattle.wire.proofs.Parts.{drop-small}
 use Rattle.demands.proofs.Placed.{At, at-take, at-on, at-bytes}
-use Rattle.demands.proofs.EncodableArgs.{Sound, NodeSound, sound-nil, sound-node, text-range, args-sound}
+use Rattle.demands.proofs.Encodable.Arguments.{Sound, NodeSound, sound-nil, sound-node, text-range, args-sound}
 
 -- ---- what was read is sound
 

@@ -15,7 +15,7 @@ use Rattle.wire.proofs.Choices.{lt-or-le}
 use Rattle.wire.proofs.Numbers.{number-small}
 use Rattle.table.proofs.Spanned.{spans-size}
 use Rattle.wire.proofs.Parts.{drop-small}
-use Rattle.demands.proofs.SameTree.{same-size}
+use Rattle.demands.proofs.Osc10.Trees.{same-size}
 
 -- the fields of a record of bytes fit
 pub spans-fit : (t : List ℕ) → Bytes t → (lo hi : ℕ) (F : Forest) → Spans t lo hi F → FieldsFit F

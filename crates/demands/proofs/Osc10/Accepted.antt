@@ -13,8 +13,8 @@ use Rattle.decoder.specs.declared.Decoded.the-variants as decoder
 use Rattle.demands.specs.Osc10.{Packet, deep}
 use Rattle.demands.specs.Standards.{AcceptedAs, Osc10Accepted}
 use Rattle.demands.proofs.Placed.{at-all}
-use Rattle.demands.proofs.TripPackets.{PacketRead, packet-read}
-use Rattle.demands.proofs.SameTree.{tree-deep}
+use Rattle.demands.proofs.Osc10.Packets.{PacketRead, packet-read}
+use Rattle.demands.proofs.Osc10.Trees.{tree-deep}
 
 -- a tree that is read whole is decoded where there is room
 decode-whole : (l : List ℕ) (capacity : ℕ) (F : Forest) → udp l ≡ trees F 0 → length l ≤ 65535 → depth F ≤ 64 → size F ≤ capacity

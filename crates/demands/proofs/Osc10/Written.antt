@@ -15,8 +15,8 @@ use Rattle.encoder.specs.declared.Encoded.the-variants.{Written}
 use Rattle.demands.specs.Standards.{Osc10Written}
 use Rattle.wire.proofs.Choices.{by-test}
 use Rattle.table.proofs.Theorem.{tree-formed, tree-unique}
-use Rattle.demands.proofs.OscSpelled.{packet-is}
-use Rattle.demands.proofs.Tables.{spans-fit}
+use Rattle.demands.proofs.Osc10.Spelled.{packet-is}
+use Rattle.demands.proofs.Trip.Tables.{spans-fit}
 
 -- the outcome is that of the table's tree
 pub outcome-is : {frame : ℕ → List ℕ → List ℕ} {t : List ℕ} {count : ℕ} {source out : List ℕ} {r : Outcome} {k a b : ℕ} {inside : Forest}

@@ -19,8 +19,8 @@ use Rattle.decoder.specs.declared.Decoded.{Decoded}
 use Rattle.decoder.specs.declared.Decoded.the-variants.{Packets, Refused}
 use Rattle.demands.specs.Words.{NotFull}
 use Rattle.demands.specs.Demands.{answer, Unchanged}
-use Rattle.demands.proofs.Room.{more-room}
-use Rattle.demands.proofs.Counts.{records-hold-udp}
+use Rattle.demands.proofs.Room.MoreRoom.{more-room}
+use Rattle.demands.proofs.Room.RecordsHold.{records-hold-udp}
 
 -- P12's bundle without the bytes that are left: 2362756E 646C6500 00000000 00000001
 abbrev pub empty : List ℕ

@@ -10,7 +10,7 @@ use Rattle.demands.specs.Osc10.{tagsOf, as-word, no-argument, one-atom, 
 use Rattle.demands.specs.Standards.{AcceptedAs}
 use Rattle.utf8.proofs.Grammar.{octets}
 use Rattle.table.proofs.Examples.{packet as p3-bytes}
-use Rattle.demands.proofs.OscAccepted.{osc10-accepted}
+use Rattle.demands.proofs.Osc10.Accepted.{osc10-accepted}
 
 -- /a with the integer 5
 abbrev p3 : Packet

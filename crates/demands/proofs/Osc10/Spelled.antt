@@ -33,7 +33,7 @@ use Rattle.utf8.proofs.Grammar.{octets}
 use Rattle.writers.proofs.Lengths.{packet-even}
 use Rattle.strings.proofs.Lengths.{length-string, length-blob}
 use Rattle.wire.proofs.Parts.{take-small, drop-small}
-use Rattle.demands.proofs.OscTags.{of-among, HasTag, HasSort, has-sort}
+use Rattle.demands.proofs.Osc10.Tags.{of-among, HasTag, HasSort, has-sort}
 
 no-way : {A : Type 0} → false ≡ true → A
 no-way e = absurd (false≢true e)

@@ -16,8 +16,8 @@ use Rattle.encoder.specs.declared.Encoded.{Encoded}
 use Rattle.encoder.specs.declared.Encoded.the-variants.{Written, Refused}
 use Rattle.demands.specs.Demands.{Playable}
 use Rattle.demands.specs.There.{Returns}
-use Rattle.demands.proofs.OscWritten.{outcome-is, written-all}
-use Rattle.demands.proofs.Trip.{round-trip}
+use Rattle.demands.proofs.Osc10.Written.{outcome-is, written-all}
+use Rattle.demands.proofs.Trip.RoundTrip.{round-trip}
 
 module _ (t : List ℕ) (count : ℕ) (source out : List ℕ) {e : Encoded} {out' : List ℕ}
     (enc : Encodes plain t count source out (record { answer = e; out = out' })) where

@@ -15,9 +15,9 @@ use Rattle.decoder.specs.Limits.{decoded}
 use Rattle.table.specs.Formed.{WellFormed}
 use Rattle.demands.specs.Demands.{after}
 use Rattle.table.proofs.Examples as p3
-use Rattle.demands.proofs.Encodable.{encodable-udp, encodable-tcp, encodable-vec}
-use Rattle.demands.proofs.RoomExamples.{blank}
-use Rattle.demands.proofs.TripExamples.{small-bytes}
+use Rattle.demands.proofs.Encodable.Tables.{encodable-udp, encodable-tcp, encodable-vec}
+use Rattle.demands.proofs.Room.Examples.{blank}
+use Rattle.demands.proofs.Trip.Examples.{small-bytes}
 
 -- P3 behind its length: 0000000C 2F610000 2C690000 00000005
 abbrev framed : List ℕ

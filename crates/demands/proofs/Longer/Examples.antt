@@ -17,8 +17,8 @@ use Rattle.decoder.specs.declared.Decoded.the-variants.{Packets}
 use Rattle.demands.specs.Words.{Unlimited}
 use Rattle.demands.specs.Demands.{answer, GoesOn}
 use Rattle.table.proofs.Examples as p3
-use Rattle.demands.proofs.Longer.{more-bytes-udp, more-bytes-tcp}
-use Rattle.demands.proofs.RoomExamples.{empty, element, blank, one-element}
+use Rattle.demands.proofs.Longer.MoreBytes.{more-bytes-udp, more-bytes-tcp}
+use Rattle.demands.proofs.Room.Examples.{empty, element, blank, one-element}
 
 unlimited : {r : Decoded} {count left : ℕ} → r ≡ Packets count left → Unlimited r
 unlimited e =

@@ -17,7 +17,7 @@ use Rattle.demands.specs.Osc10.{Range, FieldsAre, is-word, is-long, is-b
 use Rattle.demands.specs.Osc10.{leaf, branch, StandsFor, is-message, is-bundle, StandFor, no-packet, packet}
 use Rattle.demands.specs.Osc10 as osc
 use Rattle.wire.proofs.Parts.{length-part}
-use Rattle.demands.proofs.OscTags.{of-among, scalar-small}
+use Rattle.demands.proofs.Osc10.Tags.{of-among, scalar-small}
 
 -- ---- the same tree
 

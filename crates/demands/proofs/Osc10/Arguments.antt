@@ -14,8 +14,8 @@ use Rattle.demands.specs.Osc10.{Atom, Arguments, end, atom, array, AtomA
 use Rattle.demands.specs.Osc10.{no-argument, one-atom, one-array, ArgumentsAre, no-node, leaf, branch}
 use Rattle.arguments.proofs.Kept.{later-none, later-later}
 use Rattle.demands.proofs.Placed.{At, at-front, at-next}
-use Rattle.demands.proofs.TripParts.{atom-even, AtomRead, atom-read}
-use Rattle.demands.proofs.OscTags.{classIs, atom-sort}
+use Rattle.demands.proofs.Osc10.Parts.{atom-even, AtomRead, atom-read}
+use Rattle.demands.proofs.Osc10.Tags.{classIs, atom-sort}
 
 -- ---- one forest after another
 unfoldable join : Forest → Forest → Forest

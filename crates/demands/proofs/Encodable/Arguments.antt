@@ -32,7 +32,7 @@ use Rattle.wire.proofs.Choices.{by-test, by-le}
 use Rattle.argument.proofs.Within.{given-within, given-fits}
 use Rattle.text.proofs.Within.{found-in}
 use Rattle.demands.proofs.Placed.{At, at-take, at-on, at-bytes, range-at}
-use Rattle.demands.proofs.OscTags.{of-among, HasTag, HasSort, has-sort}
+use Rattle.demands.proofs.Osc10.Tags.{of-among, HasTag, HasSort, has-sort}
 
 -- ---- forests that obey the rules, and whose fields fit
 

@@ -23,8 +23,8 @@ use Rattle.demands.specs.Demands.{Playable, PlaysBack}
 use Rattle.demands.specs.Standards.{Spelled}
 use Rattle.table.proofs.Theorem.{bytes-tree}
 use Rattle.table.proofs.Examples as p3
-use Rattle.demands.proofs.OscWritten.{osc10-written}
-use Rattle.demands.proofs.Trip.{round-trip}
+use Rattle.demands.proofs.Osc10.Written.{osc10-written}
+use Rattle.demands.proofs.Trip.RoundTrip.{round-trip}
 
 -- ---- a list of bytes, by one test
 

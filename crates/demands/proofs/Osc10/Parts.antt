@@ -22,7 +22,7 @@ use Rattle.wire.proofs.Numbers.{length-bytes, read-written}
 use Rattle.text.proofs.Texts.{found}
 use Rattle.argument.proofs.Argued.{four-given, eight-given, scalar-given, text-given, blob-given}
 use Rattle.demands.proofs.Placed.{At, at-front, at-back, range-at}
-use Rattle.demands.proofs.OscTags.{classIs, scalar-small}
+use Rattle.demands.proofs.Osc10.Tags.{classIs, scalar-small}
 
 -- ---- texts
 

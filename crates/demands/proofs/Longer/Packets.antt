@@ -22,7 +22,7 @@ use Rattle.wire.proofs.Choices.{by-eq, by-le, by-both}
 use Rattle.packet.proofs.Knot.{packet-eq}
 use Rattle.text.proofs.Within.{found-in}
 use Rattle.packet.proofs.Bundles.{ended, first-trees, first-in}
-use Rattle.demands.proofs.LongerArguments.{KeptText, KeptArgs, number-longer, text-longer, args-longer}
+use Rattle.demands.proofs.Longer.Arguments.{KeptText, KeptArgs, number-longer, text-longer, args-longer}
 
 -- a message is the same and takes as many bytes; a bundle keeps its time tag and begins with the same elements
 pub data Grows : Out → Out → Type 0 where

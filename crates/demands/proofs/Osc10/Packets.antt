@@ -22,9 +22,9 @@ use Rattle.demands.specs.Osc10 as osc
 use Rattle.wire.proofs.Numbers.{length-bytes, read-written}
 use Rattle.packet.proofs.Knot.{packet-eq, elements-by}
 use Rattle.demands.proofs.Placed.{At, at-front, at-next, range-at}
-use Rattle.demands.proofs.TripParts.{string-length, string-take, string-read}
-use Rattle.demands.proofs.OscTags.{of-among}
-use Rattle.demands.proofs.TripArgs.{Argued, arguments-read}
+use Rattle.demands.proofs.Osc10.Parts.{string-length, string-take, string-read}
+use Rattle.demands.proofs.Osc10.Tags.{of-among}
+use Rattle.demands.proofs.Osc10.Arguments.{Argued, arguments-read}
 
 -- ---- type tags are text
 
