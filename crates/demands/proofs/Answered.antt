@@ -11,7 +11,7 @@ use Rattle.decoder.specs.Framing.{Whole, trees, waiting, refusal}
 use Rattle.decoder.specs.Limits.{limited, decoded, forestOf, tabled}
 use Rattle.decoder.specs.declared.Decoded.{Decoded}
 use Rattle.decoder.specs.declared.Decoded.the-variants.{Packets}
-use Rattle.demands.specs.Demands.{answer, after}
+use Rattle.demands.specs.Demands.{answerTo, tableAfter}
 use Rattle.node.proofs.Recorded.{length-records}
 use Rattle.decoder.proofs.Chosen.{by-decoded, by-trees}
 use Rattle.decoder.proofs.Answers.{no-packets}
@@ -30,6 +30,7 @@ module _ {count left : ℕ} where
   limited-accepted capacity limit waiting e = let z : _≡_ {A = ℕ} 0 1 = cc in absurd (omega arith)
   limited-accepted capacity limit (refusal k) e = no-packets (sym e)
 
+  -- an answer with packets is given for trees of so many nodes, with so many bytes left
   pub accepted : (rule : List ℕ → Whole) (capacity limit : ℕ) (msg : List ℕ) → decoded rule capacity limit msg ≡ Packets count left
       → Accepted (rule msg) count left
   accepted rule capacity limit msg =
@@ -37,14 +38,15 @@ module _ {count left : ℕ} where
       (λ h p. no-packets (sym p))
       (λ h k. limited-accepted capacity limit (rule msg))
 
-  module _ (rule : List ℕ → Whole) (limit : ℕ) (msg table : List ℕ) (e : answer rule limit msg table ≡ Packets count left) where
+  module _ (rule : List ℕ → Whole) (limit : ℕ) (msg table : List ℕ) (e : answerTo rule limit msg table ≡ Packets count left) where
     -- the table is the trees' records, and then as it was
-    pub after-is : after rule limit msg table ≡ recordsOf 0 (forestOf (rule msg)) ++ drop (recordSize * size (forestOf (rule msg))) table
+    pub after-is : tableAfter rule limit msg table ≡ recordsOf 0 (forestOf (rule msg)) ++ drop (recordSize * size (forestOf (rule msg)))
+        table
     unfolding stored
     after-is = ap (λ (r : Decoded). tabled r (forestOf (rule msg)) table) e
 
     -- the records that were counted are the trees'
-    pub after-records : take (recordSize * count) (after rule limit msg table) ≡ recordsOf 0 (forestOf (rule msg))
+    pub after-records : take (recordSize * count) (tableAfter rule limit msg table) ≡ recordsOf 0 (forestOf (rule msg))
     after-records =
         let f = forestOf (rule msg) in
         ap (take (recordSize * count)) after-is

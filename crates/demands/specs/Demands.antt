@@ -18,12 +18,12 @@ use Rattle.encoder.specs.declared.Encoded.the-variants.{Written}
 use Rattle.demands.specs.Words.{Bytes, Clean, SameTable, Continues, NotFull, Unlimited}
 
 -- the table after a decoder's call, by its rule, limit and message
-abbrev pub after : (List ℕ → Whole) → ℕ → List ℕ → List ℕ → List ℕ
-after rule limit msg table = tabled (decoded rule (length table / recordSize) limit msg) (forestOf (rule msg)) table
+abbrev pub tableAfter : (List ℕ → Whole) → ℕ → List ℕ → List ℕ → List ℕ
+tableAfter rule limit msg table = tabled (decoded rule (length table / recordSize) limit msg) (forestOf (rule msg)) table
 
 -- the answer of a decoder's call
-abbrev pub answer : (List ℕ → Whole) → ℕ → List ℕ → List ℕ → Decoded
-answer rule limit msg table = decoded rule (length table / recordSize) limit msg
+abbrev pub answerTo : (List ℕ → Whole) → ℕ → List ℕ → List ℕ → Decoded
+answerTo rule limit msg table = decoded rule (length table / recordSize) limit msg
 
 -- ---- demand 2: the round trip
 
@@ -42,8 +42,8 @@ pub record PlaysBack (t : List ℕ) (count : ℕ) (source out : List ℕ) (r : O
   pub n : ℕ
   pub written : r .answer ≡ Written n
   pub multiple : n % 4 ≡ 0
-  pub decoded : answer udp 64 (take n (r .out)) table ≡ Packets count 0
-  pub same : SameTable source t (take n (r .out)) (after udp 64 (take n (r .out)) table) count
+  pub decoded : answerTo udp 64 (take n (r .out)) table ≡ Packets count 0
+  pub same : SameTable source t (take n (r .out)) (tableAfter udp 64 (take n (r .out)) table) count
 
 -- for every such table, any output and table with room, and whatever `encode` may answer by its contract
 abbrev pub RoundTrip : Type 0
@@ -57,16 +57,16 @@ RoundTrip =
 
 -- with a higher depth limit (at most 64) or capacity, an answer other than 9 or 10 is unchanged, and so are the table's records
 pub record Unchanged (rule : List ℕ → Whole) (msg : List ℕ) (limit limit' : ℕ) (table table' : List ℕ) : Type 0 where
-  pub answers : answer rule limit' msg table' ≡ answer rule limit msg table
-  pub records : (count left : ℕ) → answer rule limit msg table ≡ Packets count left
-      → take (recordSize * count) (after rule limit' msg table') ≡ take (recordSize * count) (after rule limit msg table)
+  pub answers : answerTo rule limit' msg table' ≡ answerTo rule limit msg table
+  pub records : (count left : ℕ) → answerTo rule limit msg table ≡ Packets count left
+      → take (recordSize * count) (tableAfter rule limit' msg table') ≡ take (recordSize * count) (tableAfter rule limit msg table)
 
 -- for any rule, so for each of the three calls
 abbrev pub MoreRoom : Type 0
 MoreRoom =
     (rule : List ℕ → Whole) (msg : List ℕ) (limit limit' : ℕ) (table table' : List ℕ)
     → limit ≤ limit' → limit' ≤ 64 → length table / recordSize ≤ length table' / recordSize
-    → NotFull (answer rule limit msg table) → Unchanged rule msg limit limit' table table'
+    → NotFull (answerTo rule limit msg table) → Unchanged rule msg limit limit' table table'
 
 -- ---- demand 3: more bytes
 
@@ -81,18 +81,19 @@ pub record TableContinues (t t' : List ℕ) (count : ℕ) : Type 0 where
 pub record GoesOn (rule : List ℕ → Whole) (msg more : List ℕ) (limit limit' : ℕ) (table table' : List ℕ) (count : ℕ) : Type 0 where
   pub tree : Continues (forestOf (rule msg)) (forestOf (rule (msg ++ more)))
   pub left : ℕ
-  pub answers : answer rule limit' (msg ++ more) table' ≡ Packets (size (forestOf (rule (msg ++ more)))) left
-  pub continues : TableContinues (after rule limit msg table) (after rule limit' (msg ++ more) table') count
-  pub message : kindAt (after rule limit msg table) 0 ≡ 47
-      → take (recordSize * count) (after rule limit' (msg ++ more) table') ≡ take (recordSize * count) (after rule limit msg table)
+  pub answers : answerTo rule limit' (msg ++ more) table' ≡ Packets (size (forestOf (rule (msg ++ more)))) left
+  pub continues : TableContinues (tableAfter rule limit msg table) (tableAfter rule limit' (msg ++ more) table') count
+  pub message : kindAt (tableAfter rule limit msg table) 0 ≡ 47
+      → take (recordSize * count) (tableAfter rule limit' (msg ++ more) table') ≡ take (recordSize * count)
+      (tableAfter rule limit msg table)
 
 -- a single-packet call that accepts some bytes, with bytes appended and limits no lower, unless 1, 9, 10 or 13 is given
 abbrev pub MoreBytes : (List ℕ → Whole) → Type 0
 MoreBytes rule =
     (msg more : List ℕ) (limit limit' : ℕ) (table table' : List ℕ) (count left : ℕ)
     → limit ≤ limit' → length table / recordSize ≤ length table' / recordSize
-    → answer rule limit msg table ≡ Packets count left
-    → Unlimited (answer rule limit' (msg ++ more) table')
+    → answerTo rule limit msg table ≡ Packets count left
+    → Unlimited (answerTo rule limit' (msg ++ more) table')
     → GoesOn rule msg more limit limit' table table' count
 
 -- ---- demand 3: n records always hold what n bytes decode to
@@ -105,5 +106,5 @@ abbrev pub Encodable : (List ℕ → Whole) → Type 0
 Encodable rule =
     (msg : List ℕ) → Bytes msg → (limit : ℕ) (table : List ℕ) (kind a b : ℕ) (inside : Forest) (left count : ℕ)
     → rule msg ≡ trees (node kind a b inside nil) left
-    → answer rule limit msg table ≡ Packets count left
-    → WellFormed (after rule limit msg table) count msg
+    → answerTo rule limit msg table ≡ Packets count left
+    → WellFormed (tableAfter rule limit msg table) count msg

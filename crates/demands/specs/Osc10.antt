@@ -27,15 +27,15 @@ pub data Atom : Type 0 where
   char : (x : ℕ) → Atom
 
 -- a sequence of OSC Arguments, arrays among them
-pub data Arguments : Type 0 where
-  end : Arguments
-  atom : Atom → Arguments → Arguments
-  array : (within rest : Arguments) → Arguments
+pub data OscArguments : Type 0 where
+  end : OscArguments
+  atom : Atom → OscArguments → OscArguments
+  array : (within rest : OscArguments) → OscArguments
 
 -- OSC Packet: an OSC Message or an OSC Bundle; and the elements of a bundle
 mutual
   pub data Packet : Type 0 where
-    message : (address : List ℕ) (arguments : Arguments) → Packet
+    message : (address : List ℕ) (arguments : OscArguments) → Packet
     bundle : (seconds fractional : ℕ) (elements : Packets) → Packet
 
   pub data Packets : Type 0 where
@@ -71,7 +71,7 @@ AtomAllowed (blob content) = Bytes content
 AtomAllowed (char x) = isScalar x ≡ true
 
 -- every argument is allowed
-unfoldable pub ArgumentsAllowed : Arguments → Type 0
+unfoldable pub ArgumentsAllowed : OscArguments → Type 0
 ArgumentsAllowed end = Unit {0}
 ArgumentsAllowed (atom value rest) = AtomAllowed value × ArgumentsAllowed rest
 ArgumentsAllowed (array within rest) = ArgumentsAllowed within × ArgumentsAllowed rest
@@ -90,17 +90,17 @@ unfoldable mutual
 unfoldable mutual
   pub deep : Packet → ℕ
   deep (message address arguments) = 0
-  deep (bundle seconds fractional elements) = deepest elements + 1
+  deep (bundle seconds fractional elements) = deepAll elements + 1
 
-  pub deepest : Packets → ℕ
-  deepest none = 0
-  deepest (also packet rest) = max (deep packet) (deepest rest)
+  pub deepAll : Packets → ℕ
+  deepAll none = 0
+  deepAll (also packet rest) = max (deep packet) (deepAll rest)
 
 -- ---- the bytes that spell a packet
 
 -- int32, and every other number of 32 bits: big-endian
-abbrev pub int32 : ℕ → List ℕ
-int32 x = bytes 4 x
+abbrev pub oscInt32 : ℕ → List ℕ
+oscInt32 x = bytes 4 x
 
 -- OSC-string: the characters, "followed by a null, followed by 0-3 additional null characters to make the total number of bits a
 -- multiple of 32"
@@ -115,7 +115,7 @@ pub record OscString (text bs : List ℕ) : Type 0 where
 pub record OscBlob (content bs : List ℕ) : Type 0 where
   pub additional : ℕ
   pub few : additional ≤ 3
-  pub spelled : bs ≡ int32 (length content) ++ (content ++ replicate additional 0)
+  pub spelled : bs ≡ oscInt32 (length content) ++ (content ++ replicate additional 0)
   pub multiple : length bs % 4 ≡ 0
 
 -- the type tag of an argument that is no array
@@ -128,52 +128,52 @@ tagOf (blob content) = 98
 tagOf (char x) = 99
 
 -- "a sequence of characters corresponding exactly to the sequence of OSC Arguments"; an array's stand in brackets
-unfoldable pub tagsOf : Arguments → List ℕ
+unfoldable pub tagsOf : OscArguments → List ℕ
 tagsOf end = []
 tagsOf (atom value rest) = tagOf value ∷ tagsOf rest
 tagsOf (array within rest) = 91 ∷ (tagsOf within ++ (93 ∷ tagsOf rest))
 
 -- the binary representation of an argument that is no array
 pub data AtomSpells : Atom → List ℕ → Type 0 where
-  as-word : {tag x : ℕ} → AtomSpells (word tag x) (int32 x)
-  as-long : {tag high low : ℕ} → AtomSpells (long tag high low) (int32 high ++ int32 low)
+  as-word : {tag x : ℕ} → AtomSpells (word tag x) (oscInt32 x)
+  as-long : {tag high low : ℕ} → AtomSpells (long tag high low) (oscInt32 high ++ oscInt32 low)
   as-bare : {tag : ℕ} → AtomSpells (bare tag) []
   as-string : {text bs : List ℕ} → OscString text bs → AtomSpells (string text) bs
   as-blob : {content bs : List ℕ} → OscBlob content bs → AtomSpells (blob content) bs
-  as-char : {x : ℕ} → AtomSpells (char x) (int32 x)
+  as-char : {x : ℕ} → AtomSpells (char x) (oscInt32 x)
 
 -- "a contiguous sequence of the binary representations of each argument"; brackets have none
-pub data ArgumentsSpell : Arguments → List ℕ → Type 0 where
+pub data ArgumentsSpell : OscArguments → List ℕ → Type 0 where
   no-argument : ArgumentsSpell end []
-  one-atom : {value : Atom} {rest : Arguments} {x y : List ℕ} → AtomSpells value x → ArgumentsSpell rest y
+  one-atom : {value : Atom} {rest : OscArguments} {x y : List ℕ} → AtomSpells value x → ArgumentsSpell rest y
       → ArgumentsSpell (atom value rest) (x ++ y)
-  one-array : {within rest : Arguments} {x y : List ℕ} → ArgumentsSpell within x → ArgumentsSpell rest y
+  one-array : {within rest : OscArguments} {x y : List ℕ} → ArgumentsSpell within x → ArgumentsSpell rest y
       → ArgumentsSpell (array within rest) (x ++ y)
 
 -- "#bundle"
-abbrev pub bundleWord : List ℕ
-bundleWord = 35 ∷ 98 ∷ 117 ∷ 110 ∷ 100 ∷ 108 ∷ 101 ∷ []
+abbrev pub hashBundle : List ℕ
+hashBundle = 35 ∷ 98 ∷ 117 ∷ 110 ∷ 100 ∷ 108 ∷ 101 ∷ []
 
 -- OSC Message: an OSC Address Pattern, an OSC Type Tag String ("an OSC-string beginning with the character ','"), the OSC Arguments.
 -- OSC Bundle: the OSC-string "#bundle", an OSC Time Tag, zero or more OSC Bundle Elements.
 -- OSC Bundle Element: its size, an int32 that "will always be a multiple of 4", and its contents
 mutual
   pub data Spells : Packet → List ℕ → Type 0 where
-    as-message : {address : List ℕ} {arguments : Arguments} {a t d : List ℕ} → OscString address a → OscString (44 ∷ tagsOf arguments) t
+    as-message : {address : List ℕ} {arguments : OscArguments} {a t d : List ℕ} → OscString address a → OscString (44 ∷ tagsOf arguments) t
         → ArgumentsSpell arguments d → Spells (message address arguments) (a ++ (t ++ d))
-    as-bundle : {seconds fractional : ℕ} {elements : Packets} {w es : List ℕ} → OscString bundleWord w → ElementsSpell elements es
-        → Spells (bundle seconds fractional elements) (w ++ (int32 seconds ++ (int32 fractional ++ es)))
+    as-bundle : {seconds fractional : ℕ} {elements : Packets} {w es : List ℕ} → OscString hashBundle w → ElementsSpell elements es
+        → Spells (bundle seconds fractional elements) (w ++ (oscInt32 seconds ++ (oscInt32 fractional ++ es)))
 
   pub data ElementsSpell : Packets → List ℕ → Type 0 where
     no-element : ElementsSpell none []
     element : {packet : Packet} {rest : Packets} {content es : List ℕ} → length content % 4 ≡ 0 → Spells packet content
         → ElementsSpell rest es
-        → ElementsSpell (also packet rest) (int32 (length content) ++ (content ++ es))
+        → ElementsSpell (also packet rest) (oscInt32 (length content) ++ (content ++ es))
 
 -- ---- the tree of a packet
 
 -- a range of the source that holds a text or a blob
-pub record Range (source : List ℕ) (a b : ℕ) (content : List ℕ) : Type 0 where
+pub record RangeHolds (source : List ℕ) (a b : ℕ) (content : List ℕ) : Type 0 where
   pub lies : a + b ≤ length source
   pub holds : part source a b ≡ content
 
@@ -182,22 +182,22 @@ pub data FieldsAre (source : List ℕ) : Atom → (a b : ℕ) → Type 0 where
   is-word : {tag x : ℕ} → FieldsAre source (word tag x) x 0
   is-long : {tag high low : ℕ} → FieldsAre source (long tag high low) high low
   is-bare : {tag : ℕ} → FieldsAre source (bare tag) 0 0
-  is-string : {text : List ℕ} {a b : ℕ} → Range source a b text → FieldsAre source (string text) a b
-  is-blob : {content : List ℕ} {a b : ℕ} → Range source a b content → FieldsAre source (blob content) a b
+  is-string : {text : List ℕ} {a b : ℕ} → RangeHolds source a b text → FieldsAre source (string text) a b
+  is-blob : {content : List ℕ} {a b : ℕ} → RangeHolds source a b content → FieldsAre source (blob content) a b
   is-char : {x : ℕ} → FieldsAre source (char x) x 0
 
 -- a forest stands for arguments
-pub data ArgumentsAre (source : List ℕ) : Arguments → Forest → Type 0 where
+pub data ArgumentsAre (source : List ℕ) : OscArguments → Forest → Type 0 where
   no-node : ArgumentsAre source end nil
-  leaf : {value : Atom} {rest : Arguments} {a b : ℕ} {g : Forest} → FieldsAre source value a b → ArgumentsAre source rest g
+  leaf : {value : Atom} {rest : OscArguments} {a b : ℕ} {g : Forest} → FieldsAre source value a b → ArgumentsAre source rest g
       → ArgumentsAre source (atom value rest) (node (tagOf value) a b nil g)
-  branch : {within rest : Arguments} {f g : Forest} → ArgumentsAre source within f → ArgumentsAre source rest g
+  branch : {within rest : OscArguments} {f g : Forest} → ArgumentsAre source within f → ArgumentsAre source rest g
       → ArgumentsAre source (array within rest) (node 91 0 0 f g)
 
 -- a node stands for a packet, and a forest for a bundle's elements
 mutual
   pub data StandsFor (source : List ℕ) : Packet → (kind a b : ℕ) → Forest → Type 0 where
-    is-message : {address : List ℕ} {arguments : Arguments} {a b : ℕ} {f : Forest} → Range source a b address
+    is-message : {address : List ℕ} {arguments : OscArguments} {a b : ℕ} {f : Forest} → RangeHolds source a b address
         → ArgumentsAre source arguments f
         → StandsFor source (message address arguments) 47 a b f
     is-bundle : {seconds fractional : ℕ} {elements : Packets} {f : Forest} → StandFor source elements f

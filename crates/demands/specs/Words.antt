@@ -34,13 +34,13 @@ Clean source nil = Unit {0}
 Clean source (node kind a b inside rest) = CleanNode source kind a b × Clean source inside × Clean source rest
 
 -- a kind whose fields are a range: address, blob, text
-abbrev pub ranged : ℕ → Bool
-ranged kind = among kind (47 ∷ 98 ∷ 115 ∷ [])
+abbrev pub hasRange : ℕ → Bool
+hasRange kind = among kind (47 ∷ 98 ∷ 115 ∷ [])
 
 -- the field a of a node over one source and over another: equal as bytes where it is a range's offset ("only their offsets may
 -- differ"), else equal
 abbrev pub SameField : ℕ → List ℕ → ℕ → ℕ → List ℕ → ℕ → Type 0
-SameField kind source a b source' a' = cond (ranged kind) (part source a b ≡ part source' a' b) (a ≡ a')
+SameField kind source a b source' a' = cond (hasRange kind) (part source a b ≡ part source' a' b) (a ≡ a')
 
 -- two trees over two sources are the same: kinds, nesting and numbers are equal, text and blobs are equal as bytes
 pub data Same (source source' : List ℕ) : Forest → Forest → Type 0 where
@@ -56,14 +56,14 @@ pub record SameTable (source t source' t' : List ℕ) (count : ℕ) : Type 0 whe
   pub firsts : (i : ℕ) → i < count → SameField (kindAt t i) source (aAt t i) (bAt t i) source' (aAt t' i)
 
 -- a forest begins with the nodes of another
-pub data Begins : Forest → Forest → Type 0 where
-  none : {g : Forest} → Begins nil g
-  also : {kind a b : ℕ} {inside f g : Forest} → Begins f g → Begins (node kind a b inside f) (node kind a b inside g)
+pub data BeginsSame : Forest → Forest → Type 0 where
+  none : {g : Forest} → BeginsSame nil g
+  also : {kind a b : ℕ} {inside f g : Forest} → BeginsSame f g → BeginsSame (node kind a b inside f) (node kind a b inside g)
 
 -- "a message is the same message, and a bundle keeps its time tag and begins with the same elements"
 pub data Continues : Forest → Forest → Type 0 where
   message : {a b : ℕ} {inside : Forest} → Continues (node 47 a b inside nil) (node 47 a b inside nil)
-  bundle : {a b : ℕ} {inside inside' : Forest} → Begins inside inside' → Continues (node 35 a b inside nil) (node 35 a b inside' nil)
+  bundle : {a b : ℕ} {inside inside' : Forest} → BeginsSame inside inside' → Continues (node 35 a b inside nil) (node 35 a b inside' nil)
 
 -- an answer that is neither 9 nor 10
 pub record NotFull (r : Decoded) : Type 0 where

@@ -36,6 +36,7 @@ Parts n (decodes.Packets count left) x = (refusalIn x ≡ 0) × (countIn x ≡ c
 Parts n decodes.Waiting x = (refusalIn x ≡ 0) × (countIn x ≡ 0) × (lowIn x ≡ n)
 Parts n (decodes.Refused r) x = (refusalIn x ≡ numberOf r) × (countIn x ≡ 0) × (lowIn x ≡ 0)
 
+-- the parts of a decoder's number are what was put into it
 pub decoded-apart : (n : ℕ) (answer : Decoded) → Fits n answer → Parts n answer (decodedNumber n answer)
 decoded-apart n (decodes.Packets count left) h = (omega arith, omega arith, omega arith)
 decoded-apart n decodes.Waiting h = (omega arith, omega arith, omega arith)
@@ -81,13 +82,13 @@ encoded-apart : (answer : Encoded) → Small answer → EncodedParts answer (enc
 encoded-apart (encodes.Written n) h = (omega arith, omega arith)
 encoded-apart (encodes.Refused r) h = (omega arith, omega arith)
 
--- of `osc_encode` and `osc_encode_tcp`
+-- the parts of a number that `osc_encode` or `osc_encode_tcp` tells are what was put into it
 pub told-apart : (frame : ℕ → List ℕ → List ℕ) (table : List ℕ) (count : ℕ) (source out₀ : List ℕ) (told : ℕ) (out : List ℕ)
     → (t : Tells (Encodes frame table count source out₀) told out) → EncodedParts (t .answer) told
 told-apart frame table count source out₀ told out t =
     subst (EncodedParts (t .answer)) (sym (t .number)) (encoded-apart (t .answer) (encodes-small (t .outcome)))
 
--- of `osc_encode_string`
+-- so are those of a number that `osc_encode_string` tells
 pub string-told-apart : (text out₀ : List ℕ) (told : ℕ) (out : List ℕ) → (t : Tells (λ o. o ≡ stringOutcome text out₀) told out)
     → EncodedParts (t .answer) told
 string-told-apart text out₀ told out t =

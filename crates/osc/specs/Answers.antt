@@ -3,14 +3,18 @@ use mathlib.Core.Path.{_≡_}
 use mathlib.Core.Bool.{cond}
 use mathlib.Core.List.{List}
 use Prim.Native.Nat.{ℕ, _+_, _*_, _≤_}
+use lib.ListN.{length}
 use Rattle.refusal.specs.Refusal.{numberOf}
 use Rattle.refusal.specs.declared.Refusal.{Refusal}
 use Rattle.wire.specs.declared.Padded.{Padded}
 use Rattle.wire.specs.declared.Padded.the-variants as padded
+use Rattle.node.specs.Records.{capacity}
 use Rattle.values.specs.declared.value.OscType.{OscType}
 use Rattle.values.specs.declared.value.OscType.the-variants as value
 use Rattle.values.specs.declared.look.Looked.{Looked}
 use Rattle.values.specs.declared.look.Looked.the-variants as looked
+use Rattle.decoder.specs.Framing.{Whole}
+use Rattle.decoder.specs.Limits.{decoded, forestOf, tabled}
 use Rattle.decoder.specs.declared.Decoded.{Decoded}
 use Rattle.decoder.specs.declared.Decoded.the-variants as decodes
 use Rattle.encoder.specs.Outcome.{Outcome}
@@ -32,6 +36,11 @@ abbrev pub Fits : ℕ → Decoded → Type 0
 Fits n (decodes.Packets count left) = (count ≤ 65535) × (left ≤ 65535)
 Fits n decodes.Waiting = n ≤ 65535
 Fits n (decodes.Refused r) = Unit {0}
+
+-- a decoder's call, by its rule: the number of its answer is told, and the table is as that answer leaves it
+pub record TellsDecoded (rule : List ℕ → Whole) (msg table : List ℕ) (depth told : ℕ) (after : List ℕ) : Type 0 where
+  pub number : told ≡ decodedNumber (length msg) (decoded rule (capacity table) depth msg)
+  pub left : after ≡ tabled (decoded rule (capacity table) depth msg) (forestOf (rule msg)) table
 
 -- an encoder's answer: the bytes written in bits 0 to 31
 abbrev pub encodedNumber : Encoded → ℕ

@@ -1,20 +1,17 @@
 // The C boundary: the public calls, each with its answer as one number of 64 bits. include/osc.h declares them for C and C++.
 use decoder::Decoded;
 use encoder::Encoded;
-use wire::Padded;
 use refusal::Refusal;
 use values::look::Looked;
 use values::value::OscType;
+use wire::Padded;
 ghost use mathlib.Core.Path.{_≡_};
-ghost use Prim.Native.Nat.{_/_};
-ghost use lib.ListN.{length};
 ghost use Rattle.wire.specs.Pad.{padOf};
-ghost use Rattle.node.specs.Records.{recordSize};
 ghost use Rattle.values.specs.Look.{lookAt};
 ghost use Rattle.decoder.specs.Framing.{udp, tcp, tcpVec};
-ghost use Rattle.decoder.specs.Limits.{decoded, forestOf, tabled};
 ghost use Rattle.encoder.specs.Outcome.{plain, prefixed, Encodes, stringOutcome};
-ghost use Rattle.osc.specs.Answers.{refusalNumber, decodedNumber, Fits, encodedNumber, Tells, paddedNumber, kindOf, lookedNumber};
+ghost use Rattle.osc.specs.Answers.{refusalNumber, decodedNumber, Fits, TellsDecoded, encodedNumber, Tells};
+ghost use Rattle.osc.specs.Answers.{paddedNumber, kindOf, lookedNumber};
 
 // A refusal's number, in bits 56 to 63.
 fn refusal_number(refusal: Refusal) -> u64
@@ -83,8 +80,7 @@ fn kind_of(value: OscType) -> u64
 // Ruled out: a count that spills into the refusal's bits; a byte of the table changed where a refusal is told.
 #[no_mangle]
 pub extern "C" fn osc_decode_udp(msg: &[u8], table: &mut [u8], depth: u64) -> u64
-    ensures { λ r. ⌜ r ≡ decodedNumber (length (now (msg .entry))) (decoded udp (length (now (table .entry)) / recordSize) depth (now (msg .entry))) ⌝ }
-    ensures { λ _. ⌜ now (table .exit) ≡ tabled (decoded udp (length (now (table .entry)) / recordSize) depth (now (msg .entry))) (forestOf (udp (now (msg .entry)))) (now (table .entry)) ⌝ }
+    ensures { λ r. ⌜ TellsDecoded udp (now (msg .entry)) (now (table .entry)) depth r (now (table .exit)) ⌝ }
 {
     decoded_number(decoder::decode_udp(msg, table, depth as usize), msg.len())
 }
@@ -94,8 +90,7 @@ pub extern "C" fn osc_decode_udp(msg: &[u8], table: &mut [u8], depth: u64) -> u6
 // Ruled out: Waiting told as 0 bytes left; a packet of no records told as Waiting.
 #[no_mangle]
 pub extern "C" fn osc_decode_tcp(msg: &[u8], table: &mut [u8], depth: u64) -> u64
-    ensures { λ r. ⌜ r ≡ decodedNumber (length (now (msg .entry))) (decoded tcp (length (now (table .entry)) / recordSize) depth (now (msg .entry))) ⌝ }
-    ensures { λ _. ⌜ now (table .exit) ≡ tabled (decoded tcp (length (now (table .entry)) / recordSize) depth (now (msg .entry))) (forestOf (tcp (now (msg .entry)))) (now (table .entry)) ⌝ }
+    ensures { λ r. ⌜ TellsDecoded tcp (now (msg .entry)) (now (table .entry)) depth r (now (table .exit)) ⌝ }
 {
     decoded_number(decoder::decode_tcp(msg, table, depth as usize), msg.len())
 }
@@ -105,8 +100,7 @@ pub extern "C" fn osc_decode_tcp(msg: &[u8], table: &mut [u8], depth: u64) -> u6
 // Ruled out: the count of packets in place of the count of records; the depth limit cut to 32 bits, so that 2^32 passes for 0.
 #[no_mangle]
 pub extern "C" fn osc_decode_tcp_vec(msg: &[u8], table: &mut [u8], depth: u64) -> u64
-    ensures { λ r. ⌜ r ≡ decodedNumber (length (now (msg .entry))) (decoded tcpVec (length (now (table .entry)) / recordSize) depth (now (msg .entry))) ⌝ }
-    ensures { λ _. ⌜ now (table .exit) ≡ tabled (decoded tcpVec (length (now (table .entry)) / recordSize) depth (now (msg .entry))) (forestOf (tcpVec (now (msg .entry)))) (now (table .entry)) ⌝ }
+    ensures { λ r. ⌜ TellsDecoded tcpVec (now (msg .entry)) (now (table .entry)) depth r (now (table .exit)) ⌝ }
 {
     decoded_number(
         decoder::decode_tcp_vec(msg, table, depth as usize),

@@ -138,6 +138,7 @@ look-listed t i =
 
 -- ---- every call
 
+-- every answer is a result, Waiting from `decode_tcp`, or a refusal that document 01 lists for the call
 pub listed : AnswersListed
 listed (decode-udp msg table limit) e m = decoded-listed false udp _ limit msg (m .answered) (udp-never msg)
 listed (decode-tcp msg table limit) e m = decoded-listed true tcp _ limit msg (m .answered) (always (tcp msg))

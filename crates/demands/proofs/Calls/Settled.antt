@@ -11,15 +11,15 @@ use Rattle.decoder.specs.Framing.{Whole, udp, tcp, tcpVec}
 use Rattle.decoder.specs.Limits.{forestOf, tabled}
 use Rattle.decoder.specs.declared.Decoded.{Decoded}
 use Rattle.decoder.specs.declared.Decoded.the-variants.{Packets, Waiting, Refused}
-use Rattle.table.specs.Tree.{IsTree}
 use Rattle.encoder.specs.Outcome.{Outcome, write, encoded, Encodes, malformed, formed, plain, prefixed, stringOutcome}
 use Rattle.strings.specs.Atomic.{oscString}
 use Rattle.writers.specs.Osc.{packetOf}
 use Rattle.demands.specs.Calls.{Call, decode-udp, decode-tcp, decode-tcp-vec, encode, encode-tcp, encode-string, pad, look, text-of}
 use Rattle.demands.specs.Calls.{Ending, Decodes, Answer, Lent, result, byDecoded, byEncoded, Settled, Met, NothingChanged}
-use Rattle.demands.specs.Demands.{answer, after}
+use Rattle.demands.specs.Demands.{answerTo, tableAfter}
 use Rattle.wire.proofs.Choices.{by-test, by-le}
-use Rattle.table.proofs.Theorem.{formed-tree, tree-formed, tree-unique}
+use Rattle.table.proofs.Theorem.{formed-tree}
+use Rattle.encoder.proofs.Only.{encode-only, encode-tcp-only}
 
 -- ---- no second ending
 
@@ -33,27 +33,15 @@ decodes-one {rule} {msg} {table} m m' =
     let e = m .answered ∙ sym (m' .answered) in
     (e, m .left ∙ ap (λ (d : Decoded). tabled d (forestOf (rule msg)) table) e ∙ sym (m' .left))
 
--- a table is one tree's alone
-trees-one : {t : List ℕ} {count : ℕ} {source : List ℕ} {kind a b kind' a' b' : ℕ} {inside inside' : Forest}
-    → IsTree t count source kind a b inside → IsTree t count source kind' a' b' inside'
-    → node kind a b inside nil ≡ node kind' a' b' inside' nil
-trees-one {t} {count} w w' = tree-unique t 0 count _ _ (w .spans) (w' .spans)
-
-encodes-one : {frame : ℕ → List ℕ → List ℕ} {t : List ℕ} {count : ℕ} {source out : List ℕ} {r r' : Outcome}
-    → Encodes frame t count source out r → Encodes frame t count source out r' → r ≡ r'
-encodes-one (malformed n e) (malformed n' e') = e ∙ sym e'
-encodes-one (malformed n e) (formed kind a b inside w e') = absurd (n (tree-formed w))
-encodes-one (formed kind a b inside w e) (malformed n e') = absurd (n (tree-formed w))
-encodes-one (formed kind a b inside w e) (formed kind' a' b' inside' w' e') = let x = trees-one w w' in cc
-
+-- no two endings of a call meet its contract
 pub settled : Settled
 settled (decode-udp msg table limit) e e' m m' = let x = decodes-one m m' in ending (x .0) (x .1)
 settled (decode-tcp msg table limit) e e' m m' = let x = decodes-one m m' in ending (x .0) (x .1)
 settled (decode-tcp-vec msg table limit) e e' m m' = let x = decodes-one m m' in ending (x .0) (x .1)
 settled (encode table count source out) e e' m m' =
-    let x = encodes-one m m' in ending (ap (λ (o : Outcome). o .answer) x) (ap (λ (o : Outcome). o .out) x)
+    let x = encode-only _ _ _ _ _ _ m m' in ending (ap (λ (o : Outcome). o .answer) x) (ap (λ (o : Outcome). o .out) x)
 settled (encode-tcp table count source out) e e' m m' =
-    let x = encodes-one m m' in ending (ap (λ (o : Outcome). o .answer) x) (ap (λ (o : Outcome). o .out) x)
+    let x = encode-tcp-only _ _ _ _ _ _ m m' in ending (ap (λ (o : Outcome). o .answer) x) (ap (λ (o : Outcome). o .out) x)
 settled (encode-string text out) e e' m m' =
     let x = m ∙ sym m' in ending (ap (λ (o : Outcome). o .answer) x) (ap (λ (o : Outcome). o .out) x)
 settled (pad pos) e e' m m' = ending (m ∙ sym m') refl
@@ -67,13 +55,16 @@ encodes-met : (frame : ℕ → List ℕ → List ℕ) (t : List ℕ) (count : �
 encodes-met frame t count source out n =
     n _ (malformed (λ w. let x = formed-tree t count source w in n _ (formed _ _ _ (x .0) (x .1) refl)) refl)
 
+-- a decoder's own ending
+decodes : (rule : List ℕ → Whole) (msg table : List ℕ) (limit : ℕ)
+    → Decodes rule msg table limit (answerTo rule limit msg table) (tableAfter rule limit msg table)
+decodes rule msg table limit = record { answered = refl; left = refl }
+
+-- no call is without an ending
 pub met : Met
-met (decode-udp msg table limit) n =
-    n (record { answer = answer udp limit msg table; lent = after udp limit msg table }) (record { answered = refl; left = refl })
-met (decode-tcp msg table limit) n =
-    n (record { answer = answer tcp limit msg table; lent = after tcp limit msg table }) (record { answered = refl; left = refl })
-met (decode-tcp-vec msg table limit) n =
-    n (record { answer = answer tcpVec limit msg table; lent = after tcpVec limit msg table }) (record { answered = refl; left = refl })
+met (decode-udp msg table limit) n = n _ (decodes udp msg table limit)
+met (decode-tcp msg table limit) n = n _ (decodes tcp msg table limit)
+met (decode-tcp-vec msg table limit) n = n _ (decodes tcpVec msg table limit)
 met (encode table count source out) n = encodes-met plain table count source out (λ r m. n (record { answer = r .answer; lent = r .out }) m)
 met (encode-tcp table count source out) n =
     encodes-met prefixed table count source out (λ r m. n (record { answer = r .answer; lent = r .out }) m)
@@ -113,6 +104,7 @@ string-same : (text out : List ℕ) → Same out (stringOutcome text out)
 unfolding stringOutcome
 string-same text out = by-test (Same out) (utf8 text) (λ h. write-same (oscString text) out) (λ h n. refl)
 
+-- an ending without a result leaves every lent byte as it was
 pub nothing-changed : NothingChanged
 nothing-changed (decode-udp msg table limit) e m n = m .left ∙ decoded-same (e .answer) (forestOf (udp msg)) table n
 nothing-changed (decode-tcp msg table limit) e m n = m .left ∙ decoded-same (e .answer) (forestOf (tcp msg)) table n

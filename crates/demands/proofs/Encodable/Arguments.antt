@@ -36,6 +36,7 @@ use Rattle.demands.proofs.Osc10.Tags.{of-among, HasTag, HasSort, has-so
 
 -- ---- forests that obey the rules, and whose fields fit
 
+-- the nodes of a container obey the rules of a well-formed table, and their numbers fit a record
 pub record Sound (s : List ℕ) (container : ℕ) (F : Forest) : Type 0 where
   pub obeys : Obeys s container F
   pub fits : FieldsFit F
@@ -49,10 +50,12 @@ pub record NodeSound (s : List ℕ) (container k a b : ℕ) (inside : Forest) : 
   pub in-sound : Sound s k inside
 
 module _ {s : List ℕ} {container : ℕ} where
+  -- an empty forest does
   pub sound-nil : Sound s container nil
   unfolding Obeys FieldsFit
   sound-nil = record { obeys = tt; fits = tt }
 
+  -- a node and those after it do, where each does
   pub sound-node : {k a b : ℕ} {f g : Forest} → NodeSound s container k a b f → Sound s container g → Sound s container (node k a b f g)
   unfolding Obeys FieldsFit
   sound-node n r =
@@ -207,6 +210,7 @@ module _ {s : List ℕ} (small : Bytes s) (low : length s < 256 ^ 4) (base : ℕ
       act-sound (sortOf t) t refl (has-sort t) (λ m q f b. readArgs base ts m q f b) p frame below at w v
       (λ m q f b. read-sound ts {l = m} q f b)
 
+  -- the arguments that a message is read to have obey the rules of a message's
   pub args-sound : (ts : List ℕ) {l : List ℕ} (p : ℕ) → At s (base + p) l → {kept : Forest} {used : ℕ}
       → args kept used ≡ argsOf base ts l p → Sound s 47 kept
   args-sound ts p at {kept} {used} e = in-message kept (subst (ArgsSound s) (sym e) (read-sound ts p nil [] at sound-nil tt))

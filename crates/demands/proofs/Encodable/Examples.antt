@@ -13,7 +13,7 @@ use Rattle.packet.specs.Packet.{messageOf, packetOf, packetAt, packet}
 use Rattle.decoder.specs.Framing.{udp, frameOf, tcp, framesAt, frames, tcpVec}
 use Rattle.decoder.specs.Limits.{decoded}
 use Rattle.table.specs.Formed.{WellFormed}
-use Rattle.demands.specs.Demands.{after}
+use Rattle.demands.specs.Demands.{tableAfter}
 use Rattle.table.proofs.Examples as p3
 use Rattle.demands.proofs.Encodable.Tables.{encodable-udp, encodable-tcp, encodable-vec}
 use Rattle.demands.proofs.Room.Examples.{blank}
@@ -23,15 +23,15 @@ use Rattle.demands.proofs.Trip.Examples.{small-bytes}
 abbrev framed : List ℕ
 framed = 0 ∷ 0 ∷ 0 ∷ 12 ∷ p3.packet
 
-by-udp : WellFormed (after udp 64 p3.packet (blank 2)) 2 p3.packet
+by-udp : WellFormed (tableAfter udp 64 p3.packet (blank 2)) 2 p3.packet
 unfolding number size depth snoc classOf sortOf textOf argOf readArgs messageOf packetOf packetAt packet udp decoded
 by-udp = encodable-udp p3.packet (small-bytes p3.packet tt) 64 (blank 2) 47 0 2 p3.five 0 2 refl refl
 
-by-tcp : WellFormed (after tcp 64 framed (blank 2)) 2 framed
+by-tcp : WellFormed (tableAfter tcp 64 framed (blank 2)) 2 framed
 unfolding number size depth snoc classOf sortOf textOf argOf readArgs messageOf packetOf packetAt packet frameOf tcp decoded
 by-tcp = encodable-tcp framed (small-bytes framed tt) 64 (blank 2) 47 4 2 p3.five 0 2 refl refl
 
-by-vec : WellFormed (after tcpVec 64 framed (blank 2)) 2 framed
+by-vec : WellFormed (tableAfter tcpVec 64 framed (blank 2)) 2 framed
 unfolding number size depth snoc classOf sortOf textOf argOf readArgs messageOf packetOf packetAt packet frameOf framesAt frames tcpVec
     decoded
 by-vec = encodable-vec framed (small-bytes framed tt) 64 (blank 2) 47 4 2 p3.five 0 2 refl refl

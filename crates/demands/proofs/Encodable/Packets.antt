@@ -27,6 +27,7 @@ use Rattle.demands.proofs.Encodable.Arguments.{Sound, NodeSound, sound-
 
 -- ---- what was read is sound
 
+-- a packet that was read obeys the rules of a bundle's element
 abbrev pub OutSound : List ℕ → Out → Type 0
 OutSound s (fault k) = Unit {0}
 OutSound s (one k a b f used) = NodeSound s 35 k a b f
@@ -140,6 +141,7 @@ module _ {s : List ℕ} (small : Bytes s) (low : length s < 256 ^ 4) (base : ℕ
     elements-at-sound zero l p at = sound-nil
     elements-at-sound (suc n) l p at = elements-of-sound _ _ (λ m q t. packet-at-sound n m q t) (λ m q t. elements-at-sound n m q t) p at
 
+  -- every packet that is read obeys the rules over the input that it stands in
   pub packet-sound : (l : List ℕ) (p : ℕ) → At s (base + p) l → OutSound s (packet base l p)
   unfolding packet
   packet-sound l p at = packet-at-sound (length l) l p at

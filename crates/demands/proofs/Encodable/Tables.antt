@@ -17,7 +17,7 @@ use Rattle.decoder.specs.Limits.{decoded, forestOf}
 use Rattle.decoder.specs.declared.Decoded.{Decoded}
 use Rattle.decoder.specs.declared.Decoded.the-variants.{Packets, Refused}
 use Rattle.demands.specs.Words.{Bytes}
-use Rattle.demands.specs.Demands.{after, RecordsHold, Encodable}
+use Rattle.demands.specs.Demands.{tableAfter, RecordsHold, Encodable}
 use Rattle.wire.proofs.Choices.{by-le, lt-or-le}
 use Rattle.table.proofs.Theorem.{tree-formed, bytes-tree}
 use Rattle.demands.proofs.Placed.{At, at-all, at-drop}
@@ -133,18 +133,21 @@ encodable rule holds sound msg small limit table k a b inside left count e q =
     let w = within rule limit msg F left e (length table / recordSize) q in
     let n = few rule limit msg F left e holds w in
     let s : Sound msg 35 F = subst (WholeSound msg) e (sound msg small (omega (arith, w .short))) in
-    let is : after rule limit msg table ≡ recordsOf 0 F ++ drop (recordSize * size F) table
+    let is : tableAfter rule limit msg table ≡ recordsOf 0 F ++ drop (recordSize * size F) table
     = after-is rule limit msg table q ∙ ap (λ (w : Whole). recordsOf 0 (forestOf w) ++ drop (recordSize * size (forestOf w)) table) e in
     let c : size F ≡ count = rw e at (accepted rule (length table / recordSize) limit msg q .counts) in
     rw (← c) (tree-formed
-    (bytes-tree (after rule limit msg table) (drop (recordSize * size F) table) msg k a b inside is (s .fits) (omega (arith, w .short))
+    (bytes-tree (tableAfter rule limit msg table) (drop (recordSize * size F) table) msg k a b inside is (s .fits) (omega (arith, w .short))
     (s .obeys)))
 
+-- the table that `decode_udp` answers is well formed
 pub encodable-udp : Encodable udp
 encodable-udp = encodable udp records-hold-udp udp-sound
 
+-- so is that of `decode_tcp`
 pub encodable-tcp : Encodable tcp
 encodable-tcp = encodable tcp records-hold-tcp tcp-sound
 
+-- and that of `decode_tcp_vec`, where it answers one packet
 pub encodable-vec : Encodable tcpVec
 encodable-vec = encodable tcpVec records-hold-vec vec-sound

@@ -32,10 +32,12 @@ abbrev pub KeptText : Text → Text → Type 0
 KeptText (Found n used) t = t ≡ Found n used
 KeptText (Lacks k) t = Unit {0}
 
+-- an argument that was accepted stays
 abbrev KeptArg : Arg → Arg → Type 0
 KeptArg (Given a b used) x = x ≡ Given a b used
 KeptArg (Refused k) x = Unit {0}
 
+-- arguments that were accepted stay
 abbrev pub KeptArgs : Args → Args → Type 0
 KeptArgs (refused k) x = Unit {0}
 KeptArgs (args f used) x = x ≡ args f used
@@ -43,6 +45,7 @@ KeptArgs (args f used) x = x ≡ args f used
 module _ (more : List ℕ) where
   -- ---- numbers and texts
 
+  -- a number in the first n bytes is the same
   pub number-longer : (n : ℕ) (l : List ℕ) → n ≤ length l → number n (l ++ more) ≡ number n l
   unfolding number
   number-longer n l h = rw (take-append-le n l more h)
@@ -56,6 +59,7 @@ module _ (more : List ℕ) where
       by-nul true g f = refl
       by-nul false g f = ap suc (f (omega arith))
 
+  -- a text that was found is found again
   pub text-longer : (l : List ℕ) (p : ℕ) → KeptText (textOf l p) (textOf (l ++ more) p)
   unfolding textOf
   text-longer l p =
@@ -135,5 +139,6 @@ module _ (more : List ℕ) where
   read-longer base (tag ∷ tags) l p frame below = act-longer (sortOf tag) _ base tag l p frame below
       (λ m q f b. read-longer base tags m q f b)
 
+  -- arguments that were read are read again
   pub args-longer : (base : ℕ) (tags l : List ℕ) (p : ℕ) → KeptArgs (argsOf base tags l p) (argsOf base tags (l ++ more) p)
   args-longer base tags l p = read-longer base tags l p nil []

@@ -15,7 +15,7 @@ use Rattle.decoder.specs.Limits.{decoded}
 use Rattle.decoder.specs.declared.Decoded.{Decoded}
 use Rattle.decoder.specs.declared.Decoded.the-variants.{Packets}
 use Rattle.demands.specs.Words.{Unlimited}
-use Rattle.demands.specs.Demands.{answer, GoesOn}
+use Rattle.demands.specs.Demands.{answerTo, GoesOn}
 use Rattle.table.proofs.Examples as p3
 use Rattle.demands.proofs.Longer.MoreBytes.{more-bytes-udp, more-bytes-tcp}
 use Rattle.demands.proofs.Room.Examples.{empty, element, blank, one-element}
@@ -31,7 +31,7 @@ unlimited e =
 
 -- ---- a bundle with one element gets a second one
 
-two-elements : answer udp 1 ((empty ++ element) ++ element) (blank 3) ≡ Packets 3 0
+two-elements : answerTo udp 1 ((empty ++ element) ++ element) (blank 3) ≡ Packets 3 0
 unfolding number size depth snoc classOf sortOf textOf argOf readArgs messageOf bundleOf elementOf elementsOf packetOf packetAt packet udp
     decoded
 two-elements = refl
@@ -42,12 +42,12 @@ grown =
 
 -- ---- a message is the same, and the bytes are left over
 
-message : answer udp 0 p3.packet (blank 2) ≡ Packets 2 0
+message : answerTo udp 0 p3.packet (blank 2) ≡ Packets 2 0
 unfolding number size depth snoc classOf sortOf textOf argOf readArgs messageOf bundleOf elementOf elementsOf packetOf packetAt packet udp
     decoded
 message = refl
 
-message-more : answer udp 0 (p3.packet ++ element) (blank 2) ≡ Packets 2 12
+message-more : answerTo udp 0 (p3.packet ++ element) (blank 2) ≡ Packets 2 12
 unfolding number size depth snoc classOf sortOf textOf argOf readArgs messageOf bundleOf elementOf elementsOf packetOf packetAt packet udp
     decoded
 message-more = refl
@@ -61,12 +61,12 @@ kept = more-bytes-udp p3.packet element 0 0 (blank 2) (blank 2) 2 0 (omega arith
 prefix : List ℕ
 prefix = 0 ∷ 0 ∷ 0 ∷ 16 ∷ []
 
-frame : answer tcp 1 (prefix ++ empty) (blank 1) ≡ Packets 1 0
+frame : answerTo tcp 1 (prefix ++ empty) (blank 1) ≡ Packets 1 0
 unfolding prefix number size depth snoc classOf sortOf textOf argOf readArgs messageOf bundleOf elementOf elementsOf packetOf packetAt
     packet frameOf tcp decoded
 frame = refl
 
-next-frame : answer tcp 2 ((prefix ++ empty) ++ element) (blank 2) ≡ Packets 2 0
+next-frame : answerTo tcp 2 ((prefix ++ empty) ++ element) (blank 2) ≡ Packets 2 0
 unfolding prefix number size depth snoc classOf sortOf textOf argOf readArgs messageOf bundleOf elementOf elementsOf packetOf packetAt
     packet frameOf tcp decoded
 next-frame = refl

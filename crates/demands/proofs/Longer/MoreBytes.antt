@@ -15,7 +15,7 @@ use Rattle.decoder.specs.Framing.{Whole, trees, waiting, refusal, single, udp, 
 use Rattle.decoder.specs.Limits.{decoded, forestOf}
 use Rattle.decoder.specs.declared.Decoded.the-variants.{Packets}
 use Rattle.demands.specs.Words.{Continues, message, bundle, Unlimited}
-use Rattle.demands.specs.Demands.{answer, GoesOn, MoreBytes}
+use Rattle.demands.specs.Demands.{answerTo, GoesOn, MoreBytes}
 use Rattle.wire.proofs.Choices.{by-le}
 use Rattle.decoder.proofs.Chosen.{by-decoded, by-trees}
 use Rattle.demands.proofs.Answered.{accepted, after-is, after-records}
@@ -81,7 +81,7 @@ module _ (rule : List ℕ → Whole) (longer : (msg more : List ℕ) → Longer 
       by-longer w w' x y (goes-on {left' = left'} on) =
           let n = accepted rule _ limit msg e .counts in
           let tree : Continues (forestOf (rule msg)) (forestOf (rule (msg ++ more))) = rw (x, y) on in
-          let e' : answer rule limit' (msg ++ more) table' ≡ Packets (size (forestOf (rule (msg ++ more)))) left' = rw y
+          let e' : answerTo rule limit' (msg ++ more) table' ≡ Packets (size (forestOf (rule (msg ++ more)))) left' = rw y
           (given rule _ limit' (msg ++ more) y u) in
           record {
             tree = tree;
@@ -96,8 +96,10 @@ module _ (rule : List ℕ → Whole) (longer : (msg more : List ℕ) → Longer 
                 ∙ sym (after-records rule limit msg table e);
           }
 
+-- bytes appended take back no packet that `decode_udp` gave
 pub more-bytes-udp : MoreBytes udp
 more-bytes-udp = more-bytes udp udp-longer
 
+-- nor one that `decode_tcp` gave
 pub more-bytes-tcp : MoreBytes tcp
 more-bytes-tcp = more-bytes tcp tcp-longer

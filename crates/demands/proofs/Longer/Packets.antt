@@ -17,7 +17,7 @@ use Rattle.arguments.specs.Arguments.{Args, refused, args, argsOf}
 use Rattle.packet.specs.Packet.{Out, fault, one, Elements, upto, after, tagsIn, messageWith, typesThen, messageOf, same, bundleWord}
 use Rattle.packet.specs.Packet.{bundleWith, bundleOf, filling, elementOf, startsWith, packetOf, packet, elements}
 use Rattle.packet.specs.Packet.{bundle, element, treesIn}
-use Rattle.demands.specs.Words.{Begins, none, also}
+use Rattle.demands.specs.Words.{BeginsSame, none, also}
 use Rattle.wire.proofs.Choices.{by-eq, by-le, by-both}
 use Rattle.packet.proofs.Knot.{packet-eq}
 use Rattle.text.proofs.Within.{found-in}
@@ -28,7 +28,7 @@ use Rattle.demands.proofs.Longer.Arguments.{KeptText, KeptArgs, number-
 pub data Grows : Out → Out → Type 0 where
   was-refused : {k : Fault} {o : Out} → Grows (fault k) o
   same-message : {a b used : ℕ} {f : Forest} → Grows (one 47 a b f used) (one 47 a b f used)
-  longer-bundle : {a b used used' : ℕ} {f g : Forest} → Begins f g → Grows (one 35 a b f used) (one 35 a b g used')
+  longer-bundle : {a b used used' : ℕ} {f g : Forest} → BeginsSame f g → Grows (one 35 a b f used) (one 35 a b g used')
 
 after-grows : (n : ℕ) {o o' : Out} → Grows o o' → Grows (after n o) (after n o')
 after-grows n was-refused = was-refused
@@ -89,20 +89,22 @@ module _ (base : ℕ) (more : List ℕ) where
       (λ k. tt))
       (λ h. tt)
 
-  elements-begin : (f : Forest) (l : List ℕ) (p : ℕ) → treesIn (elements base l p) ≡ f → Begins f (treesIn (elements base (l ++ more) p))
+  elements-begin : (f : Forest) (l : List ℕ) (p : ℕ) → treesIn (elements base l p) ≡ f
+      → BeginsSame f (treesIn (elements base (l ++ more) p))
   elements-begin nil l p e = none
   elements-begin (node kind a b inside rest) l p e = by-element (element base l p) refl (element-longer l p)
       (λ m q. elements-begin rest m q)
     where
       by-element : (o : Out) → element base l p ≡ o → Kept o (element base (l ++ more) p)
-          → ((m : List ℕ) (q : ℕ) → treesIn (elements base m q) ≡ rest → Begins rest (treesIn (elements base (m ++ more) q)))
-          → Begins (node kind a b inside rest) (treesIn (elements base (l ++ more) p))
+          → ((m : List ℕ) (q : ℕ) → treesIn (elements base m q) ≡ rest → BeginsSame rest (treesIn (elements base (m ++ more) q)))
+          → BeginsSame (node kind a b inside rest) (treesIn (elements base (l ++ more) p))
       by-element (fault k) x s go = let n : treesIn (elements base l p) ≡ nil = ap treesIn (ended base l p x) in
           let z : _≡_ {A = ℕ} 0 1 = cc in absurd (omega arith)
       by-element (one kind' a' b' inside' n) x s go =
           let w = first-in base l p x in
-          let y : treesIn (elements base l p) ≡ node kind' a' b' inside' (treesIn (elements base (drop (4 + n) l) (p + (4 + n)))) = first-trees base l p x in
-          let er : treesIn (elements base (drop (4 + n) l) (p + (4 + n))) ≡ rest = cc in
+          let later = treesIn (elements base (drop (4 + n) l) (p + (4 + n))) in
+          let y : treesIn (elements base l p) ≡ node kind' a' b' inside' later = first-trees base l p x in
+          let er : later ≡ rest = cc in
           let ek : kind' ≡ kind = cc in
           let ea : a' ≡ a = cc in
           let eb : b' ≡ b = cc in
@@ -110,7 +112,7 @@ module _ (base : ℕ) (more : List ℕ) where
           rw (first-trees base (l ++ more) p s, drop-append-le (4 + n) l more (omega arith), ek, ea, eb, ei)
           (also (go (drop (4 + n) l) (p + (4 + n)) er))
 
-  bundle-with-grows : (a b : ℕ) (x y : Elements) → Begins (treesIn x) (treesIn y) → Grows (bundleWith a b x) (bundleWith a b y)
+  bundle-with-grows : (a b : ℕ) (x y : Elements) → BeginsSame (treesIn x) (treesIn y) → Grows (bundleWith a b x) (bundleWith a b y)
   bundle-with-grows a b (upto f used) (upto g used') w = longer-bundle w
 
   bundle-grows : (l : List ℕ) (p : ℕ) → Grows (bundle base l p) (bundle base (l ++ more) p)
@@ -139,6 +141,7 @@ module _ (base : ℕ) (more : List ℕ) where
       (by-both Grows (eqb (getD l 0 0) 47) (after-grows used (message-grows (base + p) n (drop used l) (p + used)))
       (by-both Grows (same (take n l) bundleWord) (after-grows used (bundle-grows (drop used l) (p + used))) was-refused))
 
+  -- a packet that was read goes on: a message is the same, a bundle begins with the same elements
   pub packet-grows : (l : List ℕ) (p : ℕ) → Grows (packet base l p) (packet base (l ++ more) p)
   unfolding packetOf
   packet-grows l p =

@@ -9,16 +9,16 @@ use lib.Seq.{take-at, drop-at}
 use Rattle.wire.specs.Number.{number, bytes}
 use Rattle.node.specs.Forest.{Forest, nil, node, size}
 use Rattle.node.specs.Records.{recordSize, recordOf, recordsOf, kindAt, aAt, bAt}
-use Rattle.demands.specs.Words.{Begins, none, also, Continues, message, bundle}
+use Rattle.demands.specs.Words.{BeginsSame, none, also, Continues, message, bundle}
 use Rattle.demands.specs.Demands.{TableContinues}
 use Rattle.node.proofs.Recorded.{length-record, length-records}
 
-begins-all : (f : Forest) → Begins f f
+begins-all : (f : Forest) → BeginsSame f f
 begins-all nil = none
 begins-all (node kind a b inside rest) = also (begins-all rest)
 
 -- a row begins with the records of another: so many bytes of it are those records
-begins-records : {f g : Forest} (i : ℕ) (x : List ℕ) → Begins f g → (y : List ℕ) × (recordsOf i g ++ x ≡ recordsOf i f ++ y)
+begins-records : {f g : Forest} (i : ℕ) (x : List ℕ) → BeginsSame f g → (y : List ℕ) × (recordsOf i g ++ x ≡ recordsOf i f ++ y)
 unfolding recordsOf
 begins-records {f} {g} i x none = (recordsOf i g ++ x, refl)
 begins-records i x (also {kind = kind} {a = a} {b = b} {inside = inside} w) =
@@ -33,14 +33,14 @@ after-root kind a b f x =
     ∙ drop-at (recordOf kind (0 + 1 + size f) a b) _ recordSize (length-record kind (0 + 1 + size f) a b)
     ∙ rw append-nil
 
-root-rest : (kind a b : ℕ) {f g : Forest} (x y : List ℕ) (n : ℕ) → n ≡ recordSize * size f → Begins f g
+root-rest : (kind a b : ℕ) {f g : Forest} (x y : List ℕ) (n : ℕ) → n ≡ recordSize * size f → BeginsSame f g
     → take n (drop recordSize (recordsOf 0 (node kind a b g nil) ++ y)) ≡ take n (drop recordSize (recordsOf 0 (node kind a b f nil) ++ x))
 root-rest kind a b {f} {g} x y n e w =
     let r = begins-records 1 y w in
     let l : length (recordsOf 1 f) ≡ n = length-records 1 f ∙ sym e in
     rw (after-root kind a b f x, after-root kind a b g y, r .1) (take-at (recordsOf 1 f) (r .0) n l ∙ sym (take-at (recordsOf 1 f) x n l))
 
-root-continues : (kind a b : ℕ) {f g : Forest} (x y : List ℕ) → Begins f g
+root-continues : (kind a b : ℕ) {f g : Forest} (x y : List ℕ) → BeginsSame f g
     → TableContinues (recordsOf 0 (node kind a b f nil) ++ x) (recordsOf 0 (node kind a b g nil) ++ y) (size (node kind a b f nil))
 unfolding size recordsOf recordOf bytes number kindAt aAt bAt
 root-continues kind a b {f} x y w =
@@ -52,6 +52,7 @@ root-continues kind a b {f} x y w =
           (recordSize * size (node kind a b f nil) - recordSize) (omega arith) w;
     }
 
+-- the records of a tree that goes on: record 0 keeps its numbers, and the others begin with the same ones
 pub table-continues : {f g : Forest} (x y : List ℕ) → Continues f g → TableContinues (recordsOf 0 f ++ x) (recordsOf 0 g ++ y) (size f)
 table-continues x y (message {inside = inside}) = root-continues 47 _ _ x y (begins-all inside)
 table-continues x y (bundle w) = root-continues 35 _ _ x y w

@@ -41,5 +41,6 @@ accept P l n d r =
           (omega (arith, tree-deep P (r .stands))) c;
     }
 
+-- every packet that OSC 1.0 allows, within the limits, is accepted as what it is
 pub osc10-accepted : Osc10Accepted
 osc10-accepted P l h w n d = accept P l n d (packet-read l 0 P w h 0 refl (at-all l) (omega arith))

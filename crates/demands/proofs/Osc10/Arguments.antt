@@ -10,7 +10,7 @@ use Rattle.node.specs.Tags.{sortOf}
 use Rattle.argument.specs.Argument.{argOf}
 use Rattle.arguments.specs.Arguments.{args, later, readArgs}
 use Rattle.argument.specs.declared.Arg.the-variants.{Given}
-use Rattle.demands.specs.Osc10.{Atom, Arguments, end, atom, array, AtomAllowed, ArgumentsAllowed, tagOf, tagsOf, ArgumentsSpell}
+use Rattle.demands.specs.Osc10.{Atom, OscArguments, end, atom, array, AtomAllowed, ArgumentsAllowed, tagOf, tagsOf, ArgumentsSpell}
 use Rattle.demands.specs.Osc10.{no-argument, one-atom, one-array, ArgumentsAre, no-node, leaf, branch}
 use Rattle.arguments.proofs.Kept.{later-none, later-later}
 use Rattle.demands.proofs.Placed.{At, at-front, at-next}
@@ -53,20 +53,21 @@ module _ (base : ℕ) (ts l : List ℕ) (p : ℕ) (frame : Forest) (below : List
   read-atom v h e = rw (atom-sort v h, ← e)
 
 -- data is a multiple of 4 bytes
-arguments-even : {A : Arguments} {d : List ℕ} → ArgumentsSpell A d → length d % 4 ≡ 0
+arguments-even : {A : OscArguments} {d : List ℕ} → ArgumentsSpell A d → length d % 4 ≡ 0
 arguments-even no-argument = refl
 arguments-even (one-atom {x = x} {y = y} w r) = omega (arith, length-append x y, atom-even w, arguments-even r)
 arguments-even (one-array {x = x} {y = y} i r) = omega (arith, length-append x y, arguments-even i, arguments-even r)
 
 -- the tags of A and its data, before other tags and bytes: the frame goes on with a forest that stands for A
-record ArgsRead (s : List ℕ) (base : ℕ) (A : Arguments) (d ts more : List ℕ) (p : ℕ) (frame : Forest) (below : List Forest) : Type 0 where
+record ArgsRead (s : List ℕ) (base : ℕ) (A : OscArguments) (d ts more : List ℕ) (p : ℕ) (frame : Forest) (below : List Forest)
+    : Type 0 where
   forest : Forest
   stands : ArgumentsAre s A forest
   read : readArgs base (tagsOf A ++ ts) (d ++ more) p frame below ≡ later (length d)
       (readArgs base ts more (p + length d) (join frame forest) below)
 
 -- the same after n bytes
-after-bytes : {s : List ℕ} {base : ℕ} {A : Arguments} {d ts more : List ℕ} {p : ℕ} {frame : Forest} {below : List Forest} (n : ℕ)
+after-bytes : {s : List ℕ} {base : ℕ} {A : OscArguments} {d ts more : List ℕ} {p : ℕ} {frame : Forest} {below : List Forest} (n : ℕ)
     (R : ArgsRead s base A d ts more p frame below)
     → later n (readArgs base (tagsOf A ++ ts) (d ++ more) p frame below) ≡ later (n + length d)
     (readArgs base ts more (p + length d) (join frame (R .forest)) below)
@@ -76,7 +77,7 @@ after-bytes n R = ap (later n) (R .read) ∙ later-later n _ (readArgs _ _ _ _ (
 sum : (p : ℕ) (x y : List ℕ) → p + length (x ++ y) ≡ p + length x + length y
 sum p x y = omega (arith, length-append x y)
 
-module _ {s : List ℕ} {base : ℕ} {rest : Arguments} {x y ts more : List ℕ} {p : ℕ} {frame : Forest} {below : List Forest} where
+module _ {s : List ℕ} {base : ℕ} {rest : OscArguments} {x y ts more : List ℕ} {p : ℕ} {frame : Forest} {below : List Forest} where
   -- an argument that is no array, then others
   after-atom : (v : Atom) → AtomAllowed v → (u : AtomRead s base v x (x ++ (y ++ more)) p)
       → ArgsRead s base rest y ts more (p + length x) (snoc frame (tagOf v) (u .a) (u .b) nil) below
@@ -93,7 +94,7 @@ module _ {s : List ℕ} {base : ℕ} {rest : Arguments} {x y ts more : List ℕ}
       }
 
   -- an array, then others
-  after-array : {within : Arguments} (I : ArgsRead s base within x (93 ∷ (tagsOf rest ++ ts)) (y ++ more) p nil (frame ∷ below))
+  after-array : {within : OscArguments} (I : ArgsRead s base within x (93 ∷ (tagsOf rest ++ ts)) (y ++ more) p nil (frame ∷ below))
       → ArgsRead s base rest y ts more (p + length x) (snoc frame 91 0 0 (I .forest)) below
       → ArgsRead s base (array within rest) (x ++ y) ts more p frame below
   unfolding tagsOf
@@ -113,7 +114,7 @@ module _ {s : List ℕ} {base : ℕ} {rest : Arguments} {x y ts more : List ℕ}
       }
 
 module _ (s : List ℕ) (base : ℕ) where
-  args-read : (A : Arguments) {d : List ℕ} → ArgumentsSpell A d → ArgumentsAllowed A
+  args-read : (A : OscArguments) {d : List ℕ} → ArgumentsSpell A d → ArgumentsAllowed A
       → (ts more : List ℕ) (p : ℕ) (frame : Forest) (below : List Forest)
       → p % 4 ≡ 0 → At s (base + p) d → length d < 256 ^ 4 → ArgsRead s base A d ts more p frame below
   unfolding ArgumentsAllowed tagsOf
@@ -133,12 +134,13 @@ module _ (s : List ℕ) (base : ℕ) where
       (omega (arith, arguments-even i)) (at-next base p x y at) (omega arith))
 
   -- the arguments of a message, whole
-  pub record Argued (A : Arguments) (d : List ℕ) (p : ℕ) : Type 0 where
+  pub record Argued (A : OscArguments) (d : List ℕ) (p : ℕ) : Type 0 where
     pub forest : Forest
     pub stands : ArgumentsAre s A forest
     pub read : readArgs base (tagsOf A) d p nil [] ≡ args forest (length d)
 
-  pub arguments-read : (A : Arguments) {d : List ℕ} → ArgumentsSpell A d → ArgumentsAllowed A → (p : ℕ) → p % 4 ≡ 0
+  -- arguments that their bytes spell are read as a forest that stands for them
+  pub arguments-read : (A : OscArguments) {d : List ℕ} → ArgumentsSpell A d → ArgumentsAllowed A → (p : ℕ) → p % 4 ≡ 0
       → At s (base + p) d → length d < 256 ^ 4
       → Argued A d p
   unfolding readArgs

@@ -32,6 +32,7 @@ p3-spelled =
     (record { additional = 1; few = omega arith; spelled = refl; multiple = refl })
     (one-atom as-word no-argument)
 
+-- P3 is accepted
 pub p3-accepted : AcceptedAs p3 p3-bytes
 unfolding deep
 p3-accepted = osc10-accepted p3 p3-bytes p3-allowed p3-spelled (omega arith) (omega arith)
@@ -53,6 +54,7 @@ unfolding bytes
 held-spelled =
     as-bundle (record { additional = 0; few = omega arith; spelled = refl; multiple = refl }) (element refl p3-spelled no-element)
 
+-- so is the bundle that holds it
 pub held-accepted : AcceptedAs held held-bytes
 unfolding deep
 held-accepted = osc10-accepted held held-bytes held-allowed held-spelled (omega arith) (omega arith)

@@ -14,9 +14,9 @@ use Rattle.arguments.specs.Arguments.{args, readArgs}
 use Rattle.packet.specs.Packet.{one, upto, after, messageOf, bundleOf, elementOf, joined, startsWith, packetOf, packet, elements}
 use Rattle.packet.specs.Packet.{elementsAt, element}
 use Rattle.demands.specs.Words.{NoNul}
-use Rattle.demands.specs.Osc10.{Atom, word, long, bare, string, blob, Arguments, atom, array, Packet, message, bundle, Packets}
-use Rattle.demands.specs.Osc10.{none, also, IsText, words, longs, bares, AtomAllowed, ArgumentsAllowed, Allowed, AllAllowed, int32}
-use Rattle.demands.specs.Osc10.{OscString, tagOf, tagsOf, bundleWord, Spells, as-message, as-bundle, ElementsSpell, no-element}
+use Rattle.demands.specs.Osc10.{Atom, word, long, bare, string, blob, OscArguments, atom, array, Packet, message, bundle, Packets}
+use Rattle.demands.specs.Osc10.{none, also, IsText, words, longs, bares, AtomAllowed, ArgumentsAllowed, Allowed, AllAllowed, oscInt32}
+use Rattle.demands.specs.Osc10.{OscString, tagOf, tagsOf, hashBundle, Spells, as-message, as-bundle, ElementsSpell, no-element}
 use Rattle.demands.specs.Osc10.{element as one-element, StandsFor, is-message, is-bundle, StandFor, no-packet}
 use Rattle.demands.specs.Osc10 as osc
 use Rattle.wire.proofs.Numbers.{length-bytes, read-written}
@@ -48,7 +48,7 @@ tag-low (blob content) h = omega arith
 tag-low (osc.char x) h = omega arith
 
 -- so tags before a text are text
-tags-text : (A : Arguments) → ArgumentsAllowed A → (more : List ℕ) → IsText more → IsText (tagsOf A ++ more)
+tags-text : (A : OscArguments) → ArgumentsAllowed A → (more : List ℕ) → IsText more → IsText (tagsOf A ++ more)
 unfolding ArgumentsAllowed tagsOf
 tags-text osc.end h more t = t
 tags-text (atom v rest) h more t = let l = tag-low v (h .0) in ascii-text (l .0) (l .1) (tags-text rest (h .1) more t)
@@ -62,10 +62,10 @@ unfolding NoNul
 no-text = record { non-null = tt; valid = Rattle.utf8.specs.Utf8.none }
 
 -- a comma and the tags
-types-text : (A : Arguments) → ArgumentsAllowed A → IsText (44 ∷ tagsOf A)
+types-text : (A : OscArguments) → ArgumentsAllowed A → IsText (44 ∷ tagsOf A)
 types-text A h = rw append-nil at (ascii-text {x = 44} (omega arith) (omega arith) (tags-text A h [] no-text))
 
-bundle-text : IsText bundleWord
+bundle-text : IsText hashBundle
 bundle-text =
     ascii-text (omega arith) (omega arith)
     (ascii-text (omega arith) (omega arith)
@@ -76,7 +76,7 @@ bundle-text =
     (ascii-text (omega arith) (omega arith) no-text))))))
 
 -- "#bundle" takes 8 bytes
-bundle-eight : {w : List ℕ} → OscString bundleWord w → length w ≡ 8
+bundle-eight : {w : List ℕ} → OscString hashBundle w → length w ≡ 8
 bundle-eight v = omega (arith, string-length v, v .few, v .multiple)
 
 -- ---- what follows the first text
@@ -100,12 +100,12 @@ module _ (base : ℕ) where
     starts-message : getD l 0 0 ≡ 47 → packet base l p ≡ after used (messageOf base (base + p) n (drop used l) (p + used))
     starts-message e = packet-text l p h ∙ rw (← t, eq-eqb (getD l 0 0) 47 e)
 
-    starts-bundle : getD l 0 0 ≡ 35 → take n l ≡ bundleWord
+    starts-bundle : getD l 0 0 ≡ 35 → take n l ≡ hashBundle
         → packet base l p ≡ after used (bundleOf (λ m q. elements base m q) (drop used l) (p + used))
     starts-bundle e b = packet-text l p h ∙ rw (← t, e, b)
 
   -- type tags and data
-  types-read : (offset n : ℕ) (A : Arguments) {t : List ℕ} (d : List ℕ) {F : Forest} → OscString (44 ∷ tagsOf A) t
+  types-read : (offset n : ℕ) (A : OscArguments) {t : List ℕ} (d : List ℕ) {F : Forest} → OscString (44 ∷ tagsOf A) t
       → ArgumentsAllowed A → (p : ℕ) → p % 4 ≡ 0
       → readArgs base (tagsOf A) d (p + length t) nil [] ≡ args F (length d)
       → messageOf base offset n (t ++ d) p ≡ one 47 offset n F (length t + length d)
@@ -116,21 +116,21 @@ module _ (base : ℕ) where
   -- a time tag and elements
   bundle-read : (seconds fractional : ℕ) (es : List ℕ) (p : ℕ) → seconds < 256 ^ 4 → fractional < 256 ^ 4 → {F : Forest} {n : ℕ}
       → elements base es (p + 8) ≡ upto F n
-      → bundleOf (λ m q. elements base m q) (int32 seconds ++ (int32 fractional ++ es)) p ≡ one 35 seconds fractional F (8 + n)
+      → bundleOf (λ m q. elements base m q) (oscInt32 seconds ++ (oscInt32 fractional ++ es)) p ≡ one 35 seconds fractional F (8 + n)
   unfolding bundleOf
   bundle-read x y es p hx hy e =
-      let m = int32 x ++ (int32 y ++ es) in
-      let d4 : drop 4 m ≡ int32 y ++ es = drop-at (int32 x) (int32 y ++ es) 4 (length-bytes 4 x) in
-      let d8 : drop 8 m ≡ es = sym (drop-drop 4 4 m) ∙ ap (drop 4) d4 ∙ drop-at (int32 y) es 4 (length-bytes 4 y) in
+      let m = oscInt32 x ++ (oscInt32 y ++ es) in
+      let d4 : drop 4 m ≡ oscInt32 y ++ es = drop-at (oscInt32 x) (oscInt32 y ++ es) 4 (length-bytes 4 x) in
+      let d8 : drop 8 m ≡ es = sym (drop-drop 4 4 m) ∙ ap (drop 4) d4 ∙ drop-at (oscInt32 y) es 4 (length-bytes 4 y) in
       let h : 8 ≤ length m = simp (length-append, length-bytes) (omega arith) in
-      rw (le-leb 8 (length m) h, read-written 4 x (int32 y ++ es) hx, d4, read-written 4 y es hy, d8, e)
+      rw (le-leb 8 (length m) h, read-written 4 x (oscInt32 y ++ es) hx, d4, read-written 4 y es hy, d8, e)
 
   -- an element before others
   element-read : (c es : List ℕ) (p : ℕ) {k a b u : ℕ} {f : Forest} → length c < 256 ^ 4 → packet base c (p + 4) ≡ one k a b f u
-      → elements base (int32 (length c) ++ (c ++ es)) p ≡ joined k a b f (length c) (elements base es (p + (4 + length c)))
+      → elements base (oscInt32 (length c) ++ (c ++ es)) p ≡ joined k a b f (length c) (elements base es (p + (4 + length c)))
   unfolding element elementOf
   element-read c es p {k} {a} {b} {u} {f} h e =
-      let n = int32 (length c) in
+      let n = oscInt32 (length c) in
       let l = n ++ (c ++ es) in
       let len : length l ≡ 4 + (length c + length es) = simp (length-append, length-bytes) in
       let d4 : drop 4 l ≡ c ++ es = drop-at n (c ++ es) 4 (length-bytes 4 (length c)) in
@@ -165,7 +165,7 @@ record ElementsRead (s : List ℕ) (base : ℕ) (Ps : Packets) (l : List ℕ) (p
 
 module _ (s : List ℕ) (base : ℕ) where
   -- a message, by its arguments
-  message-read : (address : List ℕ) (A : Arguments) {a t d : List ℕ} (p : ℕ) → OscString address a → OscString (44 ∷ tagsOf A) t
+  message-read : (address : List ℕ) (A : OscArguments) {a t d : List ℕ} (p : ℕ) → OscString address a → OscString (44 ∷ tagsOf A) t
       → getD address 0 0 ≡ 47 → IsText address
       → ArgumentsAllowed A → p % 4 ≡ 0 → At s (base + p) (a ++ (t ++ d)) → Argued s base A d (p + length a + length t)
       → PacketRead s base (message address A) (a ++ (t ++ d)) p
@@ -186,12 +186,12 @@ module _ (s : List ℕ) (base : ℕ) where
       }
 
   -- a bundle, by its elements
-  bundled : (seconds fractional : ℕ) {Ps : Packets} {w es : List ℕ} (p : ℕ) → OscString bundleWord w → seconds < 256 ^ 4
+  bundled : (seconds fractional : ℕ) {Ps : Packets} {w es : List ℕ} (p : ℕ) → OscString hashBundle w → seconds < 256 ^ 4
       → fractional < 256 ^ 4 → p % 4 ≡ 0
       → ElementsRead s base Ps es (p + 8 + 8)
-      → PacketRead s base (bundle seconds fractional Ps) (w ++ (int32 seconds ++ (int32 fractional ++ es))) p
+      → PacketRead s base (bundle seconds fractional Ps) (w ++ (oscInt32 seconds ++ (oscInt32 fractional ++ es))) p
   bundled x y {Ps} {w} {es} p v hx hy z F =
-      let m = int32 x ++ (int32 y ++ es) in
+      let m = oscInt32 x ++ (oscInt32 y ++ es) in
       let e : length w ≡ 8 = bundle-eight v in
       let n : length (w ++ m) ≡ length w + (8 + length es) = simp (length-append, length-bytes) (omega arith) in
       let q : elements base es (p + length w + 8) ≡ upto (F .forest) (length es) = rw e (F .read) in
@@ -214,9 +214,9 @@ module _ (s : List ℕ) (base : ℕ) where
   -- elements, by the first and the others
   one-more : {P : Packet} {Ps : Packets} {c es : List ℕ} (p : ℕ) → length c < 256 ^ 4 → PacketRead s base P c (p + 4)
       → ElementsRead s base Ps es (p + (4 + length c))
-      → ElementsRead s base (also P Ps) (int32 (length c) ++ (c ++ es)) p
+      → ElementsRead s base (also P Ps) (oscInt32 (length c) ++ (c ++ es)) p
   one-more {P} {Ps} {c} {es} p h F G =
-      let n : length (int32 (length c) ++ (c ++ es)) ≡ 4 + length c + length es = simp (length-append, length-bytes) (omega arith) in
+      let n : length (oscInt32 (length c) ++ (c ++ es)) ≡ 4 + length c + length es = simp (length-append, length-bytes) (omega arith) in
       record {
         forest = node (F .kind) (F .a) (F .b) (F .inside) (G .forest);
         read = rw n (element-read base c es p h (F .read) ∙ rw (G .read));
@@ -224,18 +224,18 @@ module _ (s : List ℕ) (base : ℕ) where
       }
 
   -- where elements stand
-  at-elements : (x y : ℕ) (w es : List ℕ) (p : ℕ) → length w ≡ 8 → At s (base + p) (w ++ (int32 x ++ (int32 y ++ es)))
+  at-elements : (x y : ℕ) (w es : List ℕ) (p : ℕ) → length w ≡ 8 → At s (base + p) (w ++ (oscInt32 x ++ (oscInt32 y ++ es)))
       → At s (base + (p + 8 + 8)) es
   at-elements x y w es p e at =
-      let h = at-next base (p + length w + length (int32 x)) (int32 y) es
-      (at-next base (p + length w) (int32 x) _ (at-next base p w _ at)) in
+      let h = at-next base (p + length w + length (oscInt32 x)) (oscInt32 y) es
+      (at-next base (p + length w) (oscInt32 x) _ (at-next base p w _ at)) in
       let q : p + 8 + 4 + 4 ≡ p + 8 + 8 = omega arith in
       rw (e, length-bytes 4 x, length-bytes 4 y, q) at h
 
-  at-content : (n : ℕ) (c es : List ℕ) (p : ℕ) → At s (base + p) (int32 n ++ (c ++ es)) → At s (base + (p + 4)) (c ++ es)
-  at-content n c es p at = rw (length-bytes 4 n) at (at-next base p (int32 n) (c ++ es) at)
+  at-content : (n : ℕ) (c es : List ℕ) (p : ℕ) → At s (base + p) (oscInt32 n ++ (c ++ es)) → At s (base + (p + 4)) (c ++ es)
+  at-content n c es p at = rw (length-bytes 4 n) at (at-next base p (oscInt32 n) (c ++ es) at)
 
-  at-rest : (n : ℕ) (c es : List ℕ) (p : ℕ) → At s (base + p) (int32 n ++ (c ++ es)) → At s (base + (p + (4 + length c))) es
+  at-rest : (n : ℕ) (c es : List ℕ) (p : ℕ) → At s (base + p) (oscInt32 n ++ (c ++ es)) → At s (base + (p + (4 + length c))) es
   at-rest n c es p at =
       let q : p + 4 + length c ≡ p + (4 + length c) = omega arith in
       rw q at (at-next base (p + 4) c es (at-content n c es p at))
@@ -244,6 +244,7 @@ module _ (s : List ℕ) (base : ℕ) where
   mutual
     unfolding Allowed AllAllowed
 
+    -- a packet that its bytes spell is read whole, as a node that stands for it
     pub packet-read : (P : Packet) {l : List ℕ} → Spells P l → Allowed P → (p : ℕ) → p % 4 ≡ 0 → At s (base + p) l
         → length l < 256 ^ 4 → PacketRead s base P l p
     packet-read (message address A) (as-message {a = a} {t = t} {d = d} w v r) h p z at low =
@@ -255,15 +256,15 @@ module _ (s : List ℕ) (base : ℕ) where
         (omega arith))
     packet-read (bundle x y Ps) (as-bundle {w = w} {es = es} v r) h p z at low =
         let e : length w ≡ 8 = bundle-eight v in
-        let n = length-append w (int32 x ++ (int32 y ++ es)) in
-        let m : length (int32 x ++ (int32 y ++ es)) ≡ 8 + length es = simp (length-append, length-bytes) (omega arith) in
+        let n = length-append w (oscInt32 x ++ (oscInt32 y ++ es)) in
+        let m : length (oscInt32 x ++ (oscInt32 y ++ es)) ≡ 8 + length es = simp (length-append, length-bytes) (omega arith) in
         bundled x y p v (h .0) (h .1) z (elements-read Ps r (h .2) (p + 8 + 8) (omega arith) (at-elements x y w es p e at) (omega arith))
 
     elements-read : (Ps : Packets) {l : List ℕ} → ElementsSpell Ps l → AllAllowed Ps → (p : ℕ) → p % 4 ≡ 0 → At s (base + p) l
         → length l < 256 ^ 4 → ElementsRead s base Ps l p
     elements-read none no-element h p z at low = no-elements p
     elements-read (also P Ps) (one-element {content = c} {es = es} f w r) h p z at low =
-        let n : length (int32 (length c) ++ (c ++ es)) ≡ 4 + length c + length es = simp (length-append, length-bytes) (omega arith) in
+        let n : length (oscInt32 (length c) ++ (c ++ es)) ≡ 4 + length c + length es = simp (length-append, length-bytes) (omega arith) in
         one-more p (omega arith)
         (packet-read P w (h .0) (p + 4) (omega arith) (at-front c es (at-content (length c) c es p at)) (omega arith))
         (elements-read Ps r (h .1) (p + (4 + length c)) (omega arith) (at-rest (length c) c es p at) (omega arith))

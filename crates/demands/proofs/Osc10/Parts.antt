@@ -16,7 +16,7 @@ use Rattle.text.specs.declared.Text.the-variants.{Found}
 use Rattle.argument.specs.Argument.{argOf}
 use Rattle.argument.specs.declared.Arg.the-variants.{Given}
 use Rattle.demands.specs.Words.{NoNul}
-use Rattle.demands.specs.Osc10.{Atom, IsText, AtomAllowed, int32, OscString, OscBlob, AtomSpells, as-word, as-long, as-bare}
+use Rattle.demands.specs.Osc10.{Atom, IsText, AtomAllowed, oscInt32, OscString, OscBlob, AtomSpells, as-word, as-long, as-bare}
 use Rattle.demands.specs.Osc10.{as-string, as-blob, as-char, FieldsAre, is-word, is-long, is-bare, is-string, is-blob, is-char}
 use Rattle.wire.proofs.Numbers.{length-bytes, read-written}
 use Rattle.text.proofs.Texts.{found}
@@ -36,9 +36,11 @@ module _ {text bs : List ℕ} (w : OscString text bs) where
   string-before : (more : List ℕ) → bs ++ more ≡ text ++ (0 ∷ (replicate (w .additional) 0 ++ more))
   string-before more = rw (w .spelled) (append-assoc text _ more)
 
+  -- an OSC-string has its text, one null and the additional ones
   pub string-length : length bs ≡ length text + 1 + w .additional
   string-length = ap length (w .spelled) ∙ simp (length-append, length-replicate) (omega arith)
 
+  -- it begins with its text
   pub string-take : (more : List ℕ) → take (length text) (bs ++ more) ≡ text
   string-take more = rw string-before (take-at text _ (length text) refl)
 
@@ -73,18 +75,19 @@ pub record AtomRead (s : List ℕ) (base : ℕ) (v : Atom) (bs l : List ℕ) (p 
   pub given : Given a b (length bs) ≡ argOf (classIs v) base l p
   pub fields : FieldsAre s v a b
 
-four-long : (x : ℕ) (more : List ℕ) → 4 ≤ length (int32 x ++ more)
+four-long : (x : ℕ) (more : List ℕ) → 4 ≤ length (oscInt32 x ++ more)
 four-long x more = simp (length-append, length-bytes) (omega arith)
 
 module _ (s : List ℕ) (base : ℕ) where
   -- where a blob's content stands
   blob-at : {content bs : List ℕ} (w : OscBlob content bs) {q : ℕ} → At s q bs → At s (q + 4) content
   blob-at {content} w {q} h =
-      let n = int32 (length content) in
+      let n = oscInt32 (length content) in
       let e : length n ≡ 4 = length-bytes 4 (length content) in
       let back : At s (q + length n) (content ++ replicate (w .additional) 0) = at-back n _ (rw (w .spelled) at h) in
       at-front content _ (rw e at back)
 
+  -- the data of an argument that is no array is read as numbers that stand for it
   pub atom-read : {v : Atom} {bs : List ℕ} → AtomSpells v bs → AtomAllowed v → (more : List ℕ) (p : ℕ) → p % 4 ≡ 0
       → At s (base + p) bs → length bs < 256 ^ 4
       → AtomRead s base v bs (bs ++ more) p
@@ -97,14 +100,15 @@ module _ (s : List ℕ) (base : ℕ) where
         fields = is-word;
       }
   atom-read (as-long {high = x} {low = y}) h more p z at low =
-      let e : (int32 x ++ int32 y) ++ more ≡ int32 x ++ (int32 y ++ more) = append-assoc (int32 x) (int32 y) more in
-      let n : length (int32 x ++ int32 y) ≡ 8 = simp (length-append, length-bytes) in
-      let d : drop 4 (int32 x ++ (int32 y ++ more)) ≡ int32 y ++ more = drop-at (int32 x) (int32 y ++ more) 4 (length-bytes 4 x) in
-      let k : 8 ≤ length (int32 x ++ (int32 y ++ more)) = simp (length-append, length-bytes) (omega arith) in
+      let e : (oscInt32 x ++ oscInt32 y) ++ more ≡ oscInt32 x ++ (oscInt32 y ++ more) = append-assoc (oscInt32 x) (oscInt32 y) more in
+      let n : length (oscInt32 x ++ oscInt32 y) ≡ 8 = simp (length-append, length-bytes) in
+      let d : drop 4 (oscInt32 x ++ (oscInt32 y ++ more)) ≡ oscInt32 y ++ more = drop-at (oscInt32 x) (oscInt32 y ++ more) 4
+      (length-bytes 4 x) in
+      let k : 8 ≤ length (oscInt32 x ++ (oscInt32 y ++ more)) = simp (length-append, length-bytes) (omega arith) in
       record {
         a = x;
         b = y;
-        given = rw (n, e) (eight-given _ base p k (sym (read-written 4 x (int32 y ++ more) (h .1)))
+        given = rw (n, e) (eight-given _ base p k (sym (read-written 4 x (oscInt32 y ++ more) (h .1)))
             (sym (ap (number 4) d ∙ read-written 4 y more (h .2))));
         fields = is-long;
       }
@@ -118,8 +122,8 @@ module _ (s : List ℕ) (base : ℕ) where
       }
   atom-read (as-blob {content = content} {bs = bs} w) h more p z at low =
       let n = length content in
-      let e : bs ++ more ≡ int32 n ++ ((content ++ replicate (w .additional) 0) ++ more) = rw (w .spelled)
-      (append-assoc (int32 n) _ more) in
+      let e : bs ++ more ≡ oscInt32 n ++ ((content ++ replicate (w .additional) 0) ++ more) = rw (w .spelled)
+      (append-assoc (oscInt32 n) _ more) in
       let l : length bs ≡ 4 + n + w .additional = ap length (w .spelled)
       ∙ simp (length-append, length-bytes, length-replicate) (omega arith) in
       let k = length-append bs more in

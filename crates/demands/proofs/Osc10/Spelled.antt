@@ -22,10 +22,11 @@ use Rattle.strings.specs.Atomic.{oscString, oscBlob, argumentOf}
 use Rattle.writers.specs.Osc.{dataOf, messageOf, bundleOf, elementsOf, packetOf}
 use Rattle.writers.specs.Osc as enc
 use Rattle.demands.specs.Words.{Bytes, NoNul, CleanNode, Clean}
-use Rattle.demands.specs.Osc10.{Atom, word, long, bare, string, blob, char, Arguments, end, atom, array, message, bundle, Packets}
+use Rattle.demands.specs.Osc10.{Atom, word, long, bare, string, blob, char, OscArguments, end, atom, array, message, bundle, Packets}
 use Rattle.demands.specs.Osc10.{none, also, IsText, AtomAllowed, ArgumentsAllowed, Allowed, AllAllowed, OscString, OscBlob, tagOf}
 use Rattle.demands.specs.Osc10.{tagsOf, AtomSpells, as-word, as-long, as-bare, as-string, as-blob, as-char, ArgumentsSpell}
-use Rattle.demands.specs.Osc10.{no-argument, one-atom, one-array, as-message, as-bundle, ElementsSpell, no-element, element, Range}
+use Rattle.demands.specs.Osc10.{no-argument, one-atom, one-array, as-message, as-bundle, ElementsSpell, no-element, element}
+use Rattle.demands.specs.Osc10.{RangeHolds}
 use Rattle.demands.specs.Osc10.{FieldsAre, is-word, is-long, is-bare, is-string, is-blob, is-char, ArgumentsAre, no-node, leaf}
 use Rattle.demands.specs.Osc10.{branch, is-message, is-bundle, StandFor, no-packet, packet}
 use Rattle.demands.specs.Standards.{Spelled}
@@ -101,7 +102,7 @@ module _ (source : List ℕ) (small : Bytes source) where
     spells : AtomSpells value (argumentOf class source a b)
 
   text-is : (k a b : ℕ) → among k (47 ∷ 115 ∷ []) ≡ true → rangeOk source k a b ≡ true → NoNul (part source a b)
-      → IsText (part source a b) × Range source a b (part source a b)
+      → IsText (part source a b) × RangeHolds source a b (part source a b)
   unfolding rangeOk
   text-is k a b e g n =
       let w = then-true (inside source a b) (utf8 (part source a b)) (rw e at g) in (
@@ -144,7 +145,7 @@ module _ (source : List ℕ) (small : Bytes source) where
 
   -- arguments: what they are, and that their tags and data spell them
   record ArgsWritten (F : Forest) : Type 0 where
-    arguments : Arguments
+    arguments : OscArguments
     allowed : ArgumentsAllowed arguments
     stands : ArgumentsAre source arguments F
     tags : enc.tagsOf F ≡ tagsOf arguments

@@ -21,6 +21,7 @@ abbrev pub All : (ℕ → Type 0) → List ℕ → Type 0
 All P [] = Unit {0}
 All P (x ∷ xs) = P x × All P xs
 
+-- what holds of each of a list holds of one of them
 pub of-among : (P : ℕ → Type 0) (t : ℕ) (xs : List ℕ) → All P xs → among t xs ≡ true → P t
 of-among P t [] a e = absurd (false≢true e)
 of-among P t (x ∷ xs) a e = go (eqb t x) refl (of-among P t xs (a .1)) e
@@ -81,6 +82,7 @@ HasSort k Opens = k ≡ 91
 HasSort k Closes = k ≡ 93
 HasSort k (Leaf class) = (k ≡ 91 → ⊥) × HasTag k class
 
+-- every kind is of its sort, and its tag one of those that OSC 1.0 lists for its class
 pub has-sort : (k : ℕ) → HasSort k (sortOf k)
 unfolding sortOf
 has-sort k =

@@ -9,11 +9,11 @@ use lib.ListN.{length}
 use Rattle.node.specs.Forest.{Forest, nil, node, size, level, depth}
 use Rattle.table.specs.Formed.{part}
 use Rattle.table.specs.Tree.{FieldsFit}
-use Rattle.demands.specs.Words.{ranged, SameField, Same, both}
+use Rattle.demands.specs.Words.{hasRange, SameField, Same, both}
 use Rattle.demands.specs.Words as words
-use Rattle.demands.specs.Osc10.{Atom, word, long, bare, string, blob, char, Arguments, end, atom, array, Packet, message, bundle}
-use Rattle.demands.specs.Osc10.{Packets, none, also, AtomAllowed, ArgumentsAllowed, Allowed, AllAllowed, deep, deepest, tagOf}
-use Rattle.demands.specs.Osc10.{Range, FieldsAre, is-word, is-long, is-bare, is-string, is-blob, is-char, ArgumentsAre, no-node}
+use Rattle.demands.specs.Osc10.{Atom, word, long, bare, string, blob, char, OscArguments, end, atom, array, Packet, message, bundle}
+use Rattle.demands.specs.Osc10.{Packets, none, also, AtomAllowed, ArgumentsAllowed, Allowed, AllAllowed, deep, deepAll, tagOf}
+use Rattle.demands.specs.Osc10.{RangeHolds, FieldsAre, is-word, is-long, is-bare, is-string, is-blob, is-char, ArgumentsAre, no-node}
 use Rattle.demands.specs.Osc10.{leaf, branch, StandsFor, is-message, is-bundle, StandFor, no-packet, packet}
 use Rattle.demands.specs.Osc10 as osc
 use Rattle.wire.proofs.Parts.{length-part}
@@ -21,7 +21,7 @@ use Rattle.demands.proofs.Osc10.Tags.{of-among, scalar-small}
 
 -- ---- the same tree
 
-range-length : {s : List ℕ} {a b : ℕ} {w : List ℕ} → Range s a b w → b ≡ length w
+range-length : {s : List ℕ} {a b : ℕ} {w : List ℕ} → RangeHolds s a b w → b ≡ length w
 range-length {s} {a} {b} r = sym (length-part s a b (r .lies)) ∙ ap length (r .holds)
 
 -- the fields of two nodes, each over its own source, are the same
@@ -35,26 +35,26 @@ module _ {s s' : List ℕ} where
   same-node w f g = rw (← w .second) (both (w .first) f g)
 
   -- a range, in a node of a kind that has one
-  same-range : {a b a' b' : ℕ} {w : List ℕ} → Range s a b w → Range s' a' b' w → (b ≡ b') × (part s a b ≡ part s' a' b)
+  same-range : {a b a' b' : ℕ} {w : List ℕ} → RangeHolds s a b w → RangeHolds s' a' b' w → (b ≡ b') × (part s a b ≡ part s' a' b)
   same-range {b = b} {b' = b'} {w = w} r r' =
       let e : b ≡ b' = range-length r ∙ sym (range-length r') in
       (e, r .holds ∙ sym (rw (← e) at (r' .holds)))
 
   same-fields : (v : Atom) {a b a' b' : ℕ} → AtomAllowed v → FieldsAre s v a b → FieldsAre s' v a' b' → SameFields s s' (tagOf v) a b a' b'
   same-fields (word tag x) h is-word is-word =
-      let e : ranged tag ≡ false = of-among (λ t. ranged t ≡ false) tag osc.words (refl, (refl, (refl, (refl, tt)))) (h .0) in
+      let e : hasRange tag ≡ false = of-among (λ t. hasRange t ≡ false) tag osc.words (refl, (refl, (refl, (refl, tt)))) (h .0) in
       record { second = refl; first = rw e refl }
   same-fields (long tag x y) h is-long is-long =
-      let e : ranged tag ≡ false = of-among (λ t. ranged t ≡ false) tag osc.longs (refl, (refl, (refl, tt))) (h .0) in
+      let e : hasRange tag ≡ false = of-among (λ t. hasRange t ≡ false) tag osc.longs (refl, (refl, (refl, tt))) (h .0) in
       record { second = refl; first = rw e refl }
   same-fields (bare tag) h is-bare is-bare =
-      let e : ranged tag ≡ false = of-among (λ t. ranged t ≡ false) tag osc.bares (refl, (refl, (refl, (refl, tt)))) h in
+      let e : hasRange tag ≡ false = of-among (λ t. hasRange t ≡ false) tag osc.bares (refl, (refl, (refl, (refl, tt)))) h in
       record { second = refl; first = rw e refl }
   same-fields (string w) h (is-string r) (is-string r') = let e = same-range r r' in record { second = e .0; first = e .1 }
   same-fields (blob w) h (is-blob r) (is-blob r') = let e = same-range r r' in record { second = e .0; first = e .1 }
   same-fields (char x) h is-char is-char = record { second = refl; first = refl }
 
-  same-arguments : (A : Arguments) {F F' : Forest} → ArgumentsAllowed A → ArgumentsAre s A F → ArgumentsAre s' A F' → Same s s' F F'
+  same-arguments : (A : OscArguments) {F F' : Forest} → ArgumentsAllowed A → ArgumentsAre s A F → ArgumentsAre s' A F' → Same s s' F F'
   unfolding ArgumentsAllowed
   same-arguments end h no-node no-node = words.Same.none
   same-arguments (atom v rest) h (leaf x r) (leaf x' r') = same-node (same-fields v (h .0) x x') words.Same.none
@@ -65,6 +65,7 @@ module _ {s s' : List ℕ} where
   mutual
     unfolding Allowed AllAllowed
 
+    -- two trees that stand for one packet, each over its own source, are the same
     pub same-tree : (P : Packet) {k a b k' a' b' : ℕ} {f f' g g' : Forest} → Allowed P → StandsFor s P k a b f
         → StandsFor s' P k' a' b' f' → Same s s' g g'
         → Same s s' (node k a b f g) (node k' a' b' f' g')
@@ -80,6 +81,7 @@ module _ {s s' : List ℕ} where
 
 -- ---- the same tree has the same size
 
+-- the same trees have as many nodes
 pub same-size : {s s' : List ℕ} {F G : Forest} → Same s s' F G → size F ≡ size G
 unfolding size
 same-size words.Same.none = refl
@@ -96,7 +98,7 @@ module _ {s : List ℕ} (low : length s < 256 ^ 4) where
   fields-fit (blob w) h (is-blob r) = omega (arith, r .lies)
   fields-fit (char x) h is-char = (scalar-small x h, omega arith)
 
-  arguments-fit : (A : Arguments) {F : Forest} → ArgumentsAllowed A → ArgumentsAre s A F → FieldsFit F
+  arguments-fit : (A : OscArguments) {F : Forest} → ArgumentsAllowed A → ArgumentsAre s A F → FieldsFit F
   unfolding ArgumentsAllowed FieldsFit
   arguments-fit end h no-node = tt
   arguments-fit (atom v rest) h (leaf x r) = let e = fields-fit v (h .0) x in (e .0, e .1, tt, arguments-fit rest (h .1) r)
@@ -114,6 +116,7 @@ module _ {s : List ℕ} (low : length s < 256 ^ 4) where
     forest-fits none h no-packet = tt
     forest-fits (also P Ps) h (packet {g = g} x r) = tree-fits P g (h .0) x (forest-fits Ps (h .1) r)
 
+  -- the numbers of a tree that stands for a packet fit a record
   pub packet-fits : (P : Packet) {k a b : ℕ} {f : Forest} → Allowed P → StandsFor s P k a b f → FieldsFit (node k a b f nil)
   unfolding FieldsFit
   packet-fits P h x = tree-fits P nil h x tt
@@ -121,12 +124,13 @@ module _ {s : List ℕ} (low : length s < 256 ^ 4) where
 -- ---- a packet's depth is its tree's
 
 mutual
-  unfolding deep deepest depth
+  unfolding deep deepAll depth
 
+  -- the depth of a tree that stands for a packet is the packet's
   pub tree-deep : {s : List ℕ} (P : Packet) {k a b : ℕ} {f : Forest} → StandsFor s P k a b f → level k (depth f) ≡ deep P
   tree-deep (message address A) (is-message r x) = refl
   tree-deep (bundle seconds fractional Ps) (is-bundle x) = ap (λ (n : ℕ). n + 1) (forest-deep Ps x)
 
-  forest-deep : {s : List ℕ} (Ps : Packets) {F : Forest} → StandFor s Ps F → depth F ≡ deepest Ps
+  forest-deep : {s : List ℕ} (Ps : Packets) {F : Forest} → StandFor s Ps F → depth F ≡ deepAll Ps
   forest-deep none no-packet = refl
   forest-deep (also P Ps) (packet x r) = rw (tree-deep P x, forest-deep Ps r)

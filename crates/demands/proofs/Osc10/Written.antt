@@ -1,5 +1,5 @@
 -- What `encode` writes for a table, by its contract, is the bytes of the table's tree, and so a packet that OSC 1.0 allows.
-use mathlib.Core.Path.{_≡_}
+use mathlib.Core.Path.{_≡_, refl}
 use mathlib.Core.List.{List}
 use Prim.Native.Nat.{ℕ, _≤_}
 use native.Mathlib.Omega.{arith}
@@ -10,22 +10,18 @@ use lib.Seq.{take-at}
 use Rattle.node.specs.Forest.{Forest, nil, node, depth}
 use Rattle.table.specs.Tree.{IsTree}
 use Rattle.writers.specs.Osc.{packetOf}
-use Rattle.encoder.specs.Outcome.{Outcome, Encodes, malformed, formed, plain, encoded, write}
+use Rattle.encoder.specs.Outcome.{Outcome, Encodes, formed, plain, encoded, write}
 use Rattle.encoder.specs.declared.Encoded.the-variants.{Written}
 use Rattle.demands.specs.Standards.{Osc10Written}
 use Rattle.wire.proofs.Choices.{by-test}
-use Rattle.table.proofs.Theorem.{tree-formed, tree-unique}
+use Rattle.encoder.proofs.Only.{encode-only}
 use Rattle.demands.proofs.Osc10.Spelled.{packet-is}
 use Rattle.demands.proofs.Trip.Tables.{spans-fit}
 
--- the outcome is that of the table's tree
-pub outcome-is : {frame : ℕ → List ℕ → List ℕ} {t : List ℕ} {count : ℕ} {source out : List ℕ} {r : Outcome} {k a b : ℕ} {inside : Forest}
-    → IsTree t count source k a b inside → Encodes frame t count source out r → r ≡ encoded frame source out k a b inside
-outcome-is w (malformed n e) = absurd (n (tree-formed w))
-outcome-is {t = t} {count = count} {k = k} {a = a} {b = b} {inside = inside} w (formed k' a' b' inside' w' e) =
-    let q : node k' a' b' inside' nil ≡ node k a b inside nil = tree-unique t 0 count (node k' a' b' inside' nil) (node k a b inside nil)
-    (w' .spans) (w .spans) in
-    cc
+-- the outcome of `encode` is that of the table's tree
+pub outcome-is : {t : List ℕ} {count : ℕ} {source out : List ℕ} {r : Outcome} {k a b : ℕ} {inside : Forest}
+    → IsTree t count source k a b inside → Encodes plain t count source out r → r ≡ encoded plain source out k a b inside
+outcome-is w e = encode-only _ _ _ _ _ _ e (formed _ _ _ _ w refl)
 
 -- what is answered as written stands at the front of the output
 abbrev Holds : List ℕ → Outcome → Type 0
@@ -40,13 +36,14 @@ held bs out =
     (λ _ n e. let z : _≡_ {A = ℕ} 0 1 = cc in absurd (omega arith))
 
 module _ (source out : List ℕ) (k a b : ℕ) (inside : Forest) where
+  -- what is answered as written is the packet's bytes, at the front of the output
   pub written-held : Holds (packetOf source k a b inside) (encoded plain source out k a b inside)
   unfolding encoded
   written-held =
       by-test (Holds (packetOf source k a b inside)) (leb (depth (node k a b inside nil)) 64) (λ _. held (packetOf source k a b inside) out)
       (λ _ n e. let z : _≡_ {A = ℕ} 0 1 = cc in absurd (omega arith))
 
-  -- with room it is written
+  -- within the limits, and with room, the packet is written
   pub written-all : depth (node k a b inside nil) ≤ 64 → length (packetOf source k a b inside) ≤ 65535
       → length (packetOf source k a b inside) ≤ length out
       → encoded plain source out k a b inside .answer ≡ Written (length (packetOf source k a b inside))
@@ -55,6 +52,7 @@ module _ (source out : List ℕ) (k a b : ℕ) (inside : Forest) where
       let bs = packetOf source k a b inside in
       rw (le-leb (depth (node k a b inside nil)) 64 d, le-leb (length bs) 65535 n, le-leb (length bs) (length out) h)
 
+-- what `encode` writes for a clean table is a packet that OSC 1.0 allows, and the one that the tree is
 pub osc10-written : Osc10Written
 osc10-written t count source k a b inside small bytes w c out r e n q =
     let q' : encoded plain source out k a b inside .answer ≡ Written n = rw (outcome-is w e) at q in

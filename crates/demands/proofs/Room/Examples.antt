@@ -18,7 +18,7 @@ use Rattle.decoder.specs.Limits.{decoded}
 use Rattle.decoder.specs.declared.Decoded.{Decoded}
 use Rattle.decoder.specs.declared.Decoded.the-variants.{Packets, Refused}
 use Rattle.demands.specs.Words.{NotFull}
-use Rattle.demands.specs.Demands.{answer, Unchanged}
+use Rattle.demands.specs.Demands.{answerTo, Unchanged}
 use Rattle.demands.proofs.Room.MoreRoom.{more-room}
 use Rattle.demands.proofs.Room.RecordsHold.{records-hold-udp}
 
@@ -35,7 +35,7 @@ abbrev pub blank : ℕ → List ℕ
 blank n = replicate (recordSize * n) 0
 
 -- the bundle with one element: two records, depth 1
-pub one-element : answer udp 1 (empty ++ element) (blank 2) ≡ Packets 2 0
+pub one-element : answerTo udp 1 (empty ++ element) (blank 2) ≡ Packets 2 0
 unfolding number size depth snoc classOf sortOf textOf argOf readArgs messageOf bundleOf elementOf elementsOf packetOf packetAt packet udp
     decoded
 one-element = refl

@@ -30,6 +30,7 @@ module _ {capacity capacity' limit limit' : ℕ} (c : capacity ≤ capacity') (d
       (λ g n. rw (decoded, le-leb limit' 64 h, lt-leb (length msg) 65535 g))
       (λ g k n. rw (decoded, le-leb limit' 64 h, le-leb (length msg) 65535 k) (limited-room (rule msg) n))
 
+-- more room, or a higher limit of at most 64, changes no answer but 9 and 10, and none of the records
 pub more-room : MoreRoom
 more-room rule msg limit limit' table table' d h c n =
     let same = decoded-room {limit = limit} {limit' = limit'} c d rule msg h n in

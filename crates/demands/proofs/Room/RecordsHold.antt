@@ -30,11 +30,14 @@ holds rule counts msg limit capacity h =
     omega arith)
     (λ g k. not-ten capacity limit (length msg) (rule msg) h (counts msg))
 
+-- `decode_udp` never answers 10 where there is a record for each byte
 pub records-hold-udp : RecordsHold udp
 records-hold-udp = holds udp udp-in
 
+-- nor does `decode_tcp`
 pub records-hold-tcp : RecordsHold tcp
 records-hold-tcp = holds tcp tcp-in
 
+-- nor does `decode_tcp_vec`
 pub records-hold-vec : RecordsHold tcpVec
 records-hold-vec = holds tcpVec vec-in

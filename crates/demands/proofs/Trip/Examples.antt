@@ -28,10 +28,12 @@ use Rattle.demands.proofs.Trip.RoundTrip.{round-trip}
 
 -- ---- a list of bytes, by one test
 
+-- every element is at most 255
 abbrev pub small : List ℕ → Bool
 small [] = true
 small (x ∷ l) = leb x 255 && small l
 
+-- a list that passes the test is one of bytes
 pub small-bytes : (l : List ℕ) → T (small l) → Bytes l
 small-bytes [] t i = omega arith
 small-bytes (x ∷ l) t zero = omega (arith, leb→le x 255 (and-yes (leb x 255) (small l) t .0))

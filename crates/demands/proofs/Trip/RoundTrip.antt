@@ -15,7 +15,7 @@ use Rattle.writers.specs.Osc.{packetOf}
 use Rattle.encoder.specs.Outcome.{plain, encoded}
 use Rattle.demands.specs.Words.{Same, SameTable}
 use Rattle.demands.specs.Words as words
-use Rattle.demands.specs.Demands.{after, answer, RoundTrip}
+use Rattle.demands.specs.Demands.{tableAfter, answerTo, RoundTrip}
 use Rattle.demands.specs.Standards.{AcceptedAs, Spelled}
 use Rattle.table.proofs.Held.{records-held}
 use Rattle.table.proofs.Theorem.{tree-size}
@@ -27,17 +27,18 @@ use Rattle.demands.proofs.Trip.Tables.{spans-fit, same-table}
 use Rattle.demands.proofs.Osc10.Written.{outcome-is, written-held, written-all}
 
 -- a tree that was read stands in the table
-stands-in : (l table : List ℕ) (F : Forest) → FieldsFit F → size F ≤ 65535 → udp l ≡ trees F 0 → answer udp 64 l table ≡ Packets (size F) 0
-    → Spans (after udp 64 l table) 0 (size F) F
+stands-in : (l table : List ℕ) (F : Forest) → FieldsFit F → size F ≤ 65535 → udp l ≡ trees F 0
+    → answerTo udp 64 l table ≡ Packets (size F) 0
+    → Spans (tableAfter udp 64 l table) 0 (size F) F
 unfolding stored
 stands-in l table F f n e d =
-    let q : after udp 64 l table ≡ recordsOf 0 F ++ drop (recordSize * size F) table = rw (d, e) in
-    records-held (after udp 64 l table) (drop (recordSize * size F) table) 0 (size F) F f (omega arith) (omega arith) q .spans
+    let q : tableAfter udp 64 l table ≡ recordsOf 0 F ++ drop (recordSize * size F) table = rw (d, e) in
+    records-held (tableAfter udp 64 l table) (drop (recordSize * size F) table) 0 (size F) F f (omega arith) (omega arith) q .spans
 
 -- bytes that spell the packet of a table's tree are decoded to a table that holds the same
 record Back (t : List ℕ) (count : ℕ) (source l table : List ℕ) : Type 0 where
-  decodes : answer udp 64 l table ≡ Packets count 0
-  same : SameTable source t l (after udp 64 l table) count
+  decodes : answerTo udp 64 l table ≡ Packets count 0
+  same : SameTable source t l (tableAfter udp 64 l table) count
 
 module _ {t : List ℕ} {count : ℕ} {source : List ℕ} {k a b : ℕ} {inside : Forest} (w : IsTree t count source k a b inside) where
   read-back : (l table : List ℕ) → length l ≤ 65535 → count ≤ length table / recordSize → (S : Spelled source k a b inside l)
@@ -48,11 +49,12 @@ module _ {t : List ℕ} {count : ℕ} {source : List ℕ} {k a b : ℕ} {inside 
       let T = node (A .kind) (A .a) (A .b) (A .inside) nil in
       let same : Same source l F T = same-tree (S .packet) (S .allowed) (S .stands) (A .stands) words.Same.none in
       let n : size T ≡ count = sym (same-size same) ∙ tree-size w in
-      let d : answer udp 64 l table ≡ Packets (size T) 0 = A .decodes (length table / recordSize) (omega arith) in
+      let d : answerTo udp 64 l table ≡ Packets (size T) 0 = A .decodes (length table / recordSize) (omega arith) in
       let f : FieldsFit T = packet-fits (omega arith) (S .packet) (S .allowed) (A .stands) in
       let s = stands-in l table T f (omega (arith, w .few)) (A .read) d in
-      record { decodes = rw n at d; same = same-table t (after udp 64 l table) count same (w .spans) (rw n at s) }
+      record { decodes = rw n at d; same = same-table t (tableAfter udp 64 l table) count same (w .spans) (rw n at s) }
 
+-- what `encode` writes for a playable table decodes to the same table, with nothing left
 pub round-trip : RoundTrip
 unfolding depth
 round-trip t count source k a b inside w out room r e table enough =

@@ -53,6 +53,7 @@ module _ {s s' : List ℕ} (t t' : List ℕ) where
       (λ g. ⊎-elim (λ d. deep (omega arith) d) (λ d. later d h) (lt-or-le i (endAt t lo)))
       (eq-or-lt-of-le l)
 
+  -- two tables whose trees are the same hold the same, record by record
   pub same-table : (count : ℕ) {F F' : Forest} → Same s s' F F' → Spans t 0 count F → Spans t' 0 count F' → SameTable s t s' t' count
   same-table count w x y =
       let at : (i : ℕ) → i < count → SameRecord s t s' t' i = λ i h. same-records 0 count w x y i (omega arith) h in

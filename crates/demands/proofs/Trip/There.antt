@@ -28,12 +28,14 @@ module _ (t : List ℕ) (count : ℕ) (source out : List ℕ) {e : Encoded} {out
   all-written {kind} {a} {b} {inside} p h =
       ap (λ (o : Outcome). o .answer) (outcome-is (p .formed) enc) ∙ written-all source out kind a b inside (p .shallow) (p .fits) h
 
+  -- `encode` with room does not refuse a playable table, so what comes back then is not spoken of
   pub not-refused : {x : Refusal} {r : Decoded} (back back' : List ℕ) → e ≡ Refused x → Returns t count source out back r out' back'
   not-refused back back' q kind a b inside p h room =
       let w = all-written p h in
       let z : _≡_ {A = ℕ} 0 1 = cc in
       absurd (omega arith)
 
+  -- nor does it answer more bytes than the output has
   pub within-output : {n : ℕ} {r : Decoded} (back back' : List ℕ) → e ≡ Written n → length out' ≡ length out → length out' < n
       → Returns t count source out back r out' back'
   within-output {n} back back' q l g kind a b inside p h room =
@@ -41,6 +43,7 @@ module _ (t : List ℕ) (count : ℕ) (source out : List ℕ) {e : Encoded} {out
       let m : n ≡ length (packetOf source kind a b inside) = cc in
       absurd (omega arith)
 
+  -- what was written comes back as the same count and the same table
   pub comes-back : {n : ℕ} (r : Decoded) (back back' : List ℕ) → e ≡ Written n → r ≡ decoded udp (length back / recordSize) 64 (take n out')
       → back' ≡ tabled r (forestOf (udp (take n out'))) back → Returns t count source out back r out' back'
   comes-back {n} r back back' q d s kind a b inside p h room =

@@ -1,25 +1,16 @@
 -- `osc::osc_decode_tcp_vec` meets its contract: the answer fits its bits.
-use mathlib.Core.Path.{ap, sym, _∙_, subst}
 use borrow.Author.Needs.{needs}
-use Rattle.decoder.specs.Framing.{tcpVec}
-use Rattle.decoder.specs.Limits.{forestOf, tabled}
-use Rattle.decoder.specs.declared.Decoded.{Decoded}
-use Rattle.osc.specs.Answers.{Fits, decodedNumber}
-use Rattle.osc.proofs.Fits.{fits-vec}
+use Rattle.osc.proofs.Fits.{fits-vec, decode-told}
 use Rattle.osc.proofs.osc_decode_tcp_vec.Statement.{statement}
 use Rattle.osc.proofs.osc_decode_tcp_vec.Tie as tie
 
 decoded-number-requires : tie.Need-decoded-number-requires
-decoded-number-requires c κs = subst (Fits _) (sym (c .before .before .decode-tcp-vec .ensures .0)) (fits-vec _ _ _)
+decoded-number-requires c κs = fits-vec _ _ _ (c .before .before .decode-tcp-vec .ensures .0)
 
 returns : tie.Need-returns
-returns c = (
-  c .decoded-number .ensures ∙ ap (decodedNumber _) (c .before .before .before .decode-tcp-vec .ensures .0),
-  c .before .before .before .decode-tcp-vec .ensures .1
-      ∙ ap (λ (r : Decoded). tabled r (forestOf (tcpVec (c .before .before .before .before .before .before .before .args .msg .now)))
-      (c .before .before .before .before .before .before .before .args .table .now))
-      (c .before .before .before .decode-tcp-vec .ensures .0),
-)
+returns c =
+    let p3 = c .before .before .before in
+    decode-told (p3 .decode-tcp-vec .ensures .0) (p3 .decode-tcp-vec .ensures .1) (c .decoded-number .ensures)
 
 pub osc-decode-tcp-vec-spec : {M : Type 1} → statement M
 osc-decode-tcp-vec-spec =
