@@ -15,7 +15,7 @@ use Rattle.utf8.specs.Utf8.{Range}
 use Rattle.utf8.specs.Derive.{run, utf8}
 use Rattle.utf8.proofs.Plain.{single}
 use Rattle.text.specs.Text.{untilNul}
-use Rattle.text.specs.Plain.{special, plainOf, Passed}
+use Rattle.text.specs.CodePlain.{special, plainOf, Passed}
 use Rattle.text.proofs.Nuls.{shorter}
 
 -- ---- counted from a place
@@ -87,7 +87,8 @@ counted (b ∷ l) (suc n) h = count-on (special b) (plainOf l) n (plainOf (drop 
 -- a block in which no special byte was met is passed
 pub block : (l : List ℕ) (at n : ℕ) → Passed at l → n ≤ length (drop at l) → ltb (plainOf (drop at l)) n ≡ false → Passed (at + n) l
 block l at n p h e =
-    let k : plainOf (drop at l) ≡ n + plainOf (drop (at + n) l) = rw drop-drop at (counted (drop at l) n (ltb-false (plainOf (drop at l)) n e)) in
+    let k : plainOf (drop at l) ≡ n + plainOf (drop (at + n) l) = rw drop-drop at
+    (counted (drop at l) n (ltb-false (plainOf (drop at l)) n e)) in
     (omega (arith, length-drop at l), omega (arith, p .1, k))
 
 -- ---- a text

@@ -14,7 +14,7 @@ use Rattle.text.specs.Text.{untilNul, reach, readText}
 use Rattle.text.specs.declared.Text.{Text}
 use Rattle.text.specs.declared.Text.the-variants.{Found, Lacks}
 use Rattle.text.specs.declared.Lack.the-variants.{Nul, Padding, Utf8}
-use Rattle.text.specs.Plain.{plainOf}
+use Rattle.text.specs.CodePlain.{plainOf}
 use Rattle.utf8.proofs.Grammar.{octets, same-answer}
 use Rattle.text.proofs.Passing.{nul-after, utf8-after}
 
@@ -37,7 +37,8 @@ pub same-length : {n m used : ℕ} {t : Text} → n ≡ m → Found n used ≡ t
 same-length {used = used} {t} e f = subst (λ (k : ℕ). Found k used ≡ t) e f
 
 -- what `is_utf8` answers of the rest of a text is true of all of it
-pub judged : (l : List ℕ) (p m : ℕ) {r : Bool} → p ≡ plainOf l → Decides r (Octets (take (p + m - p) (drop p l))) → utf8 (take (p + m) l) ≡ r
+pub judged : (l : List ℕ) (p m : ℕ) {r : Bool} → p ≡ plainOf l → Decides r (Octets (take (p + m - p) (drop p l)))
+    → utf8 (take (p + m) l) ≡ r
 judged l p m e d =
     let f : utf8 (take (p + m) l) ≡ utf8 (take m (drop p l)) = rw e (utf8-after l m) in
     f ∙ same-answer (octets (take m (drop p l))) (rw add-sub-cancel-left at d)

@@ -11,7 +11,7 @@ use lib.ListN.{length, drop, getD}
 use lib.Seq.{drop-cons, drop-length}
 use Rattle.utf8.specs.Utf8.{Range, Octets, Decides}
 use Rattle.utf8.specs.Derive.{step, run, utf8}
-use Rattle.utf8.specs.Highest.{highestOf}
+use Rattle.utf8.specs.CodeHighest.{highestOf}
 use Rattle.utf8.proofs.Grammar.{octets}
 use Rattle.utf8.proofs.Same.{same-rows, same-rows→eq}
 use Rattle.utf8.proofs.Table.{at}
