@@ -2,16 +2,15 @@
 use mathlib.Core.Path.{_≡_}
 use mathlib.Core.Bool.{Bool, true, false}
 use mathlib.Core.List.{List, [], _∷_}
-use Prim.Native.Nat.{ℕ, _/_}
-use lib.ListN.{length}
+use Prim.Native.Nat.{ℕ}
 use Rattle.refusal.specs.Refusal.{numberOf}
 use Rattle.refusal.specs.declared.Refusal.{Refusal}
 use Rattle.wire.specs.Pad.{padOf}
 use Rattle.wire.specs.declared.Padded.{Padded}
 use Rattle.wire.specs.declared.Padded.the-variants as padded
 use Rattle.node.specs.Tags.{among}
-use Rattle.node.specs.Records.{recordSize}
-use Rattle.values.specs.Look.{lookAt, textOf}
+use Rattle.node.specs.Records.{capacity}
+use Rattle.values.specs.Look.{lookAt, textNamed}
 use Rattle.values.specs.declared.value.OscType.{OscType}
 use Rattle.values.specs.declared.look.Looked.{Looked}
 use Rattle.values.specs.declared.look.Looked.the-variants as looked
@@ -19,7 +18,7 @@ use Rattle.decoder.specs.Framing.{Whole, udp, tcp, tcpVec}
 use Rattle.decoder.specs.Limits.{decoded, forestOf, tabled}
 use Rattle.decoder.specs.declared.Decoded.{Decoded}
 use Rattle.decoder.specs.declared.Decoded.the-variants as decodes
-use Rattle.encoder.specs.Outcome.{Encodes, plain, prefixed, stringOutcome}
+use Rattle.encoder.specs.Outcome.{Encodes, unframed, prefixed, stringOutcome}
 use Rattle.encoder.specs.declared.Encoded.{Encoded}
 use Rattle.encoder.specs.declared.Encoded.the-variants as encodes
 
@@ -78,7 +77,7 @@ pub record Ending (c : Call) : Type 0 where
 
 -- a decoder's contract, by its rule: the answer, and the table afterwards
 pub record Decodes (rule : List ℕ → Whole) (msg table : List ℕ) (depth : ℕ) (r : Decoded) (after : List ℕ) : Type 0 where
-  pub answered : r ≡ decoded rule (length table / recordSize) depth msg
+  pub answered : r ≡ decoded rule (capacity table) depth msg
   pub left : after ≡ tabled r (forestOf (rule msg)) table
 
 -- the contract of the entry point
@@ -86,12 +85,12 @@ abbrev pub Meets : (c : Call) → Ending c → Type 0
 Meets (decode-udp msg table depth) e = Decodes udp msg table depth (e .answer) (e .lent)
 Meets (decode-tcp msg table depth) e = Decodes tcp msg table depth (e .answer) (e .lent)
 Meets (decode-tcp-vec msg table depth) e = Decodes tcpVec msg table depth (e .answer) (e .lent)
-Meets (encode table count source out) e = Encodes plain table count source out (record { answer = e .answer; out = e .lent })
+Meets (encode table count source out) e = Encodes unframed table count source out (record { answer = e .answer; out = e .lent })
 Meets (encode-tcp table count source out) e = Encodes prefixed table count source out (record { answer = e .answer; out = e .lent })
 Meets (encode-string text out) e = record { answer = e .answer; out = e .lent } ≡ stringOutcome text out
 Meets (pad pos) e = e .answer ≡ padOf pos
 Meets (look table index) e = e .answer ≡ lookAt table index
-Meets (text-of value packet label) e = e .answer ≡ textOf value packet label
+Meets (text-of value packet label) e = e .answer ≡ textNamed value packet label
 
 -- what an answer gives: a result; Waiting; or a refusal, which has its number and nothing else (refusal's `numberOf`)
 pub data Given : Type 0 where

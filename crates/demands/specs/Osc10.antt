@@ -9,10 +9,11 @@ use Prim.Native.Nat.{ℕ, _+_, _%_, _^_, _≤_, _<_, max}
 use lib.ListN.{length, getD, replicate}
 use Rattle.wire.specs.Number.{bytes}
 use Rattle.utf8.specs.Utf8.{Octets}
-use Rattle.node.specs.Tags.{among, isScalar}
+use Rattle.wire.specs.Part.{part}
+use Rattle.node.specs.Tags.{messageKind, bundleKind, arrayKind, among, isScalar}
 use Rattle.node.specs.Forest.{Forest, nil, node}
-use Rattle.table.specs.Formed.{part}
-use Rattle.demands.specs.Words.{Bytes, NoNul}
+use Rattle.node.specs.declared.record.Item.{Item}
+use Rattle.demands.specs.Words.{Bytes, NoNul, slash}
 
 -- ---- the syntax
 
@@ -79,7 +80,7 @@ ArgumentsAllowed (array within rest) = ArgumentsAllowed within × ArgumentsAllow
 -- "An OSC Address Pattern is an OSC-string beginning with the character '/'"; a time tag is 64 bits, as two halves
 unfoldable mutual
   pub Allowed : Packet → Type 0
-  Allowed (message address arguments) = (getD address 0 0 ≡ 47) × IsText address × ArgumentsAllowed arguments
+  Allowed (message address arguments) = (getD address 0 0 ≡ slash) × IsText address × ArgumentsAllowed arguments
   Allowed (bundle seconds fractional elements) = (seconds < 256 ^ 4) × (fractional < 256 ^ 4) × AllAllowed elements
 
   pub AllAllowed : Packets → Type 0
@@ -131,7 +132,7 @@ tagOf (char x) = 99
 unfoldable pub tagsOf : OscArguments → List ℕ
 tagsOf end = []
 tagsOf (atom value rest) = tagOf value ∷ tagsOf rest
-tagsOf (array within rest) = 91 ∷ (tagsOf within ++ (93 ∷ tagsOf rest))
+tagsOf (array within rest) = arrayKind ∷ (tagsOf within ++ (93 ∷ tagsOf rest))
 
 -- the binary representation of an argument that is no array
 pub data AtomSpells : Atom → List ℕ → Type 0 where
@@ -177,33 +178,54 @@ pub record RangeHolds (source : List ℕ) (a b : ℕ) (content : List ℕ) : Typ
   pub lies : a + b ≤ length source
   pub holds : part source a b ≡ content
 
--- the two fields of a node stand for an argument that is no array (document 01, the table of kinds)
-pub data FieldsAre (source : List ℕ) : Atom → (a b : ℕ) → Type 0 where
-  is-word : {tag x : ℕ} → FieldsAre source (word tag x) x 0
-  is-long : {tag high low : ℕ} → FieldsAre source (long tag high low) high low
-  is-bare : {tag : ℕ} → FieldsAre source (bare tag) 0 0
-  is-string : {text : List ℕ} {a b : ℕ} → RangeHolds source a b text → FieldsAre source (string text) a b
-  is-blob : {content : List ℕ} {a b : ℕ} → RangeHolds source a b content → FieldsAre source (blob content) a b
-  is-char : {x : ℕ} → FieldsAre source (char x) x 0
+-- the numbers of a node stand for an argument that is no array (document 01, the table of kinds)
+abbrev pub NumbersAre : List ℕ → Atom → Item → Type 0
+NumbersAre source (word tag x) item = (item .a ≡ x) × (item .b ≡ 0)
+NumbersAre source (long tag high low) item = (item .a ≡ high) × (item .b ≡ low)
+NumbersAre source (bare tag) item = (item .a ≡ 0) × (item .b ≡ 0)
+NumbersAre source (string text) item = RangeHolds source (item .a) (item .b) text
+NumbersAre source (blob content) item = RangeHolds source (item .a) (item .b) content
+NumbersAre source (char x) item = (item .a ≡ x) × (item .b ≡ 0)
+
+-- a node stands for an argument that is no array
+pub record AtomIs (source : List ℕ) (value : Atom) (item : Item) : Type 0 where
+  pub kind : item .kind ≡ tagOf value
+  pub numbers : NumbersAre source value item
+
+-- a node of an array, which has no numbers of its own
+pub record ArrayIs (item : Item) : Type 0 where
+  pub kind : item .kind ≡ arrayKind
+  pub first : item .a ≡ 0
+  pub second : item .b ≡ 0
 
 -- a forest stands for arguments
 pub data ArgumentsAre (source : List ℕ) : OscArguments → Forest → Type 0 where
   no-node : ArgumentsAre source end nil
-  leaf : {value : Atom} {rest : OscArguments} {a b : ℕ} {g : Forest} → FieldsAre source value a b → ArgumentsAre source rest g
-      → ArgumentsAre source (atom value rest) (node (tagOf value) a b nil g)
-  branch : {within rest : OscArguments} {f g : Forest} → ArgumentsAre source within f → ArgumentsAre source rest g
-      → ArgumentsAre source (array within rest) (node 91 0 0 f g)
+  leaf : {value : Atom} {rest : OscArguments} {item : Item} {g : Forest} → AtomIs source value item → ArgumentsAre source rest g
+      → ArgumentsAre source (atom value rest) (node item nil g)
+  branch : {within rest : OscArguments} {item : Item} {f g : Forest} → ArrayIs item → ArgumentsAre source within f
+      → ArgumentsAre source rest g → ArgumentsAre source (array within rest) (node item f g)
+
+-- a node of a message names its address
+pub record MessageIs (source address : List ℕ) (item : Item) : Type 0 where
+  pub kind : item .kind ≡ messageKind
+  pub range : RangeHolds source (item .a) (item .b) address
+
+-- a node of a bundle has its time tag
+pub record BundleIs (seconds fractional : ℕ) (item : Item) : Type 0 where
+  pub kind : item .kind ≡ bundleKind
+  pub first : item .a ≡ seconds
+  pub second : item .b ≡ fractional
 
 -- a node stands for a packet, and a forest for a bundle's elements
 mutual
-  pub data StandsFor (source : List ℕ) : Packet → (kind a b : ℕ) → Forest → Type 0 where
-    is-message : {address : List ℕ} {arguments : OscArguments} {a b : ℕ} {f : Forest} → RangeHolds source a b address
-        → ArgumentsAre source arguments f
-        → StandsFor source (message address arguments) 47 a b f
-    is-bundle : {seconds fractional : ℕ} {elements : Packets} {f : Forest} → StandFor source elements f
-        → StandsFor source (bundle seconds fractional elements) 35 seconds fractional f
+  pub data StandsFor (source : List ℕ) : Packet → Item → Forest → Type 0 where
+    is-message : {address : List ℕ} {arguments : OscArguments} {item : Item} {f : Forest} → MessageIs source address item
+        → ArgumentsAre source arguments f → StandsFor source (message address arguments) item f
+    is-bundle : {seconds fractional : ℕ} {elements : Packets} {item : Item} {f : Forest} → BundleIs seconds fractional item
+        → StandFor source elements f → StandsFor source (bundle seconds fractional elements) item f
 
   pub data StandFor (source : List ℕ) : Packets → Forest → Type 0 where
     no-packet : StandFor source none nil
-    packet : {first : Packet} {rest : Packets} {kind a b : ℕ} {f g : Forest} → StandsFor source first kind a b f → StandFor source rest g
-        → StandFor source (also first rest) (node kind a b f g)
+    packet : {first : Packet} {rest : Packets} {item : Item} {f g : Forest} → StandsFor source first item f → StandFor source rest g
+        → StandFor source (also first rest) (node item f g)

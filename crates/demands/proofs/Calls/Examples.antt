@@ -8,26 +8,27 @@ use Rattle.wire.specs.Number.{number, bytes}
 use Rattle.wire.specs.declared.Padded.the-variants as padded
 use Rattle.node.specs.Forest.{depth}
 use Rattle.node.specs.Tags.{classOf, sortOf}
-use Rattle.packet.specs.Packet.{packetOf, packetAt, packet}
-use Rattle.decoder.specs.Framing.{udp, frameOf, tcp}
+use Rattle.packet.specs.Heads.{prefixOf}
+use Rattle.packet.specs.Packet.{packetAt, readPacket}
+use Rattle.decoder.specs.Framing.{udp, readFrame, tcp}
 use Rattle.decoder.specs.Limits.{decoded}
 use Rattle.decoder.specs.declared.Decoded.the-variants as decodes
 use Rattle.strings.specs.Atomic.{oscString}
 use Rattle.writers.specs.Osc as osc
-use Rattle.encoder.specs.Outcome.{write, encoded, malformed, formed}
+use Rattle.encoder.specs.Outcome.{bytesOutcome, treeOutcome, malformed, formed}
 use Rattle.encoder.specs.declared.Encoded.the-variants as encodes
 use Rattle.demands.specs.Calls.{Meets, decode-udp, decode-tcp, encode, pad}
 use Rattle.table.proofs.Examples as p3
 
 -- P1: no bytes are refused with 2, and any table is as it was
 p1 : (table : List ℕ) → Meets (decode-udp [] table 64) (record { answer = decodes.Refused (Unreadable Empty); lent = table })
-unfolding packetAt packet udp decoded
+unfolding packetAt readPacket udp decoded
 p1 table = record { answered = refl; left = refl }
 
 -- P14: 00000009 2F610000 is not all there
 p14 : (table : List ℕ)
     → Meets (decode-tcp (0 ∷ 0 ∷ 0 ∷ 9 ∷ 0x2F ∷ 0x61 ∷ 0 ∷ 0 ∷ []) table 64) (record { answer = decodes.Waiting; lent = table })
-unfolding number frameOf tcp decoded
+unfolding number prefixOf readFrame tcp decoded
 p14 table = record { answered = refl; left = refl }
 
 -- a table with a wrong end is refused with 11, whatever the output
@@ -39,13 +40,13 @@ eleven : List ℕ
 eleven = 1 ∷ 2 ∷ 3 ∷ 4 ∷ 5 ∷ 6 ∷ 7 ∷ 8 ∷ 9 ∷ 10 ∷ 11 ∷ []
 
 short : Meets (encode (p3.table 2 2) 2 p3.packet eleven) (record { answer = encodes.Refused OutputShort; lent = eleven })
-unfolding eleven bytes depth classOf sortOf oscString osc.dataOf osc.tagsOf osc.messageOf osc.packetOf write encoded
-short = formed 47 0 2 p3.five p3.p3-tree refl
+unfolding eleven bytes depth classOf sortOf oscString osc.writeData osc.writeTags osc.writeMessage osc.writePacket bytesOutcome treeOutcome
+short = formed p3.message p3.five p3.p3-tree refl
 
 written : Meets (encode (p3.table 2 2) 2 p3.packet (eleven ++ (12 ∷ 13 ∷ [])))
     (record { answer = encodes.Written 12; lent = p3.packet ++ (13 ∷ []) })
-unfolding eleven bytes depth classOf sortOf oscString osc.dataOf osc.tagsOf osc.messageOf osc.packetOf write encoded
-written = formed 47 0 2 p3.five p3.p3-tree refl
+unfolding eleven bytes depth classOf sortOf oscString osc.writeData osc.writeTags osc.writeMessage osc.writePacket bytesOutcome treeOutcome
+written = formed p3.message p3.five p3.p3-tree refl
 
 -- 2^64 - 1 has no next multiple of 4
 last : Meets (pad 0xffff_ffff_ffff_ffff) (record { answer = padded.Refused PadOverflow; lent = tt })

@@ -10,19 +10,20 @@ use Rattle.wire.specs.Pad.{padOf}
 use Rattle.utf8.specs.Derive.{utf8}
 use Rattle.node.specs.Forest.{Forest, nil, node, depth}
 use Rattle.node.specs.Tags.{among}
-use Rattle.node.specs.Records.{kindAt, zerosAt, aAt, bAt, capacity}
+use Rattle.node.specs.Records.{zerosAt, capacity}
 use Rattle.node.specs.Rules.{ownRules}
 use Rattle.values.specs.Look.{lookAt}
 use Rattle.values.specs.declared.look.Looked.{Looked}
 use Rattle.wire.specs.declared.Padded.{Padded}
-use Rattle.packet.specs.Packet.{Out, fault, one, packet}
-use Rattle.decoder.specs.Framing.{Whole, trees, waiting, refusal, single, udp, Frame, tree, wait, stop, frameOf, tcp, before, afterFrame}
-use Rattle.decoder.specs.Framing.{framesAt, frames, tcpVec}
+use Rattle.packet.specs.Packet.{Out, fault, one, readPacket}
+use Rattle.decoder.specs.Framing.{Whole, trees, waiting, refusal, single, udp, Frame, wait, read, readFrame, tcp, before, afterFrame}
+use Rattle.decoder.specs.Framing.{framesAt, readFrames, tcpVec}
+use Rattle.decoder.specs.Framing.{Whole, trees, waiting, refusal, single, udp, Frame, wait, read, readFrame, tcp, before, afterFrame}
+use Rattle.decoder.specs.Framing.{framesAt, readFrames, tcpVec}
 use Rattle.decoder.specs.Limits.{limited, decoded}
 use Rattle.decoder.specs.declared.Decoded.{Decoded}
 use Rattle.strings.specs.Atomic.{oscString}
-use Rattle.writers.specs.Osc.{packetOf}
-use Rattle.encoder.specs.Outcome.{Outcome, write, encoded, Encodes, malformed, formed, stringOutcome}
+use Rattle.encoder.specs.Outcome.{Outcome, write, Encodes, malformed, formed, stringOutcome}
 use Rattle.demands.specs.Calls.{decode-udp, decode-tcp, decode-tcp-vec, encode, encode-tcp, encode-string, pad, look, text-of}
 use Rattle.demands.specs.Calls.{byDecoded, byEncoded, byPadded, byLooked, decodeOrder, encodeOrder, numbersOf, Listed}
 use Rattle.demands.specs.Calls.{AnswersListed}
@@ -44,32 +45,32 @@ always (refusal k) = tt
 
 single-never : (n : ℕ) (o : Out) → MayWait false (single n o)
 single-never n (fault k) = tt
-single-never n (one kind a b f used) = tt
+single-never n (one item f used) = tt
 
 udp-never : (msg : List ℕ) → MayWait false (udp msg)
 unfolding udp
-udp-never msg = single-never (length msg) (packet 0 msg 0)
+udp-never msg = single-never (length msg) (readPacket 0 msg 0)
 
-before-never : (kind a b : ℕ) (f : Forest) (w : Whole) → MayWait false w → MayWait false (before kind a b f w)
-before-never kind a b f (trees g left) h = tt
-before-never kind a b f waiting h = h
-before-never kind a b f (refusal k) h = tt
+before-never : (item : Item) (f : Forest) (w : Whole) → MayWait false w → MayWait false (before item f w)
+before-never item f (trees g left) h = tt
+before-never item f waiting h = h
+before-never item f (refusal k) h = tt
 
 after-never : (go : ℕ → List ℕ → Whole) (base : ℕ) (l : List ℕ) (x : Frame) → ((q : ℕ) (m : List ℕ) → MayWait false (go q m))
     → MayWait false (afterFrame go base l x)
-after-never go base l (stop k) h = tt
 after-never go base l wait h = tt
-after-never go base l (tree kind a b f used) h =
+after-never go base l (read (fault k)) h = tt
+after-never go base l (read (one item f used)) h =
     by-le (MayWait false) (length l) used (λ g. tt)
-    (λ g. before-never kind a b f (go (base + used) (drop used l)) (h (base + used) (drop used l)))
+    (λ g. before-never item f (go (base + used) (drop used l)) (h (base + used) (drop used l)))
 
 frames-never : (n base : ℕ) (l : List ℕ) → MayWait false (framesAt n base l)
 unfolding framesAt
 frames-never zero base l = tt
-frames-never (suc n) base l = after-never _ base l (frameOf base l) (λ q m. frames-never n q m)
+frames-never (suc n) base l = after-never _ base l (readFrame base l) (λ q m. frames-never n q m)
 
 vec-never : (msg : List ℕ) → MayWait false (tcpVec msg)
-unfolding tcpVec frames
+unfolding tcpVec readFrames
 vec-never msg = frames-never (suc (length msg)) 0 msg
 
 -- a decoder's answer
@@ -99,19 +100,19 @@ decoded-listed b rule capacity limit msg e h =
 abbrev Encoding : List ℕ → Outcome → Type 0
 Encoding numbers r = Listed numbers false (byEncoded (r .answer))
 
-write-listed : (numbers bs out : List ℕ) → among 1 numbers ≡ true → among 12 numbers ≡ true → Encoding numbers (write bs out)
-unfolding write
+write-listed : (numbers bs out : List ℕ) → among 1 numbers ≡ true → among 12 numbers ≡ true → Encoding numbers (bytesOutcome bs out)
+unfolding bytesOutcome
 write-listed numbers bs out p q =
-    by-le (Encoding numbers) (length bs) 65535 (λ h. by-le (Encoding numbers) (length bs) (length out) (λ k. tt) (λ k. q)) (λ h. p)
+    by-le (Encoding numbers) (length bs) longest (λ h. by-le (Encoding numbers) (length bs) (length out) (λ k. tt) (λ k. q)) (λ h. p)
 
 encodes-listed : {frame : ℕ → List ℕ → List ℕ} {t : List ℕ} {count : ℕ} {source out : List ℕ} {r : Outcome}
     → Encodes frame t count source out r → Encoding encodeOrder r
-unfolding encoded
+unfolding treeOutcome
 encodes-listed (malformed n e) = subst (Encoding encodeOrder) (sym e) refl
-encodes-listed {frame} {source = source} {out = out} (formed kind a b inside w e) =
+encodes-listed {frame} {source = source} {out = out} (formed item inside w e) =
     subst (Encoding encodeOrder) (sym e)
-    (by-le (Encoding encodeOrder) (depth (node kind a b inside nil)) 64
-    (λ h. write-listed encodeOrder (frame kind (packetOf source kind a b inside)) out refl refl) (λ h. refl))
+    (by-le (Encoding encodeOrder) (depth (node item inside nil)) deepest
+    (λ h. write-listed encodeOrder (frame (item .kind) (writePacket source item inside)) out refl refl) (λ h. refl))
 
 string-listed : (text out : List ℕ) → Encoding (numbersOf (encode-string text out)) (stringOutcome text out)
 unfolding stringOutcome
@@ -134,7 +135,7 @@ look-listed : (t : List ℕ) (i : ℕ) → Looking t i (lookAt t i)
 unfolding lookAt
 look-listed t i =
     by-test (Looking t i) (ltb i (capacity t))
-    (λ h. by-test (Looking t i) (eqb (zerosAt t i) 0 && ownRules (kindAt t i) (aAt t i) (bAt t i)) (λ k. tt) (λ k. refl)) (λ h. refl)
+    (λ h. by-test (Looking t i) (eqb (zerosAt t i) 0 && ownRules (itemAt t i)) (λ k. tt) (λ k. refl)) (λ h. refl)
 
 -- ---- every call
 

@@ -5,15 +5,14 @@ use Prim.Native.Nat.{ℕ}
 use lib.ListN.{length}
 use Rattle.utf8.specs.Derive.{utf8}
 use Rattle.wire.specs.Pad.{padOf}
-use Rattle.values.specs.Look.{lookAt, textOf}
+use Rattle.values.specs.Look.{lookAt, textNamed}
 use Rattle.node.specs.Forest.{Forest, nil, node, depth}
 use Rattle.decoder.specs.Framing.{Whole, udp, tcp, tcpVec}
 use Rattle.decoder.specs.Limits.{forestOf, tabled}
 use Rattle.decoder.specs.declared.Decoded.{Decoded}
 use Rattle.decoder.specs.declared.Decoded.the-variants.{Packets, Waiting, Refused}
-use Rattle.encoder.specs.Outcome.{Outcome, write, encoded, Encodes, malformed, formed, plain, prefixed, stringOutcome}
+use Rattle.encoder.specs.Outcome.{Outcome, write, Encodes, malformed, formed, unframed, prefixed, stringOutcome}
 use Rattle.strings.specs.Atomic.{oscString}
-use Rattle.writers.specs.Osc.{packetOf}
 use Rattle.demands.specs.Calls.{Call, decode-udp, decode-tcp, decode-tcp-vec, encode, encode-tcp, encode-string, pad, look, text-of}
 use Rattle.demands.specs.Calls.{Ending, Decodes, Answer, Lent, result, byDecoded, byEncoded, Settled, Met, NothingChanged}
 use Rattle.demands.specs.Demands.{answerTo, tableAfter}
@@ -53,7 +52,7 @@ settled (text-of value packet label) e e' m m' = ending (m ∙ sym m') refl
 encodes-met : (frame : ℕ → List ℕ → List ℕ) (t : List ℕ) (count : ℕ) (source out : List ℕ)
     → ((r : Outcome) → Encodes frame t count source out r → ⊥) → ⊥
 encodes-met frame t count source out n =
-    n _ (malformed (λ w. let x = formed-tree t count source w in n _ (formed _ _ _ (x .0) (x .1) refl)) refl)
+    n _ (malformed (λ w. let x = formed-tree t count source w in n _ (formed _ (x .0) (x .1) refl)) refl)
 
 -- a decoder's own ending
 decodes : (rule : List ℕ → Whole) (msg table : List ℕ) (limit : ℕ)
@@ -65,13 +64,14 @@ pub met : Met
 met (decode-udp msg table limit) n = n _ (decodes udp msg table limit)
 met (decode-tcp msg table limit) n = n _ (decodes tcp msg table limit)
 met (decode-tcp-vec msg table limit) n = n _ (decodes tcpVec msg table limit)
-met (encode table count source out) n = encodes-met plain table count source out (λ r m. n (record { answer = r .answer; lent = r .out }) m)
+met (encode table count source out) n =
+    encodes-met unframed table count source out (λ r m. n (record { answer = r .answer; lent = r .out }) m)
 met (encode-tcp table count source out) n =
     encodes-met prefixed table count source out (λ r m. n (record { answer = r .answer; lent = r .out }) m)
 met (encode-string text out) n = let r = stringOutcome text out in n (record { answer = r .answer; lent = r .out }) refl
 met (pad pos) n = n (record { answer = padOf pos; lent = tt }) refl
 met (look table index) n = n (record { answer = lookAt table index; lent = tt }) refl
-met (text-of value packet label) n = n (record { answer = textOf value packet label; lent = tt }) refl
+met (text-of value packet label) n = n (record { answer = textNamed value packet label; lent = tt }) refl
 
 -- ---- nothing changed
 
@@ -84,20 +84,20 @@ decoded-same (Refused k) f table n = refl
 abbrev Same : List ℕ → Outcome → Type 0
 Same out r = (byEncoded (r .answer) ≡ result → ⊥) → r .out ≡ out
 
-write-same : (bs out : List ℕ) → Same out (write bs out)
-unfolding write
+write-same : (bs out : List ℕ) → Same out (bytesOutcome bs out)
+unfolding bytesOutcome
 write-same bs out =
-    by-le (Same out) (length bs) 65535
+    by-le (Same out) (length bs) longest
     (λ h. by-le (Same out) (length bs) (length out) (λ k n. absurd (n refl)) (λ k n. refl))
     (λ h n. refl)
 
 encodes-same : {frame : ℕ → List ℕ → List ℕ} {t : List ℕ} {count : ℕ} {source out : List ℕ} {r : Outcome}
     → Encodes frame t count source out r → Same out r
-unfolding encoded
+unfolding treeOutcome
 encodes-same {out = out} (malformed n e) = subst (Same out) (sym e) (λ _. refl)
-encodes-same {frame} {source = source} {out = out} (formed kind a b inside w e) =
+encodes-same {frame} {source = source} {out = out} (formed item inside w e) =
     subst (Same out) (sym e)
-    (by-le (Same out) (depth (node kind a b inside nil)) 64 (λ h. write-same (frame kind (packetOf source kind a b inside)) out)
+    (by-le (Same out) (depth (node item inside nil)) deepest (λ h. write-same (frame (item .kind) (writePacket source item inside)) out)
     (λ h n. refl))
 
 string-same : (text out : List ℕ) → Same out (stringOutcome text out)

@@ -6,11 +6,12 @@ use Prim.Native.Nat.{ℕ}
 use Rattle.wire.specs.Number.{number}
 use Rattle.node.specs.Forest.{size, depth, snoc}
 use Rattle.node.specs.Tags.{classOf, sortOf}
-use Rattle.text.specs.Text.{textOf}
-use Rattle.argument.specs.Argument.{argOf}
-use Rattle.arguments.specs.Arguments.{readArgs}
-use Rattle.packet.specs.Packet.{messageOf, packetOf, packetAt, packet}
-use Rattle.decoder.specs.Framing.{udp, frameOf, tcp, framesAt, frames, tcpVec}
+use Rattle.text.specs.Text.{readText}
+use Rattle.argument.specs.Argument.{readArg}
+use Rattle.arguments.specs.Arguments.{readTags}
+use Rattle.packet.specs.Heads.{startOf, prefixOf}
+use Rattle.packet.specs.Packet.{messageItem, readMessage, packetBy, packetAt, readPacket}
+use Rattle.decoder.specs.Framing.{udp, readFrame, tcp, framesAt, readFrames, tcpVec}
 use Rattle.decoder.specs.Limits.{decoded}
 use Rattle.table.specs.Formed.{WellFormed}
 use Rattle.demands.specs.Demands.{tableAfter}
@@ -24,14 +25,16 @@ abbrev framed : List ℕ
 framed = 0 ∷ 0 ∷ 0 ∷ 12 ∷ p3.packet
 
 by-udp : WellFormed (tableAfter udp 64 p3.packet (blank 2)) 2 p3.packet
-unfolding number size depth snoc classOf sortOf textOf argOf readArgs messageOf packetOf packetAt packet udp decoded
-by-udp = encodable-udp p3.packet (small-bytes p3.packet tt) 64 (blank 2) 47 0 2 p3.five 0 2 refl refl
+unfolding number size depth snoc classOf sortOf readText readArg readTags startOf readMessage packetBy packetAt
+    readPacket udp decoded
+by-udp = encodable-udp p3.packet (small-bytes p3.packet tt) 64 (blank 2) p3.message p3.five 0 2 refl refl
 
 by-tcp : WellFormed (tableAfter tcp 64 framed (blank 2)) 2 framed
-unfolding number size depth snoc classOf sortOf textOf argOf readArgs messageOf packetOf packetAt packet frameOf tcp decoded
-by-tcp = encodable-tcp framed (small-bytes framed tt) 64 (blank 2) 47 4 2 p3.five 0 2 refl refl
+unfolding number size depth snoc classOf sortOf readText readArg readTags startOf prefixOf readMessage packetBy packetAt
+    readPacket readFrame tcp decoded
+by-tcp = encodable-tcp framed (small-bytes framed tt) 64 (blank 2) (messageItem 4 2) p3.five 0 2 refl refl
 
 by-vec : WellFormed (tableAfter tcpVec 64 framed (blank 2)) 2 framed
-unfolding number size depth snoc classOf sortOf textOf argOf readArgs messageOf packetOf packetAt packet frameOf framesAt frames tcpVec
-    decoded
-by-vec = encodable-vec framed (small-bytes framed tt) 64 (blank 2) 47 4 2 p3.five 0 2 refl refl
+unfolding number size depth snoc classOf sortOf readText readArg readTags startOf prefixOf readMessage packetBy packetAt
+    readPacket readFrame framesAt readFrames tcpVec decoded
+by-vec = encodable-vec framed (small-bytes framed tt) 64 (blank 2) (messageItem 4 2) p3.five 0 2 refl refl

@@ -6,11 +6,12 @@ use native.Mathlib.Omega.{arith}
 use Rattle.wire.specs.Number.{number}
 use Rattle.node.specs.Forest.{size, depth, snoc}
 use Rattle.node.specs.Tags.{classOf, sortOf}
-use Rattle.text.specs.Text.{textOf}
-use Rattle.argument.specs.Argument.{argOf}
-use Rattle.arguments.specs.Arguments.{readArgs}
-use Rattle.packet.specs.Packet.{messageOf, bundleOf, elementOf, elementsOf, packetOf, packetAt, packet}
-use Rattle.decoder.specs.Framing.{udp, frameOf, tcp}
+use Rattle.text.specs.Text.{readText}
+use Rattle.argument.specs.Argument.{readArg}
+use Rattle.arguments.specs.Arguments.{readTags}
+use Rattle.packet.specs.Heads.{startOf, sizeOf, prefixOf}
+use Rattle.packet.specs.Packet.{readMessage, bundleBy, elementBy, elementsBy, packetBy, packetAt, readPacket}
+use Rattle.decoder.specs.Framing.{udp, readFrame, tcp}
 use Rattle.decoder.specs.Limits.{decoded}
 use Rattle.decoder.specs.declared.Decoded.{Decoded}
 use Rattle.decoder.specs.declared.Decoded.the-variants.{Packets}
@@ -32,8 +33,8 @@ unlimited e =
 -- ---- a bundle with one element gets a second one
 
 two-elements : answerTo udp 1 ((empty ++ element) ++ element) (blank 3) ≡ Packets 3 0
-unfolding number size depth snoc classOf sortOf textOf argOf readArgs messageOf bundleOf elementOf elementsOf packetOf packetAt packet udp
-    decoded
+unfolding number size depth snoc classOf sortOf readText readArg readTags startOf sizeOf readMessage bundleBy elementBy elementsBy packetBy
+    packetAt readPacket udp decoded
 two-elements = refl
 
 grown : GoesOn udp (empty ++ element) element 1 1 (blank 2) (blank 3) 2
@@ -43,13 +44,13 @@ grown =
 -- ---- a message is the same, and the bytes are left over
 
 message : answerTo udp 0 p3.packet (blank 2) ≡ Packets 2 0
-unfolding number size depth snoc classOf sortOf textOf argOf readArgs messageOf bundleOf elementOf elementsOf packetOf packetAt packet udp
-    decoded
+unfolding number size depth snoc classOf sortOf readText readArg readTags startOf sizeOf readMessage bundleBy elementBy elementsBy packetBy
+    packetAt readPacket udp decoded
 message = refl
 
 message-more : answerTo udp 0 (p3.packet ++ element) (blank 2) ≡ Packets 2 12
-unfolding number size depth snoc classOf sortOf textOf argOf readArgs messageOf bundleOf elementOf elementsOf packetOf packetAt packet udp
-    decoded
+unfolding number size depth snoc classOf sortOf readText readArg readTags startOf sizeOf readMessage bundleBy elementBy elementsBy packetBy
+    packetAt readPacket udp decoded
 message-more = refl
 
 kept : GoesOn udp p3.packet element 0 0 (blank 2) (blank 2) 2
@@ -62,13 +63,13 @@ prefix : List ℕ
 prefix = 0 ∷ 0 ∷ 0 ∷ 16 ∷ []
 
 frame : answerTo tcp 1 (prefix ++ empty) (blank 1) ≡ Packets 1 0
-unfolding prefix number size depth snoc classOf sortOf textOf argOf readArgs messageOf bundleOf elementOf elementsOf packetOf packetAt
-    packet frameOf tcp decoded
+unfolding prefix number size depth snoc classOf sortOf readText readArg readTags startOf sizeOf prefixOf readMessage bundleBy elementBy
+    elementsBy packetBy packetAt readPacket readFrame tcp decoded
 frame = refl
 
 next-frame : answerTo tcp 2 ((prefix ++ empty) ++ element) (blank 2) ≡ Packets 2 0
-unfolding prefix number size depth snoc classOf sortOf textOf argOf readArgs messageOf bundleOf elementOf elementsOf packetOf packetAt
-    packet frameOf tcp decoded
+unfolding prefix number size depth snoc classOf sortOf readText readArg readTags startOf sizeOf prefixOf readMessage bundleBy elementBy
+    elementsBy packetBy packetAt readPacket readFrame tcp decoded
 next-frame = refl
 
 taken : GoesOn tcp (prefix ++ empty) element 1 2 (blank 1) (blank 2) 1

@@ -10,17 +10,21 @@ use Rattle.refusal.specs.declared.Fault.{Fault}
 use Rattle.wire.specs.Number.{number}
 use Rattle.node.specs.Forest.{Forest, size}
 use Rattle.node.specs.Records.{recordsOf}
+use Rattle.packet.specs.Heads.{prefixOf}
 use Rattle.packet.specs.Packet.{Out}
-use Rattle.decoder.specs.Framing.{Whole, trees, waiting, refusal, single, udp, framed, frameOf, first, tcp}
+use Rattle.packet.specs.declared.Prefix.{Prefix}
+use Rattle.packet.specs.declared.Prefix.the-variants as prefix
+use Rattle.decoder.specs.Framing.{Whole, trees, waiting, refusal, single, udp, prefixed, readFrame, first, tcp}
 use Rattle.decoder.specs.Limits.{decoded, forestOf}
 use Rattle.decoder.specs.declared.Decoded.the-variants.{Packets}
 use Rattle.demands.specs.Words.{Continues, message, bundle, Unlimited}
 use Rattle.demands.specs.Demands.{answerTo, GoesOn, MoreBytes}
 use Rattle.wire.proofs.Choices.{by-le}
+use Rattle.packet.proofs.Heads.{prefix-in}
 use Rattle.decoder.proofs.Chosen.{by-decoded, by-trees}
 use Rattle.demands.proofs.Answered.{accepted, after-is, after-records}
 use Rattle.demands.proofs.Longer.Arguments.{number-longer}
-use Rattle.demands.proofs.Longer.Packets.{Grows, was-refused, same-message, longer-bundle, packet-grows}
+use Rattle.demands.proofs.Longer.Packets.{Grows, was-refused, same-message, longer-bundle, after-grows, packet-grows}
 use Rattle.demands.proofs.Longer.Tables as tables
 
 -- ---- whole inputs
@@ -33,30 +37,41 @@ data Longer : Whole → Whole → Type 0 where
 
 single-longer : (n n' : ℕ) {o o' : Out} → Grows o o' → Longer (single n o) (single n' o')
 single-longer n n' was-refused = no-tree
-single-longer n n' same-message = goes-on message
-single-longer n n' (longer-bundle w) = goes-on (bundle w)
+single-longer n n' (same-message k) = goes-on (message k)
+single-longer n n' (longer-bundle k w) = goes-on (bundle k w)
 
 udp-longer : (msg more : List ℕ) → Longer (udp msg) (udp (msg ++ more))
 unfolding udp
 udp-longer msg more = single-longer (length msg) (length (msg ++ more)) (packet-grows 0 more msg 0)
 
-first-longer : (n n' : ℕ) {o o' : Out} → Grows o o' → Longer (first n (framed o)) (first n' (framed o'))
-first-longer n n' was-refused = no-tree
-first-longer n n' same-message = goes-on message
-first-longer n n' (longer-bundle w) = goes-on (bundle w)
-
 -- a frame that was whole is whole
-tcp-longer : (msg more : List ℕ) → Longer (tcp msg) (tcp (msg ++ more))
-unfolding tcp frameOf
-tcp-longer msg more =
-    by-le (λ x. Longer (first (length msg) x) (tcp (msg ++ more))) 4 (length msg)
-    (λ h. by-le (λ x. Longer (first (length msg) x) (tcp (msg ++ more))) (number 4 msg) (length msg)
+abbrev KeptPrefix : Prefix → Prefix → Type 0
+KeptPrefix prefix.Ready x = x ≡ prefix.Ready
+KeptPrefix prefix.Waiting x = Unit {0}
+KeptPrefix prefix.RunsOut x = Unit {0}
+
+prefix-longer : (msg more : List ℕ) → KeptPrefix (prefixOf msg) (prefixOf (msg ++ more))
+unfolding prefixOf
+prefix-longer msg more =
+    by-le (λ x. KeptPrefix x (prefixOf (msg ++ more))) 4 (length msg)
+    (λ h. by-le (λ x. KeptPrefix x (prefixOf (msg ++ more))) (number 4 msg) (length msg)
     (λ k. let four = le-leb 4 (length (msg ++ more)) (omega (arith, length-append msg more)) in
     let within = le-leb (number 4 msg) (length (msg ++ more)) (omega (arith, length-append msg more)) in
-    rw (tcp, frameOf, number-longer more 4 msg h, four, within, drop-append-le 4 msg more h)
-    (first-longer (length msg) (length (msg ++ more)) (packet-grows 0 more (drop 4 msg) 4)))
-    (λ k. none-yet))
-    (λ h. no-tree)
+    rw (prefixOf, number-longer more 4 msg h, four, within))
+    (λ k. tt))
+    (λ h. tt)
+
+tcp-longer : (msg more : List ℕ) → Longer (tcp msg) (tcp (msg ++ more))
+unfolding tcp readFrame
+tcp-longer msg more = by-prefix (prefixOf msg) (prefixOf (msg ++ more)) refl (prefix-longer msg more)
+  where
+    by-prefix : (x y : Prefix) → x ≡ prefixOf msg → KeptPrefix x y
+        → Longer (first (length msg) (prefixed 0 msg x)) (first (length (msg ++ more)) (prefixed 0 (msg ++ more) y))
+    by-prefix prefix.Ready y e k =
+        rw (k, drop-append-le 4 msg more (prefix-in msg e))
+        (single-longer (length msg) (length (msg ++ more)) (after-grows 4 (packet-grows 0 more (drop 4 msg) 4)))
+    by-prefix prefix.Waiting y e k = none-yet
+    by-prefix prefix.RunsOut y e k = no-tree
 
 -- ---- answers and tables
 

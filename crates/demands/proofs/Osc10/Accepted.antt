@@ -5,8 +5,10 @@ use Prim.Native.Nat.{ℕ, _-_, _≤_}
 use native.Mathlib.Omega.{arith}
 use borrow.Author.Tests.{le-leb}
 use lib.ListN.{length}
+use Rattle.wire.specs.Limits.{longest, deepest}
 use Rattle.node.specs.Forest.{Forest, nil, node, size, depth}
-use Rattle.packet.specs.Packet.{packet, one}
+use Rattle.node.specs.declared.record.Item.{Item}
+use Rattle.packet.specs.Packet.{readPacket, one}
 use Rattle.decoder.specs.Framing.{trees, udp}
 use Rattle.decoder.specs.Limits.{decoded}
 use Rattle.decoder.specs.declared.Decoded.the-variants as decoder
@@ -17,27 +19,25 @@ use Rattle.demands.proofs.Osc10.Packets.{PacketRead, packet-read}
 use Rattle.demands.proofs.Osc10.Trees.{tree-deep}
 
 -- a tree that is read whole is decoded where there is room
-decode-whole : (l : List ℕ) (capacity : ℕ) (F : Forest) → udp l ≡ trees F 0 → length l ≤ 65535 → depth F ≤ 64 → size F ≤ capacity
-    → decoded udp capacity 64 l ≡ decoder.Packets (size F) 0
+decode-whole : (l : List ℕ) (room : ℕ) (F : Forest) → udp l ≡ trees F 0 → length l ≤ longest → depth F ≤ deepest → size F ≤ room
+    → decoded udp room deepest l ≡ decoder.Packets (size F) 0
 unfolding decoded
-decode-whole l capacity F e n d c = rw (le-leb (length l) 65535 n, e, le-leb (depth F) 64 d, le-leb (size F) capacity c)
+decode-whole l room F e n d c = rw (le-leb (length l) longest n, e, le-leb (depth F) deepest d, le-leb (size F) room c)
 
-whole : (l : List ℕ) {k a b : ℕ} {f : Forest} → packet 0 l 0 ≡ one k a b f (length l) → udp l ≡ trees (node k a b f nil) 0
+whole : (l : List ℕ) {item : Item} {f : Forest} → readPacket 0 l 0 ≡ one item f (length l) → udp l ≡ trees (node item f nil) 0
 unfolding udp
 whole l e = let z : length l - length l ≡ 0 = omega arith in rw (e, z)
 
-accept : (P : Packet) (l : List ℕ) → length l ≤ 65535 → deep P ≤ 64 → PacketRead l 0 P l 0 → AcceptedAs P l
+accept : (P : Packet) (l : List ℕ) → length l ≤ longest → deep P ≤ deepest → PacketRead l 0 P l 0 → AcceptedAs P l
 unfolding depth
 accept P l n d r =
     let e = whole l (r .read) in
     record {
-      kind = r .kind;
-      a = r .a;
-      b = r .b;
+      item = r .item;
       inside = r .inside;
       stands = r .stands;
       read = e;
-      decodes = λ capacity c. decode-whole l capacity (node (r .kind) (r .a) (r .b) (r .inside) nil) e n
+      decodes = λ room c. decode-whole l room (node (r .item) (r .inside) nil) e n
           (omega (arith, tree-deep P (r .stands))) c;
     }
 

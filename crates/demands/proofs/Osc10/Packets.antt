@@ -1,26 +1,29 @@
 -- Packets that OSC 1.0 spells, read: the tree stands for the packet, and nothing is left.
 use mathlib.Core.Path.{_≡_, refl, sym, ap, _∙_}
+use mathlib.Core.Bool.{true}
 use mathlib.Core.List.{List, [], _∷_, _++_, append-assoc, append-nil}
-use Prim.Native.Nat.{ℕ, _+_, _-_, _%_, _^_, _≤_, _<_}
+use Prim.Native.Nat.{ℕ, _+_, _%_, _^_, _≤_, _<_}
 use native.Mathlib.Omega.{arith}
-use borrow.Author.Tests.{le-leb, eq-eqb, ne-eqb}
 use lib.ListN.{length, getD, take, drop, length-append}
 use lib.Seq.{take-at, drop-at, drop-drop}
 use Rattle.utf8.specs.Utf8.{to, here, end, next, char}
+use Rattle.node.specs.Tags.{bundleKind}
 use Rattle.node.specs.Forest.{Forest, nil, node}
-use Rattle.text.specs.Text.{textOf}
-use Rattle.text.specs.declared.Text.the-variants.{Found}
+use Rattle.node.specs.declared.record.Item.{Item}
 use Rattle.arguments.specs.Arguments.{args, readArgs}
-use Rattle.packet.specs.Packet.{one, upto, after, messageOf, bundleOf, elementOf, joined, startsWith, packetOf, packet, elements}
-use Rattle.packet.specs.Packet.{elementsAt, element}
-use Rattle.demands.specs.Words.{NoNul}
+use Rattle.packet.specs.Heads.{bundleWord, sameBytes}
+use Rattle.packet.specs.Packet.{one, upto, messageItem, readMessage, joined, elementsAt, readPacket, readElements, readBundle, readElement}
+use Rattle.demands.specs.Words.{NoNul, slash}
 use Rattle.demands.specs.Osc10.{Atom, word, long, bare, string, blob, OscArguments, atom, array, Packet, message, bundle, Packets}
 use Rattle.demands.specs.Osc10.{none, also, IsText, words, longs, bares, AtomAllowed, ArgumentsAllowed, Allowed, AllAllowed, oscInt32}
 use Rattle.demands.specs.Osc10.{OscString, tagOf, tagsOf, hashBundle, Spells, as-message, as-bundle, ElementsSpell, no-element}
 use Rattle.demands.specs.Osc10.{element as one-element, StandsFor, is-message, is-bundle, StandFor, no-packet}
 use Rattle.demands.specs.Osc10 as osc
 use Rattle.wire.proofs.Numbers.{length-bytes, read-written}
-use Rattle.packet.proofs.Knot.{packet-eq, elements-by}
+use Rattle.packet.proofs.Heads.{start-message, start-bundle, size-holds}
+use Rattle.packet.proofs.Knot.{starts-message, starts-bundle, element-holds, elements-by}
+use Rattle.packet.proofs.Bundles.{bundle-long}
+use Rattle.packet.proofs.Within.{types-found}
 use Rattle.demands.proofs.Placed.{At, at-front, at-next, range-at}
 use Rattle.demands.proofs.Osc10.Parts.{string-length, string-take, string-read}
 use Rattle.demands.proofs.Osc10.Tags.{of-among}
@@ -86,103 +89,86 @@ string-first : {x : ℕ} {text bs : List ℕ} → OscString (x ∷ text) bs → 
 string-first w more = rw (w .spelled)
 
 -- an address begins with '/'
-string-led : {text bs : List ℕ} → OscString text bs → getD text 0 0 ≡ 47 → (more : List ℕ) → getD (bs ++ more) 0 0 ≡ 47
+string-led : {text bs : List ℕ} → OscString text bs → getD text 0 0 ≡ slash → (more : List ℕ) → getD (bs ++ more) 0 0 ≡ slash
 string-led {text = []} w h more = absurd (omega arith)
 string-led {text = x ∷ text} w h more = string-first w more ∙ h
 
 module _ (base : ℕ) where
-  -- the first text decides
-  packet-text : (l : List ℕ) (p : ℕ) → 0 < length l → packet base l p ≡ startsWith base (λ m q. elements base m q) l p (textOf l p)
-  unfolding packetOf
-  packet-text l p h = packet-eq base l p ∙ rw (ne-eqb (length l) 0 (omega arith))
-
-  module _ (l : List ℕ) (p : ℕ) {n used : ℕ} (t : Found n used ≡ textOf l p) (h : 0 < length l) where
-    starts-message : getD l 0 0 ≡ 47 → packet base l p ≡ after used (messageOf base (base + p) n (drop used l) (p + used))
-    starts-message e = packet-text l p h ∙ rw (← t, eq-eqb (getD l 0 0) 47 e)
-
-    starts-bundle : getD l 0 0 ≡ 35 → take n l ≡ hashBundle
-        → packet base l p ≡ after used (bundleOf (λ m q. elements base m q) (drop used l) (p + used))
-    starts-bundle e b = packet-text l p h ∙ rw (← t, e, b)
-
   -- type tags and data
-  types-read : (offset n : ℕ) (A : OscArguments) {t : List ℕ} (d : List ℕ) {F : Forest} → OscString (44 ∷ tagsOf A) t
+  types-read : (item : Item) (A : OscArguments) {t : List ℕ} (d : List ℕ) {F : Forest} → OscString (44 ∷ tagsOf A) t
       → ArgumentsAllowed A → (p : ℕ) → p % 4 ≡ 0
-      → readArgs base (tagsOf A) d (p + length t) nil [] ≡ args F (length d)
-      → messageOf base offset n (t ++ d) p ≡ one 47 offset n F (length t + length d)
-  unfolding messageOf
-  types-read offset n A {t} d w h p z e =
-      rw (← string-read w d p (types-text A h) z, string-take w d, drop-at t d (length t) refl, e)
+      → readArgs base (tagsOf A) d (p + length t) ≡ args F (length d)
+      → readMessage base item (t ++ d) p ≡ one item F (length t + length d)
+  types-read item A {t} d w h p z e =
+      types-found base item (t ++ d) p (string-read w d p (types-text A h) z)
+      ∙ rw (string-take w d, drop-at t d (length t) refl, e)
 
   -- a time tag and elements
   bundle-read : (seconds fractional : ℕ) (es : List ℕ) (p : ℕ) → seconds < 256 ^ 4 → fractional < 256 ^ 4 → {F : Forest} {n : ℕ}
-      → elements base es (p + 8) ≡ upto F n
-      → bundleOf (λ m q. elements base m q) (oscInt32 seconds ++ (oscInt32 fractional ++ es)) p ≡ one 35 seconds fractional F (8 + n)
-  unfolding bundleOf
+      → readElements base es (p + 8) ≡ upto F n
+      → readBundle base (oscInt32 seconds ++ (oscInt32 fractional ++ es)) p
+      ≡ one (record { kind = bundleKind; a = seconds; b = fractional }) F (8 + n)
   bundle-read x y es p hx hy e =
       let m = oscInt32 x ++ (oscInt32 y ++ es) in
       let d4 : drop 4 m ≡ oscInt32 y ++ es = drop-at (oscInt32 x) (oscInt32 y ++ es) 4 (length-bytes 4 x) in
       let d8 : drop 8 m ≡ es = sym (drop-drop 4 4 m) ∙ ap (drop 4) d4 ∙ drop-at (oscInt32 y) es 4 (length-bytes 4 y) in
       let h : 8 ≤ length m = simp (length-append, length-bytes) (omega arith) in
-      rw (le-leb 8 (length m) h, read-written 4 x (oscInt32 y ++ es) hx, d4, read-written 4 y es hy, d8, e)
+      bundle-long base m p h ∙ rw (read-written 4 x (oscInt32 y ++ es) hx, d4, read-written 4 y es hy, d8, e)
 
   -- an element before others
-  element-read : (c es : List ℕ) (p : ℕ) {k a b u : ℕ} {f : Forest} → length c < 256 ^ 4 → packet base c (p + 4) ≡ one k a b f u
-      → elements base (oscInt32 (length c) ++ (c ++ es)) p ≡ joined k a b f (length c) (elements base es (p + (4 + length c)))
-  unfolding element elementOf
-  element-read c es p {k} {a} {b} {u} {f} h e =
+  element-read : (c es : List ℕ) (p : ℕ) {item : Item} {u : ℕ} {f : Forest} → length c < 256 ^ 4 → readPacket base c (p + 4) ≡ one item f u
+      → readElements base (oscInt32 (length c) ++ (c ++ es)) p ≡ joined item f (length c) (readElements base es (p + (4 + length c)))
+  element-read c es p {item} {u} {f} h e =
       let n = oscInt32 (length c) in
       let l = n ++ (c ++ es) in
       let len : length l ≡ 4 + (length c + length es) = simp (length-append, length-bytes) in
       let d4 : drop 4 l ≡ c ++ es = drop-at n (c ++ es) 4 (length-bytes 4 (length c)) in
       let dn : drop (4 + length c) l ≡ es = sym (drop-drop (length c) 4 l) ∙ ap (drop (length c)) d4 ∙ drop-at c es (length c) refl in
-      let one-is : element base l p ≡ one k a b f (length c)
-      = rw (
-        le-leb 4 (length l) (omega arith),
-        read-written 4 (length c) (c ++ es) h,
-        le-leb (length c) (length l - 4) (omega arith),
-        d4,
-        take-at c es (length c) refl,
-        e,
-      ) in
+      let holds = size-holds l (omega arith) (sym (read-written 4 (length c) (c ++ es) h)) (omega arith) in
+      let one-is : readElement base l p ≡ one item f (length c)
+      = element-holds base l p holds ∙ rw (d4, take-at c es (length c) refl, e) in
       elements-by base l p ∙ rw (one-is, dn)
 
 -- ---- packets
 
 -- a packet is read whole, as a node that stands for it
 pub record PacketRead (s : List ℕ) (base : ℕ) (P : Packet) (l : List ℕ) (p : ℕ) : Type 0 where
-  pub kind : ℕ
-  pub a : ℕ
-  pub b : ℕ
+  pub item : Item
   pub inside : Forest
-  pub read : packet base l p ≡ one kind a b inside (length l)
-  pub stands : StandsFor s P kind a b inside
+  pub read : readPacket base l p ≡ one item inside (length l)
+  pub stands : StandsFor s P item inside
 
 -- the elements of a bundle are read whole, as a forest that stands for them
 record ElementsRead (s : List ℕ) (base : ℕ) (Ps : Packets) (l : List ℕ) (p : ℕ) : Type 0 where
   forest : Forest
-  read : elements base l p ≡ upto forest (length l)
+  read : readElements base l p ≡ upto forest (length l)
   stands : StandFor s Ps forest
 
 module _ (s : List ℕ) (base : ℕ) where
   -- a message, by its arguments
   message-read : (address : List ℕ) (A : OscArguments) {a t d : List ℕ} (p : ℕ) → OscString address a → OscString (44 ∷ tagsOf A) t
-      → getD address 0 0 ≡ 47 → IsText address
+      → getD address 0 0 ≡ slash → IsText address
       → ArgumentsAllowed A → p % 4 ≡ 0 → At s (base + p) (a ++ (t ++ d)) → Argued s base A d (p + length a + length t)
       → PacketRead s base (message address A) (a ++ (t ++ d)) p
   message-read address A {a} {t} {d} p w v led valid h z at F =
-      let n : length (a ++ (t ++ d)) ≡ length a + (length t + length d) = simp length-append in
+      let l = a ++ (t ++ d) in
+      let n : length l ≡ length a + (length t + length d) = simp length-append in
       let q : (p + length a) % 4 ≡ 0 = omega (arith, w .multiple) in
+      let some : length l ≡ 0 → ⊥ = λ e. omega (arith, string-length w) in
+      let starts = start-message l p some (string-read w (t ++ d) p valid z) (string-led w led (t ++ d)) in
       record {
-        kind = 47;
-        a = base + p;
-        b = length address;
+        item = messageItem (base + p) (length address);
         inside = F .forest;
         read =
             rw n
-            (starts-message base (a ++ (t ++ d)) p (string-read w (t ++ d) p valid z) (omega (arith, string-length w))
-            (string-led w led (t ++ d))
-            ∙ rw (drop-at a (t ++ d) (length a) refl, types-read base (base + p) (length address) A d v h (p + length a) q (F .read)));
-        stands = is-message (range-at (at-front address _ (rw (w .spelled) at (at-front a (t ++ d) at)))) (F .stands);
+            (starts-message base l p starts
+            ∙ rw (
+              drop-at a (t ++ d) (length a) refl,
+              types-read base (messageItem (base + p) (length address)) A d v h (p + length a) q
+                  (F .read),
+            ));
+        stands = is-message
+            (record { kind = refl; range = range-at (at-front address _ (rw (w .spelled) at (at-front a (t ++ d) at))) }) (F .stands);
       }
 
   -- a bundle, by its elements
@@ -194,21 +180,23 @@ module _ (s : List ℕ) (base : ℕ) where
       let m = oscInt32 x ++ (oscInt32 y ++ es) in
       let e : length w ≡ 8 = bundle-eight v in
       let n : length (w ++ m) ≡ length w + (8 + length es) = simp (length-append, length-bytes) (omega arith) in
-      let q : elements base es (p + length w + 8) ≡ upto (F .forest) (length es) = rw e (F .read) in
+      let q : readElements base es (p + length w + 8) ≡ upto (F .forest) (length es) = rw e (F .read) in
+      let some : length (w ++ m) ≡ 0 → ⊥ = λ z. omega arith in
+      let first : getD (w ++ m) 0 0 ≡ 35 = string-first v m in
+      let same : sameBytes (take (length hashBundle) (w ++ m)) bundleWord ≡ true = rw (string-take v m) in
+      let starts = start-bundle (w ++ m) p some (string-read v m p bundle-text z) (λ z. omega arith) same in
       record {
-        kind = 35;
-        a = x;
-        b = y;
+        item = record { kind = bundleKind; a = x; b = y };
         inside = F .forest;
         read =
             rw n
-            (starts-bundle base (w ++ m) p (string-read v m p bundle-text z) (omega arith) (string-first v m) (string-take v m)
+            (starts-bundle base (w ++ m) p starts
             ∙ rw (drop-at w m (length w) refl, bundle-read base x y es (p + length w) hx hy q));
-        stands = is-bundle (F .stands);
+        stands = is-bundle (record { kind = refl; first = refl; second = refl }) (F .stands);
       }
 
   no-elements : (p : ℕ) → ElementsRead s base none [] p
-  unfolding elements elementsAt
+  unfolding readElements elementsAt
   no-elements p = record { forest = nil; read = refl; stands = no-packet }
 
   -- elements, by the first and the others
@@ -218,7 +206,7 @@ module _ (s : List ℕ) (base : ℕ) where
   one-more {P} {Ps} {c} {es} p h F G =
       let n : length (oscInt32 (length c) ++ (c ++ es)) ≡ 4 + length c + length es = simp (length-append, length-bytes) (omega arith) in
       record {
-        forest = node (F .kind) (F .a) (F .b) (F .inside) (G .forest);
+        forest = node (F .item) (F .inside) (G .forest);
         read = rw n (element-read base c es p h (F .read) ∙ rw (G .read));
         stands = osc.packet (F .stands) (G .stands);
       }

@@ -11,13 +11,14 @@ use Rattle.wire.specs.Number.{number}
 use Rattle.utf8.specs.Utf8.{Octets, Decides}
 use Rattle.utf8.specs.Derive.{utf8}
 use Rattle.utf8.proofs.Grammar.{octets, same-answer}
-use Rattle.text.specs.Text.{untilNul, textOf}
+use Rattle.node.specs.declared.record.Item.{Item}
+use Rattle.text.specs.Text.{untilNul, readText}
 use Rattle.text.specs.declared.Text.the-variants.{Found}
-use Rattle.argument.specs.Argument.{argOf}
+use Rattle.argument.specs.Argument.{argItem, readArg}
 use Rattle.argument.specs.declared.Arg.the-variants.{Given}
 use Rattle.demands.specs.Words.{NoNul}
-use Rattle.demands.specs.Osc10.{Atom, IsText, AtomAllowed, oscInt32, OscString, OscBlob, AtomSpells, as-word, as-long, as-bare}
-use Rattle.demands.specs.Osc10.{as-string, as-blob, as-char, FieldsAre, is-word, is-long, is-bare, is-string, is-blob, is-char}
+use Rattle.demands.specs.Osc10.{Atom, IsText, AtomAllowed, oscInt32, OscString, OscBlob, tagOf, AtomSpells, as-word, as-long}
+use Rattle.demands.specs.Osc10.{as-bare, as-string, as-blob, as-char, AtomIs}
 use Rattle.wire.proofs.Numbers.{length-bytes, read-written}
 use Rattle.text.proofs.Texts.{found}
 use Rattle.argument.proofs.Argued.{four-given, eight-given, scalar-given, text-given, blob-given}
@@ -45,7 +46,7 @@ module _ {text bs : List ℕ} (w : OscString text bs) where
   string-take more = rw string-before (take-at text _ (length text) refl)
 
   -- an OSC-string at a multiple of 4 is found, with its padding
-  pub string-read : (more : List ℕ) (p : ℕ) → IsText text → p % 4 ≡ 0 → Found (length text) (length bs) ≡ textOf (bs ++ more) p
+  pub string-read : (more : List ℕ) (p : ℕ) → IsText text → p % 4 ≡ 0 → Found (length text) (length bs) ≡ readText (bs ++ more) p
   string-read more p t z =
       let n = length text in
       let l = string-length in
@@ -68,12 +69,11 @@ atom-even (as-string w) = w .multiple
 atom-even (as-blob w) = w .multiple
 atom-even as-char = rw length-bytes refl
 
--- its data is read as fields that stand for it
+-- its data is read as a node that stands for it
 pub record AtomRead (s : List ℕ) (base : ℕ) (v : Atom) (bs l : List ℕ) (p : ℕ) : Type 0 where
-  pub a : ℕ
-  pub b : ℕ
-  pub given : Given a b (length bs) ≡ argOf (classIs v) base l p
-  pub fields : FieldsAre s v a b
+  pub item : Item
+  pub given : Given item (length bs) ≡ readArg (tagOf v) (classIs v) base l p
+  pub is : AtomIs s v item
 
 four-long : (x : ℕ) (more : List ℕ) → 4 ≤ length (oscInt32 x ++ more)
 four-long x more = simp (length-append, length-bytes) (omega arith)
@@ -91,34 +91,31 @@ module _ (s : List ℕ) (base : ℕ) where
   pub atom-read : {v : Atom} {bs : List ℕ} → AtomSpells v bs → AtomAllowed v → (more : List ℕ) (p : ℕ) → p % 4 ≡ 0
       → At s (base + p) bs → length bs < 256 ^ 4
       → AtomRead s base v bs (bs ++ more) p
-  unfolding argOf
-  atom-read (as-word {x = x}) h more p z at low =
+  unfolding readArg
+  atom-read (as-word {tag = tag} {x = x}) h more p z at low =
       record {
-        a = x;
-        b = 0;
-        given = rw length-bytes (four-given _ base p (four-long x more) (sym (read-written 4 x more (h .1))));
-        fields = is-word;
+        item = argItem tag x 0;
+        given = rw length-bytes (four-given _ tag base p (four-long x more) (sym (read-written 4 x more (h .1))));
+        is = record { kind = refl; numbers = (refl, refl) };
       }
-  atom-read (as-long {high = x} {low = y}) h more p z at low =
+  atom-read (as-long {tag = tag} {high = x} {low = y}) h more p z at low =
       let e : (oscInt32 x ++ oscInt32 y) ++ more ≡ oscInt32 x ++ (oscInt32 y ++ more) = append-assoc (oscInt32 x) (oscInt32 y) more in
       let n : length (oscInt32 x ++ oscInt32 y) ≡ 8 = simp (length-append, length-bytes) in
-      let d : drop 4 (oscInt32 x ++ (oscInt32 y ++ more)) ≡ oscInt32 y ++ more = drop-at (oscInt32 x) (oscInt32 y ++ more) 4
-      (length-bytes 4 x) in
+      let d : drop 4 (oscInt32 x ++ (oscInt32 y ++ more)) ≡ oscInt32 y ++ more = drop-at (oscInt32 x) _ 4 (length-bytes 4 x) in
       let k : 8 ≤ length (oscInt32 x ++ (oscInt32 y ++ more)) = simp (length-append, length-bytes) (omega arith) in
       record {
-        a = x;
-        b = y;
-        given = rw (n, e) (eight-given _ base p k (sym (read-written 4 x (oscInt32 y ++ more) (h .1)))
+        item = argItem tag x y;
+        given = rw (n, e) (eight-given _ tag base p k (sym (read-written 4 x (oscInt32 y ++ more) (h .1)))
             (sym (ap (number 4) d ∙ read-written 4 y more (h .2))));
-        fields = is-long;
+        is = record { kind = refl; numbers = (refl, refl) };
       }
-  atom-read as-bare h more p z at low = record { a = 0; b = 0; given = refl; fields = is-bare }
+  atom-read (as-bare {tag = tag}) h more p z at low =
+      record { item = argItem tag 0 0; given = refl; is = record { kind = refl; numbers = (refl, refl) } }
   atom-read (as-string {text = text} w) h more p z at low =
       record {
-        a = base + p;
-        b = length text;
-        given = text-given _ base p (string-read w more p h z);
-        fields = is-string (range-at (at-front text _ (rw (w .spelled) at at)));
+        item = argItem 115 (base + p) (length text);
+        given = text-given _ 115 base p (string-read w more p h z);
+        is = record { kind = refl; numbers = range-at (at-front text _ (rw (w .spelled) at at)) };
       }
   atom-read (as-blob {content = content} {bs = bs} w) h more p z at low =
       let n = length content in
@@ -130,16 +127,14 @@ module _ (s : List ℕ) (base : ℕ) where
       let x : n ≡ number 4 (bs ++ more) = rw e (sym (read-written 4 n _ (omega arith))) in
       let r : (p + 4 + n + 3) / 4 * 4 - p ≡ length bs = omega (arith, w .few, w .multiple) in
       record {
-        a = base + p + 4;
-        b = n;
-        given = rw r at (blob-given (bs ++ more) base p (omega arith) x (omega arith));
-        fields = is-blob (range-at (blob-at w at));
+        item = argItem 98 (base + p + 4) n;
+        given = rw r at (blob-given (bs ++ more) 98 base p (omega arith) x (omega arith));
+        is = record { kind = refl; numbers = range-at (blob-at w at) };
       }
   atom-read (as-char {x = x}) h more p z at low =
       record {
-        a = x;
-        b = 0;
+        item = argItem 99 x 0;
         given = rw length-bytes
-            (scalar-given _ base p (four-long x more) (sym (read-written 4 x more (scalar-small x h))) h);
-        fields = is-char;
+            (scalar-given _ 99 base p (four-long x more) (sym (read-written 4 x more (scalar-small x h))) h);
+        is = record { kind = refl; numbers = (refl, refl) };
       }

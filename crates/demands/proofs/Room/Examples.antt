@@ -9,10 +9,11 @@ use Rattle.wire.specs.Number.{number}
 use Rattle.node.specs.Forest.{size, depth, snoc}
 use Rattle.node.specs.Tags.{classOf, sortOf}
 use Rattle.node.specs.Records.{recordSize}
-use Rattle.text.specs.Text.{textOf}
-use Rattle.argument.specs.Argument.{argOf}
-use Rattle.arguments.specs.Arguments.{readArgs}
-use Rattle.packet.specs.Packet.{messageOf, bundleOf, elementOf, elementsOf, packetOf, packetAt, packet}
+use Rattle.text.specs.Text.{readText}
+use Rattle.argument.specs.Argument.{readArg}
+use Rattle.arguments.specs.Arguments.{readTags}
+use Rattle.packet.specs.Heads.{startOf, sizeOf}
+use Rattle.packet.specs.Packet.{readMessage, bundleBy, elementBy, elementsBy, packetBy, packetAt, readPacket}
 use Rattle.decoder.specs.Framing.{udp}
 use Rattle.decoder.specs.Limits.{decoded}
 use Rattle.decoder.specs.declared.Decoded.{Decoded}
@@ -36,8 +37,8 @@ blank n = replicate (recordSize * n) 0
 
 -- the bundle with one element: two records, depth 1
 pub one-element : answerTo udp 1 (empty ++ element) (blank 2) ≡ Packets 2 0
-unfolding number size depth snoc classOf sortOf textOf argOf readArgs messageOf bundleOf elementOf elementsOf packetOf packetAt packet udp
-    decoded
+unfolding number size depth snoc classOf sortOf readText readArg readTags startOf sizeOf readMessage bundleBy elementBy elementsBy packetBy
+    packetAt readPacket udp decoded
 one-element = refl
 
 not-full : {r : Decoded} {count left : ℕ} → r ≡ Packets count left → NotFull r
@@ -49,8 +50,8 @@ higher = more-room udp (empty ++ element) 1 64 (blank 2) (blank 9) (omega arith)
 
 -- one record is not enough, so the bound says something
 full : decoded udp 1 64 (empty ++ element) ≡ Refused TableFull
-unfolding number size depth snoc classOf sortOf textOf argOf readArgs messageOf bundleOf elementOf elementsOf packetOf packetAt packet udp
-    decoded
+unfolding number size depth snoc classOf sortOf readText readArg readTags startOf sizeOf readMessage bundleBy elementBy elementsBy packetBy
+    packetAt readPacket udp decoded
 full = refl
 
 -- 28 bytes, 28 records

@@ -5,6 +5,7 @@ use Prim.Native.Nat.{ℕ, _≤_}
 use native.Mathlib.Omega.{arith}
 use lib.ListN.{length}
 use borrow.Author.Tests.{le-leb, lt-leb}
+use Rattle.wire.specs.Limits.{longest, deepest}
 use Rattle.node.specs.Forest.{size, depth}
 use Rattle.decoder.specs.Framing.{Whole, trees, waiting, refusal}
 use Rattle.decoder.specs.Limits.{limited, decoded}
@@ -22,13 +23,13 @@ module _ {capacity capacity' limit limit' : ℕ} (c : capacity ≤ capacity') (d
       (λ h m. absurd (m .not-9 refl)) (λ h m. absurd (m .not-10 refl))
       (λ h k m. rw (le-leb (depth f) limit' (omega arith), le-leb (size f) capacity' (omega arith))) n
 
-  decoded-room : (rule : List ℕ → Whole) (msg : List ℕ) → limit' ≤ 64 → NotFull (decoded rule capacity limit msg)
+  decoded-room : (rule : List ℕ → Whole) (msg : List ℕ) → limit' ≤ deepest → NotFull (decoded rule capacity limit msg)
       → decoded rule capacity' limit' msg ≡ decoded rule capacity limit msg
   unfolding decoded
   decoded-room rule msg h =
       by-decoded (λ r. NotFull r → decoded rule capacity' limit' msg ≡ r) rule capacity limit msg (λ g n. absurd (omega arith))
-      (λ g n. rw (decoded, le-leb limit' 64 h, lt-leb (length msg) 65535 g))
-      (λ g k n. rw (decoded, le-leb limit' 64 h, le-leb (length msg) 65535 k) (limited-room (rule msg) n))
+      (λ g n. rw (decoded, le-leb limit' deepest h, lt-leb (length msg) longest g))
+      (λ g k n. rw (decoded, le-leb limit' deepest h, le-leb (length msg) longest k) (limited-room (rule msg) n))
 
 -- more room, or a higher limit of at most 64, changes no answer but 9 and 10, and none of the records
 pub more-room : MoreRoom

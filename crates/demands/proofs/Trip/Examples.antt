@@ -3,21 +3,25 @@
 use mathlib.Core.Path.{refl, sym}
 use mathlib.Core.Bool.{Bool, true, _&&_}
 use mathlib.Core.List.{List, [], _∷_, append-nil}
-use Prim.Native.Nat.{ℕ, zero, suc, _/_, _≤_}
+use Prim.Native.Nat.{ℕ, zero, suc, _≤_}
 use native.Mathlib.Omega.{arith}
 use mir.Facts.{and-yes}
 use lib.Dec.{T, leb, leb→le}
 use lib.ListN.{length, take, replicate}
 use Rattle.wire.specs.Number.{bytes}
 use Rattle.node.specs.Forest.{Forest, nil, node, size, depth}
-use Rattle.node.specs.Tags.{classOf, sortOf}
+use Rattle.node.specs.Tags.{bundleKind, classOf, sortOf}
+use Rattle.node.specs.declared.record.Item.{Item}
 use Rattle.node.specs.Rules.{ownRules}
-use Rattle.node.specs.Records.{recordSize, recordOf, recordsOf}
+use Rattle.node.specs.Records.{recordOf, recordsOf, capacity}
+use Rattle.argument.specs.Argument.{argItem}
+use Rattle.arguments.specs.Arguments.{arrayItem}
+use Rattle.packet.specs.Packet.{messageItem}
 use Rattle.table.specs.Formed.{rangeOk, allowed}
 use Rattle.table.specs.Tree.{IsTree, Obeys, FieldsFit}
 use Rattle.strings.specs.Atomic.{oscString}
-use Rattle.writers.specs.Osc.{dataOf, tagsOf, messageOf, bundleOf, elementsOf, packetOf}
-use Rattle.encoder.specs.Outcome.{formed, plain, encoded, write}
+use Rattle.writers.specs.Osc.{writeData, writeTags, writeMessage, writeBundle, writeElements, writePacket}
+use Rattle.encoder.specs.Outcome.{formed, unframed, treeOutcome, bytesOutcome}
 use Rattle.demands.specs.Words.{Bytes, NoNul, CleanNode, Clean}
 use Rattle.demands.specs.Demands.{Playable, PlaysBack}
 use Rattle.demands.specs.Standards.{Spelled}
@@ -41,16 +45,16 @@ small-bytes (x ∷ l) t (suc i) = small-bytes l (and-yes (leb x 255) (small l) t
 
 -- ---- a round trip, with what `encode` does by its contract
 
-plays : {t : List ℕ} {count : ℕ} {source : List ℕ} {k a b : ℕ} {inside : Forest} → Playable t count source k a b inside
+plays : {t : List ℕ} {count : ℕ} {source : List ℕ} {item : Item} {inside : Forest} → Playable t count source item inside
     → (out table : List ℕ)
-    → length (packetOf source k a b inside) ≤ length out → count ≤ length table / recordSize
-    → PlaysBack t count source out (encoded plain source out k a b inside) table
-plays w out table h n = round-trip _ _ _ _ _ _ _ w out h _ (formed _ _ _ _ (w .formed) refl) table n
+    → length (writePacket source item inside) ≤ length out → count ≤ capacity table
+    → PlaysBack t count source out (treeOutcome unframed source out item inside) table
+plays w out table h n = round-trip _ _ _ _ _ w out h _ (formed _ _ (w .formed) refl) table n
 
 -- ---- P3
 
-p3-playable : Playable (p3.table 2 2) 2 p3.packet 47 0 2 p3.five
-unfolding NoNul CleanNode Clean depth bytes oscString dataOf tagsOf messageOf packetOf sortOf classOf
+p3-playable : Playable (p3.table 2 2) 2 p3.packet p3.message p3.five
+unfolding NoNul CleanNode Clean depth bytes oscString writeData writeTags writeMessage writePacket sortOf classOf
 p3-playable =
     record {
       bytes = small-bytes (p3.table 2 2) tt;
@@ -62,8 +66,9 @@ p3-playable =
     }
 
 -- an output of 12 bytes and a table of two records are enough
-p3-plays : PlaysBack (p3.table 2 2) 2 p3.packet (replicate 12 0) (encoded plain p3.packet (replicate 12 0) 47 0 2 p3.five) (replicate 32 0)
-unfolding bytes oscString dataOf tagsOf messageOf packetOf sortOf classOf
+p3-plays : PlaysBack (p3.table 2 2) 2 p3.packet (replicate 12 0) (treeOutcome unframed p3.packet (replicate 12 0) p3.message p3.five)
+    (replicate 32 0)
+unfolding bytes oscString writeData writeTags writeMessage writePacket sortOf classOf
 p3-plays = plays p3-playable (replicate 12 0) (replicate 32 0) (omega arith) (omega arith)
 
 -- ---- a bundle
@@ -74,16 +79,22 @@ source = 0x2F ∷ 0x61 ∷ 0xC3 ∷ 0xA9 ∷ []
 
 -- a message /a with the text é and an array that holds the integer 7
 abbrev inside : Forest
-inside = node 47 0 2 (node 115 2 2 nil (node 91 0 0 (node 105 7 0 nil nil) nil)) nil
+inside =
+    node (messageItem 0 2)
+    (node (argItem 115 2 2) nil (node arrayItem (node (argItem 105 7 0) nil nil) nil)) nil
 
--- the records of the bundle that holds it, to be played at once
+-- the bundle that holds it, to be played at once
+abbrev bundle : Item
+bundle = record { kind = bundleKind; a = 0; b = 1 }
+
+-- its records
 table : List ℕ
-table = recordsOf 0 (node 35 0 1 inside nil)
+table = recordsOf 0 (node bundle inside nil)
 
-bundle-is : IsTree table 5 source 35 0 1 inside
+bundle-is : IsTree table 5 source bundle inside
 unfolding table size FieldsFit Obeys ownRules rangeOk allowed sortOf classOf
 bundle-is =
-    bytes-tree table [] source 35 0 1 inside (sym (append-nil table)) (
+    bytes-tree table [] source bundle inside (sym (append-nil table)) (
       omega arith,
       omega arith,
       (omega arith, omega arith, (omega arith, omega arith, tt, (omega arith, omega arith, (omega arith, omega arith, tt, tt), tt)), tt),
@@ -91,8 +102,9 @@ bundle-is =
     ) (omega arith)
     (refl, refl, refl, (refl, refl, refl, (refl, refl, refl, tt, (refl, refl, refl, (refl, refl, refl, tt, tt), tt)), tt), tt)
 
-bundle-playable : Playable table 5 source 35 0 1 inside
-unfolding table NoNul CleanNode Clean depth bytes recordOf recordsOf size oscString dataOf tagsOf messageOf bundleOf elementsOf packetOf
+bundle-playable : Playable table 5 source bundle inside
+unfolding table NoNul CleanNode Clean depth bytes recordOf recordsOf size oscString writeData writeTags writeMessage writeBundle
+    writeElements writePacket
     sortOf classOf
 bundle-playable =
     record {
@@ -112,14 +124,15 @@ bundle-playable =
       fits = omega arith;
     }
 
-bundle-plays : PlaysBack table 5 source (replicate 40 0) (encoded plain source (replicate 40 0) 35 0 1 inside) (replicate 80 0)
-unfolding bytes oscString dataOf tagsOf messageOf bundleOf elementsOf packetOf sortOf classOf
+bundle-plays : PlaysBack table 5 source (replicate 40 0) (treeOutcome unframed source (replicate 40 0) bundle inside) (replicate 80 0)
+unfolding bytes oscString writeData writeTags writeMessage writeBundle writeElements writePacket sortOf classOf
 bundle-plays = plays bundle-playable (replicate 40 0) (replicate 80 0) (omega arith) (omega arith)
 
 -- ---- what is written is an OSC 1.0 packet
 
-bundle-written : Spelled source 35 0 1 inside (take 40 (encoded plain source (replicate 40 0) 35 0 1 inside .out))
-unfolding depth bytes oscString dataOf tagsOf messageOf bundleOf elementsOf packetOf sortOf classOf encoded write
+bundle-written : Spelled source bundle inside (take 40 (treeOutcome unframed source (replicate 40 0) bundle inside .out))
+unfolding depth bytes oscString writeData writeTags writeMessage writeBundle writeElements writePacket sortOf classOf treeOutcome
+    bytesOutcome
 bundle-written =
-    osc10-written table 5 source 35 0 1 inside (bundle-playable .bytes) (bundle-playable .sourced) bundle-is (bundle-playable .clean)
-    (replicate 40 0) _ (formed 35 0 1 inside bundle-is refl) 40 refl
+    osc10-written table 5 source bundle inside (bundle-playable .bytes) (bundle-playable .sourced) bundle-is (bundle-playable .clean)
+    (replicate 40 0) _ (formed bundle inside bundle-is refl) 40 refl
