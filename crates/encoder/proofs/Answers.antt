@@ -28,32 +28,32 @@ use Rattle.table.proofs.Spanned.{spans-size, spans-unique}
 use Rattle.table.proofs.Grown.{tiles-le}
 use Rattle.table.proofs.Theorem.{formed-tree}
 use Rattle.strings.specs.Atomic.{oscString}
-use Rattle.writers.specs.Osc.{elementOf}
-use Rattle.encoder.specs.Outcome.{Outcome, refuse, write, plain, prefixed, encoded, Encodes, malformed, formed, stringOutcome}
-use Rattle.writers.specs.Writers.{Fills, packetAt, Ready}
-use Rattle.survey.specs.Measure.{sumTo, elementLength, Measured}
-use Rattle.survey.specs.Survey.{Surveyed}
-use Rattle.encoder.specs.Prepare.{Sized, Prepares}
-use Rattle.encoder.specs.Prepare as prepare
+use Rattle.writers.specs.Osc.{writeElement}
+use Rattle.encoder.specs.Outcome.{Outcome, refuse, bytesOutcome, unframed, prefixed, treeOutcome, Encodes, malformed, formed, stringOutcome}
+use Rattle.writers.specs.InnerWriters.{WritesRow, packetAt, Ready}
+use Rattle.lengths.specs.InnerLengths.{sumTo, elementLength, LengthOrOver}
+use Rattle.survey.specs.InnerSurvey.{Surveyed}
+use Rattle.encoder.specs.InnerPrepare.{Writable, Prepares}
+use Rattle.encoder.specs.InnerPrepare as prepare
 use Rattle.encoder.specs.declared.Encoded.the-variants.{Written}
 use Rattle.encoder.specs.declared.Prepared.{Prepared}
 use Rattle.encoder.specs.declared.Prepared.the-variants.{Length, Refused}
-use Rattle.survey.proofs.Sums.{packet-sum}
+use Rattle.lengths.proofs.Sums.{packet-sum}
 
 -- ---- the limit and the output's length
 
 module _ (bs out : List ℕ) where
-  pub write-long : 65535 < length bs → refuse TooLong out ≡ write bs out
-  unfolding write
+  pub write-long : 65535 < length bs → refuse TooLong out ≡ bytesOutcome bs out
+  unfolding bytesOutcome
   write-long h = rw (lt-leb (length bs) 65535 h)
 
-  pub write-short : length bs ≤ 65535 → length out < length bs → refuse OutputShort out ≡ write bs out
-  unfolding write
+  pub write-short : length bs ≤ 65535 → length out < length bs → refuse OutputShort out ≡ bytesOutcome bs out
+  unfolding bytesOutcome
   write-short l h = rw (le-leb (length bs) 65535 l, lt-leb (length bs) (length out) h)
 
   pub written : {o : List ℕ} {n : ℕ} → length bs ≤ 65535 → Filled bs out o n
-      → _≡_ {A = Outcome} (record { answer = Written n; out = o }) (write bs out)
-  unfolding write
+      → _≡_ {A = Outcome} (record { answer = Written n; out = o }) (bytesOutcome bs out)
+  unfolding bytesOutcome
   written l f = rw (le-leb (length bs) 65535 l, le-leb (length bs) (length out) (f .wrote .room), f .count, f .wrote .left)
 
 -- ---- a text
@@ -63,13 +63,13 @@ module _ (text out : List ℕ) {b : Bool} (d : Decides b (Octets text)) where
   unfolding stringOutcome
   not-text e = rw (same-answer (octets text) d ∙ not-true b e)
 
-  pub text-outcome : not b ≡ false → {x : Outcome} → x ≡ write (oscString text) out → x ≡ stringOutcome text out
+  pub text-outcome : not b ≡ false → {x : Outcome} → x ≡ bytesOutcome (oscString text) out → x ≡ stringOutcome text out
   unfolding stringOutcome
   text-outcome e h = rw (same-answer (octets text) d ∙ not-false b e) h
 
 -- ---- a packet whose length is known
 
-module _ {source t : List ℕ} {n : ℕ} (z : Sized source t n) where
+module _ {source t : List ℕ} {n : ℕ} (z : Writable source t n) where
   pub ready : (m : ℕ) → n ≤ 65535 → n ≤ m → Ready source t 0 m
   ready m l h =
       record {
@@ -95,39 +95,39 @@ module _ {source t : List ℕ} {n : ℕ} (z : Sized source t n) where
     long : 65535 < n → 65535 < length (packetAt source t 0 F)
     long l = rw same at (z .over l)
 
-    pub packet-long : (out : List ℕ) → 65535 < n → refuse TooLong out ≡ write (packetAt source t 0 F) out
+    pub packet-long : (out : List ℕ) → 65535 < n → refuse TooLong out ≡ bytesOutcome (packetAt source t 0 F) out
     packet-long out h = write-long (packetAt source t 0 F) out (long h)
 
-    pub packet-short : (out : List ℕ) → n ≤ 65535 → length out < n → refuse OutputShort out ≡ write (packetAt source t 0 F) out
+    pub packet-short : (out : List ℕ) → n ≤ 65535 → length out < n → refuse OutputShort out ≡ bytesOutcome (packetAt source t 0 F) out
     packet-short out l h = write-short (packetAt source t 0 F) out (omega (arith, known l)) (omega (arith, known l))
 
-    pub packet-written : (out : List ℕ) {o : List ℕ} {r : ℕ} → n ≤ 65535 → Fills (packetAt source t 0) t 1 (endAt t 0) out o r
-        → _≡_ {A = Outcome} (record { answer = Written r; out = o }) (write (packetAt source t 0 F) out)
+    pub packet-written : (out : List ℕ) {o : List ℕ} {r : ℕ} → n ≤ 65535 → WritesRow (packetAt source t 0) t 1 (endAt t 0) out o r
+        → _≡_ {A = Outcome} (record { answer = Written r; out = o }) (bytesOutcome (packetAt source t 0 F) out)
     packet-written out l f = written (packetAt source t 0 F) out (omega (arith, known l)) (f F s)
 
     -- the same after a length
-    element-length : length (elementOf (packetAt source t 0 F)) ≡ 4 + length (packetAt source t 0 F)
+    element-length : length (writeElement (packetAt source t 0 F)) ≡ 4 + length (packetAt source t 0 F)
     element-length = simp (length-append, length-bytes)
 
-    pub element-long : (out : List ℕ) → 65531 < n → refuse TooLong out ≡ write (elementOf (packetAt source t 0 F)) out
+    pub element-long : (out : List ℕ) → 65531 < n → refuse TooLong out ≡ bytesOutcome (writeElement (packetAt source t 0 F)) out
     element-long out h =
-        write-long (elementOf (packetAt source t 0 F)) out
+        write-long (writeElement (packetAt source t 0 F)) out
         (⊎-elim (λ l. omega (arith, long l, element-length)) (λ l. omega (arith, known l, element-length)) (lt-or-le 65535 n))
 
     pub element-short : (out : List ℕ) → n ≤ 65531 → length out < 4 + n
-        → refuse OutputShort out ≡ write (elementOf (packetAt source t 0 F)) out
+        → refuse OutputShort out ≡ bytesOutcome (writeElement (packetAt source t 0 F)) out
     element-short out l h =
         let e = known (omega arith) in
-        write-short (elementOf (packetAt source t 0 F)) out (omega (arith, element-length)) (omega (arith, element-length))
+        write-short (writeElement (packetAt source t 0 F)) out (omega (arith, element-length)) (omega (arith, element-length))
 
     pub element-written : (out : List ℕ) {o p : List ℕ} {r : ℕ} → n ≤ 65531 → Wrote (bytes 4 n) out o
-        → Fills (packetAt source t 0) t 1 (endAt t 0) (midOf 4 (length o - 4) o) p r
+        → WritesRow (packetAt source t 0) t 1 (endAt t 0) (midOf 4 (length o - 4) o) p r
         → _≡_ {A = Outcome} (record { answer = Written (4 + r); out = putMid 4 (length o - 4) o p })
-        (write (elementOf (packetAt source t 0 F)) out)
+        (bytesOutcome (writeElement (packetAt source t 0 F)) out)
     element-written out {o} {p} {r} l w f =
         let e = known (omega arith) in
         let size : Filled (bytes 4 n) out o 4 = record { count = sym (length-bytes 4 n); wrote = w } in
-        written (elementOf (packetAt source t 0 F)) out (omega (arith, element-length)) (rw (← e) (filled-lent size (f F s)))
+        written (writeElement (packetAt source t 0 F)) out (omega (arith, element-length)) (rw (← e) (filled-lent size (f F s)))
 
 -- ---- before a byte is written
 
@@ -178,14 +178,14 @@ module _ (t : List ℕ) (count : ℕ) (source : List ℕ) {b : Bool} (d : Decide
       pub too-deep : x ≡ true → Prepares t count source (Refused TooDeep)
       too-deep y = prepare.deep inside tree (ltb-true 64 (depth root) (sym (q root (tree .spans)) ∙ y)) refl
 
-      module _ {m : ℕ} (g : Measured m (sumTo (elementLength t) count)) where
+      module _ {m : ℕ} (g : LengthOrOver m (sumTo (elementLength t) count)) where
         total : sumTo (elementLength t) count ≡ 4 + length (packetAt source t 0 inside)
         total = packet-sum source t count (kindAt t 0) (aAt t 0) (bAt t 0) inside (tree .spans) (tree .obeys)
 
         pub some-length : 4 ≤ m
         some-length = ⊎-elim (λ l. omega arith) (λ l. omega (arith, g .exact l, total)) (lt-or-le 65539 m)
 
-        sized : Sized source t (m - 4)
+        sized : Writable source t (m - 4)
         unfolding Spans Obeys
         sized =
             record {
@@ -205,7 +205,7 @@ module _ (t : List ℕ) (count : ℕ) (source : List ℕ) {b : Bool} (d : Decide
 
 module _ (frame : ℕ → List ℕ → List ℕ) (t : List ℕ) (count : ℕ) (source out : List ℕ) where
   pub refused : {r : Prepared} {x : Refusal} → Prepares t count source r → r ≡ Refused x → Encodes frame t count source out (refuse x out)
-  unfolding encoded
+  unfolding treeOutcome
   refused {r} {x} (prepare.malformed n e) q = let y : x ≡ BadTable = cc in malformed n (rw y)
   refused {r} {x} (prepare.deep inside tree h e) q =
       let y : x ≡ TooDeep = cc in
@@ -217,7 +217,7 @@ pub record Planned (t : List ℕ) (count : ℕ) (source : List ℕ) (n : ℕ) : 
   pub inside : Forest
   pub tree : IsTree t count source (kindAt t 0) (aAt t 0) (bAt t 0) inside
   pub shallow : depth (node (kindAt t 0) (aAt t 0) (bAt t 0) inside nil) ≤ 64
-  pub sized : Sized source t n
+  pub sized : Writable source t n
 
 pub planned : (t : List ℕ) (count : ℕ) (source : List ℕ) {r : Prepared} {n : ℕ} → Prepares t count source r → r ≡ Length n
     → Planned t count source n
@@ -231,24 +231,24 @@ module _ {t : List ℕ} {count : ℕ} {source : List ℕ} {n : ℕ} (out : List 
   unfolding Spans
   inside-spans = w .tree .spans .3
 
-  framed : (frame : ℕ → List ℕ → List ℕ) {x : Outcome} → x ≡ write (frame (kindAt t 0) (packetAt source t 0 (w .inside))) out
+  framed : (frame : ℕ → List ℕ → List ℕ) {x : Outcome} → x ≡ bytesOutcome (frame (kindAt t 0) (packetAt source t 0 (w .inside))) out
       → Encodes frame t count source out x
-  unfolding encoded
+  unfolding treeOutcome
   framed frame e = formed (kindAt t 0) (aAt t 0) (bAt t 0) (w .inside) (w .tree) (rw (le-leb _ 64 (w .shallow)) e)
 
-  pub encoded-plain : {x : Outcome} → ((F : Forest) → Spans t 1 (endAt t 0) F → x ≡ write (packetAt source t 0 F) out)
-      → Encodes plain t count source out x
-  encoded-plain f = framed plain (f (w .inside) inside-spans)
+  pub encoded-unframed : {x : Outcome} → ((F : Forest) → Spans t 1 (endAt t 0) F → x ≡ bytesOutcome (packetAt source t 0 F) out)
+      → Encodes unframed t count source out x
+  encoded-unframed f = framed unframed (f (w .inside) inside-spans)
 
   -- the root's record is in the table
   pub root-read : 0 < length t / recordSize
   root-read = omega (arith, w .sized .table, spans-size t 1 (endAt t 0) (w .sized .inside) (w .sized .spans))
 
   module _ {r : Record} (e : r ≡ recordAt t 0) {x : Outcome} where
-    pub encoded-message : r .kind ≡ 47 → ((F : Forest) → Spans t 1 (endAt t 0) F → x ≡ write (elementOf (packetAt source t 0 F)) out)
+    pub encoded-message : r .kind ≡ 47 → ((F : Forest) → Spans t 1 (endAt t 0) F → x ≡ bytesOutcome (writeElement (packetAt source t 0 F)) out)
         → Encodes prefixed t count source out x
     encoded-message y f = framed prefixed (rw (eq-eqb (kindAt t 0) 47 (rw e at y)) (f (w .inside) inside-spans))
 
-    pub encoded-bundle : (r .kind ≡ 47 → ⊥) → ((F : Forest) → Spans t 1 (endAt t 0) F → x ≡ write (packetAt source t 0 F) out)
+    pub encoded-bundle : (r .kind ≡ 47 → ⊥) → ((F : Forest) → Spans t 1 (endAt t 0) F → x ≡ bytesOutcome (packetAt source t 0 F) out)
         → Encodes prefixed t count source out x
     encoded-bundle m f = framed prefixed (rw (ne-eqb (kindAt t 0) 47 (rw e at m)) (f (w .inside) inside-spans))

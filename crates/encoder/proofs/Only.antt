@@ -5,7 +5,7 @@ use Prim.Native.Nat.{ℕ}
 use Rattle.wire.proofs.Only.{one-outcome}
 use Rattle.node.specs.Forest.{nil, node}
 use Rattle.table.proofs.Theorem.{tree-formed, tree-unique}
-use Rattle.encoder.specs.Outcome.{Outcome, plain, prefixed, encoded, Encodes, malformed, formed, stringOutcome}
+use Rattle.encoder.specs.Outcome.{Outcome, unframed, prefixed, treeOutcome, Encodes, malformed, formed, stringOutcome}
 
 -- a table has one tree, or none
 encodes-only : (frame : ℕ → List ℕ → List ℕ) (t : List ℕ) (count : ℕ) (source out : List ℕ) (r s : Outcome)
@@ -15,12 +15,12 @@ encodes-only frame t count source out r s (malformed n e) (formed k a b inside t
 encodes-only frame t count source out r s (formed k a b inside tree e) (malformed n f) = absurd (n (tree-formed tree))
 encodes-only frame t count source out r s (formed k a b inside tree e) (formed k′ a′ b′ inside′ tree′ f) =
     let u : node k a b inside nil ≡ node k′ a′ b′ inside′ nil = tree-unique t 0 count _ _ (tree .spans) (tree′ .spans) in
-    let v : encoded frame source out k a b inside ≡ encoded frame source out k′ a′ b′ inside′ = cc in
+    let v : treeOutcome frame source out k a b inside ≡ treeOutcome frame source out k′ a′ b′ inside′ = cc in
     e ∙ v ∙ sym f
 
-pub encode-only : (t : List ℕ) (count : ℕ) (source out : List ℕ) (r s : Outcome) → Encodes plain t count source out r
-    → Encodes plain t count source out s → r ≡ s
-encode-only = encodes-only plain
+pub encode-only : (t : List ℕ) (count : ℕ) (source out : List ℕ) (r s : Outcome) → Encodes unframed t count source out r
+    → Encodes unframed t count source out s → r ≡ s
+encode-only = encodes-only unframed
 
 pub encode-tcp-only : (t : List ℕ) (count : ℕ) (source out : List ℕ) (r s : Outcome)
     → Encodes prefixed t count source out r → Encodes prefixed t count source out s → r ≡ s

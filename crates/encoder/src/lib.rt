@@ -2,7 +2,7 @@
 use wire::put_u32;
 use refusal::Fault;
 use refusal::Refusal;
-use survey::length::measure;
+use lengths::packet_length;
 use survey::survey;
 use table::deeper_than;
 use table::is_well_formed;
@@ -11,9 +11,9 @@ use utf8::is_utf8;
 use strings::encode_string_into;
 use writers::encode_packet;
 ghost use mathlib.Core.Path.{_≡_};
-ghost use Rattle.writers.specs.Osc.{elementOf};
-ghost use Rattle.encoder.specs.Outcome.{Outcome, plain, prefixed, Encodes, stringOutcome};
-ghost use Rattle.encoder.specs.Prepare.{Sized, Writes, Prepares};
+ghost use Rattle.writers.specs.Osc.{writeElement};
+ghost use Rattle.encoder.specs.Outcome.{Outcome, unframed, prefixed, Encodes, stringOutcome};
+ghost use Rattle.encoder.specs.InnerPrepare.{Writable, Writes, Prepares};
 
 // The longest result, prefix included.
 const MOST: usize = 65_535;
@@ -58,13 +58,13 @@ fn prepare(table: &[u8], count: usize, source: &[u8]) -> Prepared
     if deeper_than(table, count, DEEPEST) {
         return Prepared::Refused(Refusal::TooDeep);
     }
-    let length = measure(table, count) - 4;
+    let length = packet_length(table, count) - 4;
     Prepared::Length(length)
 }
 
 // Writes the packet of a table, which is n bytes long: 1, then 12.
 fn encode_into(table: &[u8], source: &[u8], n: usize, out: &mut [u8]) -> Encoded
-    requires { ⌜ Sized (now source) (now table) n ⌝ }
+    requires { ⌜ Writable (now source) (now table) n ⌝ }
     ensures { λ r. ⌜ Writes (λ bs. bs) (now (source .entry)) (now (table .entry)) (now (out .entry)) (record { answer = r; out = now (out .exit) }) ⌝ }
 {
     if MOST < n {
@@ -78,8 +78,8 @@ fn encode_into(table: &[u8], source: &[u8], n: usize, out: &mut [u8]) -> Encoded
 
 // Writes the message of a table, which is n bytes long, after its length: 1, then 12.
 fn encode_message_tcp(table: &[u8], source: &[u8], n: usize, out: &mut [u8]) -> Encoded
-    requires { ⌜ Sized (now source) (now table) n ⌝ }
-    ensures { λ r. ⌜ Writes elementOf (now (source .entry)) (now (table .entry)) (now (out .entry)) (record { answer = r; out = now (out .exit) }) ⌝ }
+    requires { ⌜ Writable (now source) (now table) n ⌝ }
+    ensures { λ r. ⌜ Writes writeElement (now (source .entry)) (now (table .entry)) (now (out .entry)) (record { answer = r; out = now (out .exit) }) ⌝ }
 {
     if MOST_AFTER_PREFIX < n {
         return Encoded::Refused(Refusal::TooLong);
@@ -96,7 +96,7 @@ fn encode_message_tcp(table: &[u8], source: &[u8], n: usize, out: &mut [u8]) -> 
 //
 // Ruled out: an answer that counts bytes of which none is written; 12 where the packet is over 65,535 bytes, whatever the output's length.
 pub fn encode(table: &[u8], count: usize, source: &[u8], out: &mut [u8]) -> Encoded
-    ensures { λ r. ⌜ Encodes plain (now (table .entry)) count (now (source .entry)) (now (out .entry)) (record { answer = r; out = now (out .exit) }) ⌝ }
+    ensures { λ r. ⌜ Encodes unframed (now (table .entry)) count (now (source .entry)) (now (out .entry)) (record { answer = r; out = now (out .exit) }) ⌝ }
 {
     match prepare(table, count, source) {
         Prepared::Refused(refusal) => Encoded::Refused(refusal),

@@ -8,7 +8,8 @@ use Rattle.wire.proofs.Numbers.{length-bytes}
 use Rattle.node.specs.declared.tags.Class.{Class}
 use Rattle.node.specs.declared.tags.Class.the-variants.{Four, Eight, Bare, Text, Blob, Scalar, Unknown}
 use Rattle.table.specs.Formed.{part}
-use Rattle.strings.specs.Atomic.{int32, oscString, oscBlob, argumentOf, stringLength, blobLength}
+use Rattle.strings.specs.Atomic.{int32, oscString, oscBlob, writeArgument}
+use Rattle.strings.specs.InnerStrings.{stringLength, blobLength}
 
 pub length-string : (text : List ℕ) → length (oscString text) ≡ stringLength (length text)
 unfolding oscString
@@ -28,7 +29,7 @@ string-even text = rw length-string (omega arith)
 number-even : (x : ℕ) → length (int32 x) % 4 ≡ 0
 number-even x = rw length-bytes refl
 
-pub argument-even : (class : Class) (source : List ℕ) (a b : ℕ) → length (argumentOf class source a b) % 4 ≡ 0
+pub argument-even : (class : Class) (source : List ℕ) (a b : ℕ) → length (writeArgument class source a b) % 4 ≡ 0
 argument-even Four source a b = number-even a
 argument-even Eight source a b = both (int32 a) (int32 b) (number-even a) (number-even b)
 argument-even Bare source a b = refl

@@ -9,7 +9,8 @@ ghost use Prim.Native.Nat.{_+_, _^_, _≤_, _<_};
 ghost use lib.ListN.{length, replicate};
 ghost use Rattle.wire.specs.Wrote.{Wrote, Filled};
 ghost use Rattle.table.specs.Formed.{part};
-ghost use Rattle.strings.specs.Atomic.{int32, oscString, oscBlob, argumentOf, stringLength, blobLength, ranged};
+ghost use Rattle.strings.specs.Atomic.{int32, oscString, oscBlob, writeArgument};
+ghost use Rattle.strings.specs.InnerStrings.{stringLength, blobLength, hasRange};
 
 // Writes `bytes`.
 pub fn write(bytes: &[u8], out: &mut [u8])
@@ -102,9 +103,9 @@ fn range(source: &[u8], a: u32, b: u32) -> &[u8]
 // Writes the data of one argument that is no array. An address is written by it too: called from two places, it stays a function of
 // its own, and a level of nested arrays takes no more of the stack than its own frame.
 pub fn encode_leaf_data(class: Class, a: u32, b: u32, source: &[u8], out: &mut [u8]) -> usize
-    requires { ⌜ (ranged class ≡ true → a + b ≤ length (now source)) ⌝ }
-    requires { ⌜ length (argumentOf class (now source) a b) ≤ length (now out) ⌝ }
-    ensures { λ r. ⌜ Filled (argumentOf class (now (source .entry)) a b) (now (out .entry)) (now (out .exit)) r ⌝ }
+    requires { ⌜ (hasRange class ≡ true → a + b ≤ length (now source)) ⌝ }
+    requires { ⌜ length (writeArgument class (now source) a b) ≤ length (now out) ⌝ }
+    ensures { λ r. ⌜ Filled (writeArgument class (now (source .entry)) a b) (now (out .entry)) (now (out .exit)) r ⌝ }
 {
     match class {
         Class::Four => encode_number_into(a, out),

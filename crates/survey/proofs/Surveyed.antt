@@ -19,18 +19,20 @@ use Rattle.node.specs.declared.tags.Class.{Class}
 use Rattle.node.specs.declared.tags.Class.the-variants.{Text, Blob, Unknown}
 use Rattle.node.specs.declared.tags.Sort.{Sort}
 use Rattle.node.specs.declared.tags.Sort.the-variants.{Opens, Leaf}
+use Rattle.table.proofs.Choices.{then-only, is-or}
 use Rattle.table.specs.Formed.{part, inside, textOk, rangeOk, isPacket, allowed}
 use Rattle.table.specs.Tree.{Spans, Obeys}
 use Rattle.table.proofs.Spanned.{Parts, cut, no-more}
-use Rattle.strings.specs.Atomic.{oscString, stringLength}
-use Rattle.writers.specs.Osc.{elementsOf}
-use Rattle.survey.specs.Measure.{argumentLength}
-use Rattle.survey.specs.Survey.{placed, leafRange, leafOk, Found, Stands, Argument, Arguments, Message, Element, Elements, Surveyed}
+use Rattle.strings.specs.Atomic.{oscString}
+use Rattle.strings.specs.InnerStrings.{stringLength}
+use Rattle.writers.specs.Osc.{writeElements}
+use Rattle.lengths.specs.InnerLengths.{argumentLength}
+use Rattle.survey.specs.InnerSurvey.{placed, leafRange, leafOk, SurveyedRow, SurveyedNode, SurveyedArgument, SurveyedArguments, SurveyedMessage, SurveyedPacket, SurveyedPackets, Surveyed}
 use Rattle.strings.proofs.Lengths.{length-string}
 use Rattle.writers.proofs.Lengths.{length-message, length-bundle}
-use Rattle.writers.proofs.Classed.{then-only, opens-only, tags-none, data-none, elements-is, message-is, bundle-is}
+use Rattle.writers.proofs.Classed.{opens-only, tags-none, data-none, elements-is, message-is, bundle-is}
 use Rattle.writers.proofs.Classed.{elements-none as no-elements}
-use Rattle.survey.proofs.Sums.{is-or, tags-one, data-one}
+use Rattle.lengths.proofs.Sums.{tags-one, data-one}
 
 -- ---- a record by itself
 
@@ -74,16 +76,16 @@ module _ (source : List ℕ) (k a b : ℕ) (class : Class) (s : sortOf k ≡ Lea
   unfolding allowed
   leaf-may = rw (leaf-no-packet source k a b class s o)
 
-  ranged : leafRange source class a b ≡ true
-  ranged = rw ruled at o
+  hasRange : leafRange source class a b ≡ true
+  hasRange = rw ruled at o
 
   pub leaf-range-ok : rangeOk source k a b ≡ true
   unfolding rangeOk sortOf classOf
   leaf-range-ok =
       ⊎-elim
-      (λ q. let e : Leaf Text ≡ Leaf class = rw q at s in let c : Text ≡ class = cc in rw q (rw (← c) at ranged))
+      (λ q. let e : Leaf Text ≡ Leaf class = rw q at s in let c : Text ≡ class = cc in rw q (rw (← c) at hasRange))
       (λ n. ⊎-elim
-      (λ q. let e : Leaf Blob ≡ Leaf class = rw q at s in let c : Blob ≡ class = cc in rw q (rw (← c) at ranged))
+      (λ q. let e : Leaf Blob ≡ Leaf class = rw q at s in let c : Blob ≡ class = cc in rw q (rw (← c) at hasRange))
       (λ m. ⊎-elim
       (λ q. absurd (known-class source a b class o (let e : Leaf Unknown ≡ Leaf class = rw q at s in cc)))
       (λ l. rw (ne-eqb k 47 l, ne-eqb k 115 n, ne-eqb k 98 m))
@@ -93,13 +95,13 @@ module _ (source : List ℕ) (k a b : ℕ) (class : Class) (s : sortOf k ≡ Lea
 
 -- ---- rows
 
-pub found-none : (t source : List ℕ) (container at : ℕ) → Found t source container at at nil
+pub found-none : (t source : List ℕ) (container at : ℕ) → SurveyedRow t source container at at nil
 unfolding Spans Obeys
 found-none t source container at = record { spans = refl; obeys = tt; zeros = λ i l h. absurd (omega arith) }
 
 -- a record that may stand before a row makes it longer
-pub found-more : {t source : List ℕ} {container at hi : ℕ} {inside rest : Forest} → Placed t at hi → Stands t source container at inside
-    → Found t source container (endAt t at) hi rest → Found t source container at hi (node (kindAt t at) (aAt t at) (bAt t at) inside rest)
+pub found-more : {t source : List ℕ} {container at hi : ℕ} {inside rest : Forest} → Placed t at hi → SurveyedNode t source container at inside
+    → SurveyedRow t source container (endAt t at) hi rest → SurveyedRow t source container at hi (node (kindAt t at) (aAt t at) (bAt t at) inside rest)
 unfolding Spans Obeys
 found-more {t} {source} {container} {at} {hi} {inside} {rest} p s f =
     record {
@@ -129,7 +131,7 @@ module _ (t source : List ℕ) (at : ℕ) {k e a b : ℕ} {sort : Sort} (ke : k 
 
   -- an argument that is no array, and contains nothing
   pub argument-leaf : {class : Class} → sort ≡ Leaf class → e ≡ at + 1 → leafOk source class a b ≡ true
-      → Argument t source at 1 (argumentLength class b)
+      → SurveyedArgument t source at 1 (argumentLength class b)
   argument-leaf {class} q l h =
       let s = sort-is q in
       let o : leafOk source class (aAt t at) (bAt t at) ≡ true = rw (ae, be) at h in
@@ -146,14 +148,14 @@ module _ (t source : List ℕ) (at : ℕ) {k e a b : ℕ} {sort : Sort} (ke : k 
       }
 
   -- an array of arguments
-  pub argument-array : {tags content : ℕ} → sort ≡ Opens → a ≡ 0 → b ≡ 0 → Arguments t source (at + 1) e tags content
-      → Argument t source at (2 + tags) content
+  pub argument-array : {tags content : ℕ} → sort ≡ Opens → a ≡ 0 → b ≡ 0 → SurveyedArguments t source (at + 1) e tags content
+      → SurveyedArgument t source at (2 + tags) content
   unfolding ownRules rangeOk allowed sortOf
   argument-array q x y w =
       let k = opens-only (kindAt t at) (sort-is q) in
       let za : aAt t at ≡ 0 = sym ae ∙ x in
       let zb : bAt t at ≡ 0 = sym be ∙ y in
-      let f : Found t source 47 (at + 1) (endAt t at) (w .forest) = rw ee at (w .found) in
+      let f : SurveyedRow t source 47 (at + 1) (endAt t at) (w .forest) = rw ee at (w .found) in
       record {
         inside = w .forest;
         stands = record {
@@ -167,8 +169,8 @@ module _ (t source : List ℕ) (at : ℕ) {k e a b : ℕ} {sort : Sort} (ke : k 
       }
 
 -- an argument before arguments
-pub arguments-more : {t source : List ℕ} {at hi n m tags content : ℕ} → Placed t at hi → Argument t source at n m
-    → Arguments t source (endAt t at) hi tags content → Arguments t source at hi (n + tags) (m + content)
+pub arguments-more : {t source : List ℕ} {at hi n m tags content : ℕ} → Placed t at hi → SurveyedArgument t source at n m
+    → SurveyedArguments t source (endAt t at) hi tags content → SurveyedArguments t source at hi (n + tags) (m + content)
 arguments-more {t} {source} {at} p x w =
     let f = found-more p (x .stands) (w .found) in
     let q : Parts source 47 (kindAt t at) (aAt t at) (bAt t at) (x .inside) (w .forest)
@@ -186,13 +188,13 @@ arguments-more {t} {source} {at} p x w =
       sized = omega (arith, data-one source 47 _ _ _ (x .inside) (w .forest) (λ e. omega (arith, e)) q, x .sized, w .sized);
     }
 
-pub arguments-none : (t source : List ℕ) (at : ℕ) → Arguments t source at at 0 0
+pub arguments-none : (t source : List ℕ) (at : ℕ) → SurveyedArguments t source at at 0 0
 arguments-none t source at =
     record { forest = nil; found = found-none t source 47 at; tagged = rw tags-none; sized = rw data-none }
 
 -- the records from lo to `at` have been passed, with n tags and m bytes of data: whatever arguments follow, these stand before them
 pub record Behind (t source : List ℕ) (lo hi at n m : ℕ) : Type 0 where
-  pub before : (tags content : ℕ) → Arguments t source at hi tags content → Arguments t source lo hi (n + tags) (m + content)
+  pub before : (tags content : ℕ) → SurveyedArguments t source at hi tags content → SurveyedArguments t source lo hi (n + tags) (m + content)
   pub passed : lo ≤ at
   pub within : at ≤ hi
   pub few : n ≤ 2 * (at - lo)
@@ -210,7 +212,7 @@ behind-none t source lo hi h =
     }
 
 module _ {t source : List ℕ} {lo hi at n m : ℕ} (b : Behind t source lo hi at n m) where
-  pub behind-more : (x y : ℕ) → Placed t at hi → Argument t source at x y → x ≤ 2 * (endAt t at - at) → m + y ≤ 65539
+  pub behind-more : (x y : ℕ) → Placed t at hi → SurveyedArgument t source at x y → x ≤ 2 * (endAt t at - at) → m + y ≤ 65539
       → Behind t source lo hi (endAt t at) (n + x) (m + y)
   behind-more x y p a l h =
       record {
@@ -224,7 +226,7 @@ module _ {t source : List ℕ} {lo hi at n m : ℕ} (b : Behind t source lo hi a
         short = h;
       }
 
-  pub behind-all : hi ≤ at → Arguments t source lo hi n m
+  pub behind-all : hi ≤ at → SurveyedArguments t source lo hi n m
   behind-all q =
       let z : at ≡ hi = omega (arith, b .within) in
       let e : n + 0 ≡ n = omega arith in
@@ -236,7 +238,7 @@ module _ {t source : List ℕ} {lo hi at n m : ℕ} (b : Behind t source lo hi a
 -- a message, by what was read of its record
 pub message-found : (t source : List ℕ) (at : ℕ) {a b e x y tags content : ℕ} → a ≡ aAt t at → b ≡ bAt t at → e ≡ endAt t at
     → textOk source a b ≡ true
-    → Arguments t source (at + 1) e tags content → x ≡ stringLength b → y ≡ stringLength (1 + tags) → Message t source at (x + y + content)
+    → SurveyedArguments t source (at + 1) e tags content → x ≡ stringLength b → y ≡ stringLength (1 + tags) → SurveyedMessage t source at (x + y + content)
 message-found t source at {a} {b} {e} ae be ee r w xe ye =
     let i : inside source a b ≡ true = then-only (inside source a b) _ r false≢true in
     let l : length (oscString (part source a b)) ≡ stringLength b = length-string _ ∙ rw (length-part source a b (leb-true _ _ i)) in
@@ -248,7 +250,7 @@ message-found t source at {a} {b} {e} ae be ee r w xe ye =
     }
 
 module _ {t source : List ℕ} {at levels : ℕ} where
-  pub element-message : {n : ℕ} → kindAt t at ≡ 47 → Message t source at n → Element t source at levels (4 + n)
+  pub element-message : {n : ℕ} → kindAt t at ≡ 47 → SurveyedMessage t source at n → SurveyedPacket t source at levels (4 + n)
   unfolding ownRules rangeOk allowed
   element-message k w =
       record {
@@ -258,8 +260,8 @@ module _ {t source : List ℕ} {at levels : ℕ} where
         sized = omega (arith, ap length (message-is source (kindAt t at) (aAt t at) (bAt t at) (w .forest) k), w .sized);
       }
 
-  pub element-bundle : {n : ℕ} → kindAt t at ≡ 35 → (levels ≡ 0 → ⊥) → Elements t source (at + 1) (endAt t at) (levels - 1) n
-      → Element t source at levels (20 + n)
+  pub element-bundle : {n : ℕ} → kindAt t at ≡ 35 → (levels ≡ 0 → ⊥) → SurveyedPackets t source (at + 1) (endAt t at) (levels - 1) n
+      → SurveyedPacket t source at levels (20 + n)
   unfolding ownRules rangeOk allowed
   element-bundle k z w =
       let no-message : kindAt t at ≡ 47 → ⊥ = λ e. omega (arith, e, k) in
@@ -271,8 +273,8 @@ module _ {t source : List ℕ} {at levels : ℕ} where
         sized = omega (arith, simp (length-append, length-bundle) at l, w .sized);
       }
 
-pub elements-more : {t source : List ℕ} {at hi levels n m : ℕ} → Placed t at hi → Element t source at levels n
-    → Elements t source (endAt t at) hi levels m → Elements t source at hi levels (n + m)
+pub elements-more : {t source : List ℕ} {at hi levels n m : ℕ} → Placed t at hi → SurveyedPacket t source at levels n
+    → SurveyedPackets t source (endAt t at) hi levels m → SurveyedPackets t source at hi levels (n + m)
 unfolding depth
 elements-more {t} {source} {at} p x w =
     record {
@@ -288,14 +290,14 @@ elements-more {t} {source} {at} p x w =
       );
     }
 
-pub elements-none : (t source : List ℕ) (at levels : ℕ) → Elements t source at at levels 0
+pub elements-none : (t source : List ℕ) (at levels : ℕ) → SurveyedPackets t source at at levels 0
 unfolding depth
 elements-none t source at levels =
     record { forest = nil; found = found-none t source 35 at; shallow = omega arith; sized = ap length (no-elements source) }
 
 -- the records from lo to `at` have been passed, and are n bytes: whatever elements follow, these stand before them
 pub record Ahead (t source : List ℕ) (levels lo hi at n : ℕ) : Type 0 where
-  pub before : (m : ℕ) → Elements t source at hi levels m → Elements t source lo hi levels (n + m)
+  pub before : (m : ℕ) → SurveyedPackets t source at hi levels m → SurveyedPackets t source lo hi levels (n + m)
   pub passed : lo ≤ at
   pub within : at ≤ hi
   pub short : n ≤ 65539
@@ -305,7 +307,7 @@ ahead-none t source levels lo hi h =
     record { before = λ m w. let e : 0 + m ≡ m = omega arith in rw e w; passed = omega arith; within = h; short = omega arith }
 
 module _ {t source : List ℕ} {levels lo hi at n : ℕ} (b : Ahead t source levels lo hi at n) where
-  pub ahead-more : (x : ℕ) → Placed t at hi → Element t source at levels x → n + x ≤ 65539
+  pub ahead-more : (x : ℕ) → Placed t at hi → SurveyedPacket t source at levels x → n + x ≤ 65539
       → Ahead t source levels lo hi (endAt t at) (n + x)
   ahead-more x p a h =
       record {
@@ -315,7 +317,7 @@ module _ {t source : List ℕ} {levels lo hi at n : ℕ} (b : Ahead t source lev
         short = h;
       }
 
-  pub ahead-all : hi ≤ at → Elements t source lo hi levels n
+  pub ahead-all : hi ≤ at → SurveyedPackets t source lo hi levels n
   ahead-all q =
       let z : at ≡ hi = omega (arith, b .within) in
       let e : n + 0 ≡ n = omega arith in
@@ -324,7 +326,7 @@ module _ {t source : List ℕ} {levels lo hi at n : ℕ} (b : Ahead t source lev
 -- ---- a table
 
 pub tree-surveyed : {t source : List ℕ} {count n : ℕ} → 1 ≤ count → count ≤ 65535 → recordSize * count ≤ length t → endAt t 0 ≡ count
-    → Elements t source 0 count 64 n → Surveyed t count source n
+    → SurveyedPackets t source 0 count 64 n → Surveyed t count source n
 unfolding Spans Obeys
 tree-surveyed {t} {source} {count} {n} some few fits e w =
     let u = cut t 0 count (w .forest) (omega arith) (w .found .spans) in
@@ -344,7 +346,7 @@ tree-surveyed {t} {source} {count} {n} some few fits e w =
       sized = omega (
         arith,
         simp (length-append, length-bytes) at
-            (ap length (ap (elementsOf source) is ∙ elements-is (kindAt t 0) (aAt t 0) (bAt t 0) (u .inside) nil source)),
+            (ap length (ap (writeElements source) is ∙ elements-is (kindAt t 0) (aAt t 0) (bAt t 0) (u .inside) nil source)),
         ap length
             (no-elements source),
         w .sized,

@@ -1,9 +1,7 @@
 // One reading of a table for its check, its depth and its length. Of the tables that packets have it is sure; of others, such as one
 // with arrays nested deep, it answers that it is not, and the full check decides. So its contracts promise only for where it is sure.
-pub mod length; // length.rt: how long a packet will be, where the survey is not sure
-
-use length::argument_length;
-use length::string_length;
+use lengths::argument_length;
+use lengths::string_length;
 use table::lies_in;
 use table::text_ok;
 use node::record::a_at;
@@ -21,8 +19,8 @@ ghost use mathlib.Core.Bool.{true};
 ghost use Prim.Native.Nat.{_+_, _-_, _*_, _/_, _^_, _≤_, _<_};
 ghost use lib.ListN.{length};
 ghost use Rattle.node.specs.Records.{recordSize, endAt};
-ghost use Rattle.survey.specs.Measure.{argumentLength};
-ghost use Rattle.survey.specs.Survey.{placed, leafOk, leafRange, Argument, Arguments, Message, Element, Elements, Surveyed};
+ghost use Rattle.lengths.specs.InnerLengths.{argumentLength};
+ghost use Rattle.survey.specs.InnerSurvey.{placed, leafOk, leafRange, SurveyedArgument, SurveyedArguments, SurveyedMessage, SurveyedPacket, SurveyedPackets, Surveyed};
 
 // The longest result, with the size before it.
 const MOST: usize = 65_539;
@@ -40,7 +38,7 @@ const DEEPEST: usize = 64;
 const MOST_RECORDS: usize = 65_535;
 
 // The tags and the bytes of data of arguments; UNSURE bytes where the reading is not sure.
-struct Extent {
+struct Tally {
     tags: usize,
     content: usize,
 }
@@ -96,12 +94,12 @@ fn leaf_content(class: Class, a: u32, b: u32, source: &[u8]) -> usize
 }
 
 // The extent of one argument and what it contains; arrays in it are nested no deeper than `levels`.
-fn survey_argument(table: &[u8], at: usize, source: &[u8], levels: usize) -> Extent
+fn survey_argument(table: &[u8], at: usize, source: &[u8], levels: usize) -> Tally
     requires { ⌜ (at < endAt (now table) at) × (endAt (now table) at ≤ 65535) × (recordSize * endAt (now table) at ≤ length (now table)) ⌝ }
-    ensures { λ r. ⌜ (r .content ≤ 65539 → Argument (now (table .entry)) (now (source .entry)) at (r .tags) (r .content)) ⌝ }
+    ensures { λ r. ⌜ (r .content ≤ 65539 → SurveyedArgument (now (table .entry)) (now (source .entry)) at (r .tags) (r .content)) ⌝ }
     ensures { λ r. ⌜ (r .tags ≤ 2 * (endAt (now (table .entry)) at - at)) × (r .content ≤ 2 ^ 33) ⌝ }
 {
-    let unsure = Extent {
+    let unsure = Tally {
         tags: 0,
         content: UNSURE,
     };
@@ -120,7 +118,7 @@ fn survey_argument(table: &[u8], at: usize, source: &[u8], levels: usize) -> Ext
                 return unsure;
             }
             let inner = survey_arguments(table, at + 1, end, source, levels - 1);
-            Extent {
+            Tally {
                 tags: 2 + inner.tags,
                 content: inner.content,
             }
@@ -130,7 +128,7 @@ fn survey_argument(table: &[u8], at: usize, source: &[u8], levels: usize) -> Ext
             if end != at + 1 {
                 return unsure;
             }
-            Extent {
+            Tally {
                 tags: 1,
                 content: leaf_content(class, a, b, source),
             }
@@ -139,12 +137,12 @@ fn survey_argument(table: &[u8], at: usize, source: &[u8], levels: usize) -> Ext
 }
 
 // The extent of the arguments from record `lo` to record `hi`, in which arrays are nested no deeper than `levels`.
-fn survey_arguments(table: &[u8], lo: usize, hi: usize, source: &[u8], levels: usize) -> Extent
+fn survey_arguments(table: &[u8], lo: usize, hi: usize, source: &[u8], levels: usize) -> Tally
     requires { ⌜ (lo ≤ hi) × (hi ≤ 65535) × (recordSize * hi ≤ length (now table)) ⌝ }
-    ensures { λ r. ⌜ (r .content ≤ 65539 → Arguments (now (table .entry)) (now (source .entry)) lo hi (r .tags) (r .content)) ⌝ }
+    ensures { λ r. ⌜ (r .content ≤ 65539 → SurveyedArguments (now (table .entry)) (now (source .entry)) lo hi (r .tags) (r .content)) ⌝ }
     ensures { λ r. ⌜ (r .tags ≤ 2 * (hi - lo)) × (r .content ≤ 65540) ⌝ }
 {
-    let unsure = Extent {
+    let unsure = Tally {
         tags: 0,
         content: UNSURE,
     };
@@ -163,7 +161,7 @@ fn survey_arguments(table: &[u8], lo: usize, hi: usize, source: &[u8], levels: u
         }
         at = end_at(table, at) as usize;
     }
-    Extent {
+    Tally {
         tags: tags,
         content: content,
     }
@@ -172,7 +170,7 @@ fn survey_arguments(table: &[u8], lo: usize, hi: usize, source: &[u8], levels: u
 // The length of the message at a record.
 fn survey_message(table: &[u8], at: usize, source: &[u8]) -> usize
     requires { ⌜ (at < endAt (now table) at) × (endAt (now table) at ≤ 65535) × (recordSize * endAt (now table) at ≤ length (now table)) ⌝ }
-    ensures { λ r. ⌜ (r ≤ 65539 → Message (now (table .entry)) (now (source .entry)) at r) × (r ≤ 2 ^ 33) ⌝ }
+    ensures { λ r. ⌜ (r ≤ 65539 → SurveyedMessage (now (table .entry)) (now (source .entry)) at r) × (r ≤ 2 ^ 33) ⌝ }
 {
     let b = b_at(table, at);
     if !text_ok(source, a_at(table, at), b) {
@@ -186,7 +184,7 @@ fn survey_message(table: &[u8], at: usize, source: &[u8]) -> usize
 // The length of one packet as an element, its size counted; bundles in it are nested no deeper than `levels`.
 fn survey_packet(table: &[u8], at: usize, source: &[u8], levels: usize) -> usize
     requires { ⌜ (at < endAt (now table) at) × (endAt (now table) at ≤ 65535) × (recordSize * endAt (now table) at ≤ length (now table)) ⌝ }
-    ensures { λ r. ⌜ (r ≤ 65539 → Element (now (table .entry)) (now (source .entry)) at levels r) × (r ≤ 2 ^ 34) ⌝ }
+    ensures { λ r. ⌜ (r ≤ 65539 → SurveyedPacket (now (table .entry)) (now (source .entry)) at levels r) × (r ≤ 2 ^ 34) ⌝ }
 {
     match kind_at(table, at) {
         b'/' => 4 + survey_message(table, at, source),
@@ -204,7 +202,7 @@ fn survey_packet(table: &[u8], at: usize, source: &[u8], levels: usize) -> usize
 // The length of the packets from record `lo` to record `hi` as elements of a bundle, in which bundles are nested no deeper than `levels`.
 fn survey_packets(table: &[u8], lo: usize, hi: usize, source: &[u8], levels: usize) -> usize
     requires { ⌜ (lo ≤ hi) × (hi ≤ 65535) × (recordSize * hi ≤ length (now table)) ⌝ }
-    ensures { λ r. ⌜ (r ≤ 65539 → Elements (now (table .entry)) (now (source .entry)) lo hi levels r) × (r ≤ 65540) ⌝ }
+    ensures { λ r. ⌜ (r ≤ 65539 → SurveyedPackets (now (table .entry)) (now (source .entry)) lo hi levels r) × (r ≤ 65540) ⌝ }
 {
     let mut total: usize = 0;
     let mut at = lo;

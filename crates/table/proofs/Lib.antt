@@ -1,3 +1,4 @@
+pub mod Choices
 pub mod Only
 pub mod Spanned
 pub mod Depths

@@ -38,18 +38,18 @@ fn may_contain(container: u8, kind: u8) -> bool
 }
 
 // Whether a range lies in the source.
-pub fn lies_in(source: &[u8], offset: u32, length: u32) -> bool
-    ensures { λ r. ⌜ r ≡ inside (now (source .entry)) offset length ⌝ }
+pub fn lies_in(source: &[u8], offset: u32, count: u32) -> bool
+    ensures { λ r. ⌜ r ≡ inside (now (source .entry)) offset count ⌝ }
 {
-    offset as usize + length as usize <= source.len()
+    offset as usize + count as usize <= source.len()
 }
 
 // Whether a range lies in the source and is UTF-8 there.
-pub fn text_ok(source: &[u8], offset: u32, length: u32) -> bool
-    ensures { λ r. ⌜ r ≡ textOk (now (source .entry)) offset length ⌝ }
+pub fn text_ok(source: &[u8], offset: u32, count: u32) -> bool
+    ensures { λ r. ⌜ r ≡ textOk (now (source .entry)) offset count ⌝ }
 {
     let from = offset as usize;
-    let to = from + length as usize;
+    let to = from + count as usize;
     if source.len() < to {
         return false;
     }

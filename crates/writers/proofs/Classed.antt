@@ -15,19 +15,10 @@ use Rattle.node.specs.declared.tags.Class.{Class}
 use Rattle.node.specs.declared.tags.Class.the-variants.{Four, Eight, Bare, Text, Blob, Scalar, Unknown}
 use Rattle.node.specs.declared.tags.Sort.{Sort}
 use Rattle.node.specs.declared.tags.Sort.the-variants.{Opens, Closes, Leaf}
+use Rattle.table.proofs.Choices.{then-only, else-only}
 use Rattle.table.specs.Formed.{part, inside, rangeOk}
-use Rattle.writers.specs.Osc.{dataBy, dataOf, tagsBy, tagsOf, messageOf, bundleOf, elementOf, elementsOf, packetOf}
-use Rattle.strings.specs.Atomic.{ranged}
-
--- ---- which branch of a test gave an answer
-
-else-only : {A : Type 0} (x : Bool) {p q r : A} → cond x p q ≡ r → (p ≡ r → ⊥) → q ≡ r
-else-only true e n = absurd (n e)
-else-only false e n = e
-
-pub then-only : {A : Type 0} (x : Bool) (p : A) {q r : A} → cond x p q ≡ r → (q ≡ r → ⊥) → x ≡ true
-then-only true p e n = refl
-then-only false p e n = absurd (n e)
+use Rattle.writers.specs.Osc.{dataBy, writeData, tagsBy, writeTags, writeMessage, writeBundle, writeElement, writeElements, writePacket}
+use Rattle.strings.specs.InnerStrings.{hasRange}
 
 -- two sorts, or two classes, that a test tells apart
 apart : {A : Type 0} (f : A → Bool) (x y : A) → f x ≡ false → f y ≡ true → x ≡ y → ⊥
@@ -63,12 +54,12 @@ class-of k class e =
     (apart leafy Closes (Leaf class) refl refl) in
     cc
 
-skip : (x : Bool) (p q : Class) → ranged p ≡ false → ranged (cond x p q) ≡ true → ranged q ≡ true
+skip : (x : Bool) (p q : Class) → hasRange p ≡ false → hasRange (cond x p q) ≡ true → hasRange q ≡ true
 skip true p q n e = absurd (false≢true (sym n ∙ e))
 skip false p q n e = e
 
 -- only s and b have a range
-ranged-kind : (k : ℕ) → ranged (classOf k) ≡ true → (k ≡ 115) ⊎ (k ≡ 98)
+ranged-kind : (k : ℕ) → hasRange (classOf k) ≡ true → (k ≡ 115) ⊎ (k ≡ 98)
 unfolding classOf
 ranged-kind k e =
     let late = cond (eqb k 115) Text (cond (eqb k 98) Blob (cond (eqb k 99) Scalar Unknown)) in
@@ -79,17 +70,17 @@ ranged-kind k e =
     (skip bare Bare late refl
     (skip eight Eight (cond bare Bare late) refl (skip four Four (cond eight Eight (cond bare Bare late)) refl e)))
   where
-    blob : (x : Bool) → ranged (cond x Blob (cond (eqb k 99) Scalar Unknown)) ≡ true → x ≡ true
+    blob : (x : Bool) → hasRange (cond x Blob (cond (eqb k 99) Scalar Unknown)) ≡ true → x ≡ true
     blob true e = refl
     blob false e = absurd (false≢true (skip (eqb k 99) Scalar Unknown refl e))
 
-    text : (x : Bool) → eqb k 115 ≡ x → ranged (cond x Text (cond (eqb k 98) Blob (cond (eqb k 99) Scalar Unknown))) ≡ true
+    text : (x : Bool) → eqb k 115 ≡ x → hasRange (cond x Text (cond (eqb k 98) Blob (cond (eqb k 99) Scalar Unknown))) ≡ true
         → (k ≡ 115) ⊎ (k ≡ 98)
     text true q e = inl (eqb-true k 115 q)
     text false q e = inr (eqb-true k 98 (blob (eqb k 98) e))
 
 -- the range of a text or a blob lies in the source
-pub leaf-range : (source : List ℕ) (k a b : ℕ) (class : Class) → rangeOk source k a b ≡ true → sortOf k ≡ Leaf class → ranged class ≡ true
+pub leaf-range : (source : List ℕ) (k a b : ℕ) (class : Class) → rangeOk source k a b ≡ true → sortOf k ≡ Leaf class → hasRange class ≡ true
     → a + b ≤ length source
 unfolding rangeOk
 leaf-range source k a b class r s e =
@@ -115,52 +106,52 @@ tags-by-some Opens k within = omega arith
 tags-by-some Closes k within = omega arith
 tags-by-some (Leaf class) k within = omega arith
 
-pub tags-none : tagsOf nil ≡ []
-unfolding tagsOf
+pub tags-none : writeTags nil ≡ []
+unfolding writeTags
 tags-none = refl
 
-pub data-none : (source : List ℕ) → dataOf source nil ≡ []
-unfolding dataOf
+pub data-none : (source : List ℕ) → writeData source nil ≡ []
+unfolding writeData
 data-none source = refl
 
-pub elements-none : (source : List ℕ) → elementsOf source nil ≡ []
-unfolding elementsOf
+pub elements-none : (source : List ℕ) → writeElements source nil ≡ []
+unfolding writeElements
 elements-none source = refl
 
 module _ (k a b : ℕ) (inside rest : Forest) where
-  pub tags-some : 1 ≤ length (tagsOf (node k a b inside rest))
-  unfolding tagsOf
-  tags-some = simp length-append (omega (arith, tags-by-some (sortOf k) k (tagsOf inside)))
+  pub tags-some : 1 ≤ length (writeTags (node k a b inside rest))
+  unfolding writeTags
+  tags-some = simp length-append (omega (arith, tags-by-some (sortOf k) k (writeTags inside)))
 
-  pub tags-array : k ≡ 91 → tagsOf (node k a b inside rest) ≡ (k ∷ (tagsOf inside ++ (93 ∷ []))) ++ tagsOf rest
-  unfolding tagsOf
+  pub tags-array : k ≡ 91 → writeTags (node k a b inside rest) ≡ (k ∷ (writeTags inside ++ (93 ∷ []))) ++ writeTags rest
+  unfolding writeTags
   tags-array e = rw (opens k e)
 
-  pub tags-leaf : (k ≡ 91 → ⊥) → tagsOf (node k a b inside rest) ≡ (k ∷ []) ++ tagsOf rest
-  unfolding tagsOf
-  tags-leaf n = rw (tags-by-leaf (sortOf k) k (tagsOf inside) (λ e. n (opens-only k e)))
+  pub tags-leaf : (k ≡ 91 → ⊥) → writeTags (node k a b inside rest) ≡ (k ∷ []) ++ writeTags rest
+  unfolding writeTags
+  tags-leaf n = rw (tags-by-leaf (sortOf k) k (writeTags inside) (λ e. n (opens-only k e)))
 
-  pub tags-is : tagsOf (node k a b inside rest) ≡ tagsBy (sortOf k) k (tagsOf inside) ++ tagsOf rest
-  unfolding tagsOf
+  pub tags-is : writeTags (node k a b inside rest) ≡ tagsBy (sortOf k) k (writeTags inside) ++ writeTags rest
+  unfolding writeTags
   tags-is = refl
 
   pub data-is : (source : List ℕ) (sort : Sort) → sort ≡ sortOf k
-      → dataOf source (node k a b inside rest) ≡ dataBy sort source a b (dataOf source inside) ++ dataOf source rest
-  unfolding dataOf
+      → writeData source (node k a b inside rest) ≡ dataBy sort source a b (writeData source inside) ++ writeData source rest
+  unfolding writeData
   data-is source sort e = rw e
 
   pub elements-is : (source : List ℕ)
-      → elementsOf source (node k a b inside rest) ≡ elementOf (packetOf source k a b inside) ++ elementsOf source rest
-  unfolding elementsOf packetOf
+      → writeElements source (node k a b inside rest) ≡ writeElement (writePacket source k a b inside) ++ writeElements source rest
+  unfolding writeElements writePacket
   elements-is source = refl
 
 -- ---- a packet by its kind
 
 module _ (source : List ℕ) (k a b : ℕ) (inside : Forest) where
-  pub message-is : k ≡ 47 → packetOf source k a b inside ≡ messageOf source a b inside
-  unfolding packetOf
+  pub message-is : k ≡ 47 → writePacket source k a b inside ≡ writeMessage source a b inside
+  unfolding writePacket
   message-is e = rw e
 
-  pub bundle-is : (k ≡ 47 → ⊥) → packetOf source k a b inside ≡ bundleOf a b [] ++ elementsOf source inside
-  unfolding packetOf bundleOf
+  pub bundle-is : (k ≡ 47 → ⊥) → writePacket source k a b inside ≡ writeBundle a b [] ++ writeElements source inside
+  unfolding writePacket writeBundle
   bundle-is n = rw (ne-eqb k 47 n) (simp (append-assoc, append-nil))

@@ -12,8 +12,8 @@ use Rattle.node.specs.Forest.{Forest, nil}
 use Rattle.node.specs.Records.{recordSize, kindAt, endAt, aAt, bAt}
 use Rattle.table.specs.Tree.{Spans}
 use Rattle.table.proofs.Spanned.{Cut, Parts, cut, cut-parts, no-more, spans-unique}
-use Rattle.writers.specs.Osc.{tagsOf}
-use Rattle.writers.specs.Writers.{Any, Sound, Room, Fills}
+use Rattle.writers.specs.Osc.{writeTags}
+use Rattle.writers.specs.InnerWriters.{Any, Sound, OutputRoom, WritesRow}
 use Rattle.writers.proofs.Classed.{tags-array, tags-leaf, tags-some}
 
 -- of a row that is P, and of which g is to be written, k bytes stand in the output, and f of the records from `at` on is left
@@ -33,7 +33,7 @@ pub record Going (P : Forest → Type 0) (g f : Forest → List ℕ) (t : List �
 
 -- the loop begins
 pub begun : {P : Forest → Type 0} {g f : Forest → List ℕ} {t : List ℕ} {lo hi : ℕ} {o₀ o : List ℕ} {k : ℕ}
-    (r : Room P g t lo hi (length o₀)) (done : List ℕ)
+    (r : OutputRoom P g t lo hi (length o₀)) (done : List ℕ)
     → g (r .forest) ≡ done ++ f (r .forest) → Filled done o₀ o k → Going P g f t lo hi o₀ o lo k
 begun r done e w =
     record {
@@ -51,14 +51,14 @@ begun r done e w =
       passed = omega arith;
     }
 
-pub begun-empty : {P : Forest → Type 0} {f : Forest → List ℕ} {t : List ℕ} {lo hi : ℕ} {o : List ℕ} → Room P f t lo hi (length o)
+pub begun-empty : {P : Forest → Type 0} {f : Forest → List ℕ} {t : List ℕ} {lo hi : ℕ} {o : List ℕ} → OutputRoom P f t lo hi (length o)
     → Going P f f t lo hi o o lo 0
 begun-empty r = begun r [] refl (record { count = refl; wrote = wrote-none _ })
 
 module _ {P : Forest → Type 0} {g f : Forest → List ℕ} {t : List ℕ} {lo hi : ℕ} {o₀ o : List ℕ} {at k : ℕ}
     (w : Going P g f t lo hi o₀ o at k) where
   -- it ends
-  pub ended : f nil ≡ [] → hi ≤ at → Fills g t lo hi o₀ o k
+  pub ended : f nil ≡ [] → hi ≤ at → WritesRow g t lo hi o₀ o k
   ended e h F s =
       let r : w .rest ≡ nil = no-more t at hi (w .rest) h (w .left) in
       let q : w .whole ≡ F = spans-unique t lo hi (w .whole) F (w .spans) s in
@@ -106,25 +106,25 @@ obeyed {source} w h = cut-parts (next w h) source (w .holds .container) (w .hold
 
 -- ---- a turn of the tags' loop
 
-module _ {t : List ℕ} {lo hi : ℕ} {o₀ o : List ℕ} {at k : ℕ} (w : Going Any tagsOf tagsOf t lo hi o₀ o at k) (h : at < hi) where
-  leaf-is : (kindAt t at ≡ 91 → ⊥) → tagsOf (w .rest) ≡ (kindAt t at ∷ []) ++ tagsOf (next w h .rest)
-  leaf-is n = ap tagsOf (next w h .is) ∙ tags-leaf (kindAt t at) (aAt t at) (bAt t at) (next w h .inside) (next w h .rest) n
+module _ {t : List ℕ} {lo hi : ℕ} {o₀ o : List ℕ} {at k : ℕ} (w : Going Any writeTags writeTags t lo hi o₀ o at k) (h : at < hi) where
+  leaf-is : (kindAt t at ≡ 91 → ⊥) → writeTags (w .rest) ≡ (kindAt t at ∷ []) ++ writeTags (next w h .rest)
+  leaf-is n = ap writeTags (next w h .is) ∙ tags-leaf (kindAt t at) (aAt t at) (bAt t at) (next w h .inside) (next w h .rest) n
 
-  array-is : kindAt t at ≡ 91 → tagsOf (w .rest) ≡ (kindAt t at ∷ (tagsOf (next w h .inside) ++ (93 ∷ []))) ++ tagsOf (next w h .rest)
-  array-is y = ap tagsOf (next w h .is) ∙ tags-array (kindAt t at) (aAt t at) (bAt t at) (next w h .inside) (next w h .rest) y
+  array-is : kindAt t at ≡ 91 → writeTags (w .rest) ≡ (kindAt t at ∷ (writeTags (next w h .inside) ++ (93 ∷ []))) ++ writeTags (next w h .rest)
+  array-is y = ap writeTags (next w h .is) ∙ tags-array (kindAt t at) (aAt t at) (bAt t at) (next w h .inside) (next w h .rest) y
 
   -- there is room for a tag
   pub tag-room : (k + 1 ≤ length o₀) × (k + 1 ≤ 65535)
   tag-room =
-      let l : 1 ≤ length (tagsOf (w .rest)) = rw (next w h .is)
+      let l : 1 ≤ length (writeTags (w .rest)) = rw (next w h .is)
       (tags-some (kindAt t at) (aAt t at) (bAt t at) (next w h .inside) (next w h .rest)) in
       (omega (arith, room-left w), omega (arith, room-left w))
 
-  array-length : kindAt t at ≡ 91 → 2 + length (tagsOf (next w h .inside)) ≤ length (tagsOf (w .rest))
+  array-length : kindAt t at ≡ 91 → 2 + length (writeTags (next w h .inside)) ≤ length (writeTags (w .rest))
   array-length y = omega (arith, simp length-append at (ap length (array-is y)))
 
   module _ {kind end : ℕ} (e : kind ≡ kindAt t at) (e′ : end ≡ endAt t at) where
-    pub tags-leaf-gone : (kind ≡ 91 → ⊥) → Going Any tagsOf tagsOf t lo hi o₀ (set o k kind) end (k + 1)
+    pub tags-leaf-gone : (kind ≡ 91 → ⊥) → Going Any writeTags writeTags t lo hi o₀ (set o k kind) end (k + 1)
     tags-leaf-gone n = rw (e, e′)
         (gone w h (kindAt t at ∷ []) (leaf-is (rw e at n)) tt (filled-set (kindAt t at) (w .filled) (omega (arith, tag-room))))
 
@@ -136,7 +136,7 @@ module _ {t : List ℕ} {lo hi : ℕ} {o₀ o : List ℕ} {at k : ℕ} (w : Goin
     opened-length = simp length-set (filled-length (w .filled))
 
     -- what an array contains has room after it
-    pub tags-inside : kind ≡ 91 → Room Any tagsOf t (at + 1) end (length (midOf (k + 1) (length opened - (k + 1)) opened))
+    pub tags-inside : kind ≡ 91 → OutputRoom Any writeTags t (at + 1) end (length (midOf (k + 1) (length opened - (k + 1)) opened))
     tags-inside y =
         let m = array-length (rw e at y) in
         record {
@@ -149,9 +149,9 @@ module _ {t : List ℕ} {lo hi : ℕ} {o₀ o : List ℕ} {at k : ℕ} (w : Goin
         }
 
     -- and then there is room for the closing bracket
-    module _ (y : kind ≡ 91) {p : List ℕ} {n : ℕ} (f : Fills tagsOf t (at + 1) end (midOf (k + 1) (length opened - (k + 1)) opened) p n)
+    module _ (y : kind ≡ 91) {p : List ℕ} {n : ℕ} (f : WritesRow writeTags t (at + 1) end (midOf (k + 1) (length opened - (k + 1)) opened) p n)
       where
-        inside-filled : Filled (tagsOf (next w h .inside)) (midOf (k + 1) (length opened - (k + 1)) opened) p n
+        inside-filled : Filled (writeTags (next w h .inside)) (midOf (k + 1) (length opened - (k + 1)) opened) p n
         inside-filled = f (next w h .inside) (rw e′ (next w h .in-spans))
 
         pub close-room : (k + 1 + n + 1 ≤ length (putMid (k + 1) (length opened - (k + 1)) opened p)) × (k + 1 + n + 1 ≤ 65535)
@@ -160,12 +160,12 @@ module _ {t : List ℕ} {lo hi : ℕ} {o₀ o : List ℕ} {at k : ℕ} (w : Goin
             let c = inside-filled .count in
             (omega (arith, room-left w, opened-length, same-length opened (k + 1) (inside-filled .wrote)), omega (arith, room-left w))
 
-        pub tags-array-gone : Going Any tagsOf tagsOf t lo hi o₀ (set (putMid (k + 1) (length opened - (k + 1)) opened p) (k + 1 + n) 93)
+        pub tags-array-gone : Going Any writeTags writeTags t lo hi o₀ (set (putMid (k + 1) (length opened - (k + 1)) opened p) (k + 1 + n) 93)
             end (k + 1 + n + 1)
         tags-array-gone =
             let l = same-length opened (k + 1) (inside-filled .wrote) in
             let f₁ = filled-set kind (w .filled) (omega (arith, tag-room)) in
             let f₂ = filled-set 93 (filled-lent f₁ inside-filled) (omega (arith, close-room, l, opened-length)) in
-            let q : tagsOf (w .rest) ≡ (kind ∷ (tagsOf (next w h .inside) ++ (93 ∷ []))) ++ tagsOf (next w h .rest) = rw e
+            let q : writeTags (w .rest) ≡ (kind ∷ (writeTags (next w h .inside) ++ (93 ∷ []))) ++ writeTags (next w h .rest) = rw e
             (array-is (rw e at y)) in
-            rw e′ (gone w h (kind ∷ (tagsOf (next w h .inside) ++ (93 ∷ []))) q tt (simp append-assoc at f₂))
+            rw e′ (gone w h (kind ∷ (writeTags (next w h .inside) ++ (93 ∷ []))) q tt (simp append-assoc at f₂))

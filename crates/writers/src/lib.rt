@@ -18,13 +18,13 @@ ghost use Prim.Native.Nat.{_+_, _≤_, _<_};
 ghost use lib.ListN.{length};
 ghost use Rattle.wire.specs.Wrote.{Filled};
 ghost use Rattle.node.specs.Records.{kindAt, endAt};
-ghost use Rattle.writers.specs.Osc.{bundleOf, tagsOf, dataOf};
-ghost use Rattle.writers.specs.Writers.{tagText, Any, Sound, Room, Fills, Ready, packetAt};
+ghost use Rattle.writers.specs.Osc.{writeBundle, writeTags, writeData};
+ghost use Rattle.writers.specs.InnerWriters.{tagText, Any, Sound, OutputRoom, WritesRow, Ready, packetAt};
 
 // Writes the type tags of the records lo to hi - 1: an array's stand in brackets.
 fn encode_arg_types(table: &[u8], lo: usize, hi: usize, out: &mut [u8]) -> usize
-    requires { ⌜ Room Any tagsOf (now table) lo hi (length (now out)) ⌝ }
-    ensures { λ r. ⌜ Fills tagsOf (now (table .entry)) lo hi (now (out .entry)) (now (out .exit)) r ⌝ }
+    requires { ⌜ OutputRoom Any writeTags (now table) lo hi (length (now out)) ⌝ }
+    ensures { λ r. ⌜ WritesRow writeTags (now (table .entry)) lo hi (now (out .entry)) (now (out .exit)) r ⌝ }
 {
     let mut at = lo;
     let mut written: usize = 0;
@@ -45,8 +45,8 @@ fn encode_arg_types(table: &[u8], lo: usize, hi: usize, out: &mut [u8]) -> usize
 
 // Writes the data of the records lo to hi - 1: an array's is that of what it contains.
 fn encode_arg_data(table: &[u8], lo: usize, hi: usize, source: &[u8], out: &mut [u8]) -> usize
-    requires { ⌜ Room (Sound (now source)) (dataOf (now source)) (now table) lo hi (length (now out)) ⌝ }
-    ensures { λ r. ⌜ Fills (dataOf (now (source .entry))) (now (table .entry)) lo hi (now (out .entry)) (now (out .exit)) r ⌝ }
+    requires { ⌜ OutputRoom (Sound (now source)) (writeData (now source)) (now table) lo hi (length (now out)) ⌝ }
+    ensures { λ r. ⌜ WritesRow (writeData (now (source .entry))) (now (table .entry)) lo hi (now (out .entry)) (now (out .exit)) r ⌝ }
 {
     let mut at = lo;
     let mut written: usize = 0;
@@ -70,8 +70,8 @@ fn encode_arg_data(table: &[u8], lo: usize, hi: usize, source: &[u8], out: &mut 
 
 // Writes the type tag text of the records lo to hi - 1: a comma, the tags and 1 to 4 NULs.
 fn encode_type_tags(table: &[u8], lo: usize, hi: usize, out: &mut [u8]) -> usize
-    requires { ⌜ Room Any tagText (now table) lo hi (length (now out)) ⌝ }
-    ensures { λ r. ⌜ Fills tagText (now (table .entry)) lo hi (now (out .entry)) (now (out .exit)) r ⌝ }
+    requires { ⌜ OutputRoom Any tagText (now table) lo hi (length (now out)) ⌝ }
+    ensures { λ r. ⌜ WritesRow tagText (now (table .entry)) lo hi (now (out .entry)) (now (out .exit)) r ⌝ }
 {
     out[0] = b',';
     let end = 1 + encode_arg_types(table, lo, hi, &mut out[1..]);
@@ -82,7 +82,7 @@ fn encode_type_tags(table: &[u8], lo: usize, hi: usize, out: &mut [u8]) -> usize
 fn encode_message(table: &[u8], at: usize, source: &[u8], out: &mut [u8]) -> usize
     requires { ⌜ kindAt (now table) at ≡ 47 ⌝ }
     requires { ⌜ Ready (now source) (now table) at (length (now out)) ⌝ }
-    ensures { λ r. ⌜ Fills (packetAt (now (source .entry)) (now (table .entry)) at) (now (table .entry)) (at + 1) (endAt (now (table .entry)) at) (now (out .entry)) (now (out .exit)) r ⌝ }
+    ensures { λ r. ⌜ WritesRow (packetAt (now (source .entry)) (now (table .entry)) at) (now (table .entry)) (at + 1) (endAt (now (table .entry)) at) (now (out .entry)) (now (out .exit)) r ⌝ }
 {
     let end = end_at(table, at) as usize;
     let address = encode_leaf_data(Class::Text, a_at(table, at), b_at(table, at), source, out);
@@ -93,7 +93,7 @@ fn encode_message(table: &[u8], at: usize, source: &[u8], out: &mut [u8]) -> usi
 // Writes what every bundle begins with: its mark and its time tag.
 fn encode_bundle_head(seconds: u32, fractional: u32, out: &mut [u8]) -> usize
     requires { ⌜ 16 ≤ length (now out) ⌝ }
-    ensures { λ r. ⌜ Filled (bundleOf seconds fractional []) (now (out .entry)) (now (out .exit)) r ⌝ }
+    ensures { λ r. ⌜ Filled (writeBundle seconds fractional []) (now (out .entry)) (now (out .exit)) r ⌝ }
 {
     write(b"#bundle\0", out);
     8 + encode_pair_into(seconds, fractional, &mut out[8..])
@@ -103,7 +103,7 @@ fn encode_bundle_head(seconds: u32, fractional: u32, out: &mut [u8]) -> usize
 fn encode_bundle(table: &[u8], at: usize, source: &[u8], out: &mut [u8]) -> usize
     requires { ⌜ (kindAt (now table) at ≡ 47 → ⊥) ⌝ }
     requires { ⌜ Ready (now source) (now table) at (length (now out)) ⌝ }
-    ensures { λ r. ⌜ Fills (packetAt (now (source .entry)) (now (table .entry)) at) (now (table .entry)) (at + 1) (endAt (now (table .entry)) at) (now (out .entry)) (now (out .exit)) r ⌝ }
+    ensures { λ r. ⌜ WritesRow (packetAt (now (source .entry)) (now (table .entry)) at) (now (table .entry)) (at + 1) (endAt (now (table .entry)) at) (now (out .entry)) (now (out .exit)) r ⌝ }
 {
     let end = end_at(table, at) as usize;
     let mut written = encode_bundle_head(a_at(table, at), b_at(table, at), out);
@@ -121,7 +121,7 @@ fn encode_bundle(table: &[u8], at: usize, source: &[u8], out: &mut [u8]) -> usiz
 // Writes the packet at a record.
 pub fn encode_packet(table: &[u8], at: usize, source: &[u8], out: &mut [u8]) -> usize
     requires { ⌜ Ready (now source) (now table) at (length (now out)) ⌝ }
-    ensures { λ r. ⌜ Fills (packetAt (now (source .entry)) (now (table .entry)) at) (now (table .entry)) (at + 1) (endAt (now (table .entry)) at) (now (out .entry)) (now (out .exit)) r ⌝ }
+    ensures { λ r. ⌜ WritesRow (packetAt (now (source .entry)) (now (table .entry)) at) (now (table .entry)) (at + 1) (endAt (now (table .entry)) at) (now (out .entry)) (now (out .exit)) r ⌝ }
 {
     if kind_at(table, at) == b'/' {
         return encode_message(table, at, source, out);

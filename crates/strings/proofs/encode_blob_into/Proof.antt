@@ -1,4 +1,4 @@
--- `encoder::write::encode_blob_into` meets its contract.
+-- `strings::encode_blob_into` meets its contract.
 use mathlib.Core.Path.{refl, sym}
 use mathlib.Core.List.{append-assoc}
 use Rattle.wire.proofs.Numbers.{length-bytes}

@@ -1,4 +1,4 @@
--- `encoder::write::encode_string_into` meets its contract.
+-- `strings::encode_string_into` meets its contract.
 use mathlib.Core.Path.{refl}
 use Rattle.wire.proofs.Writers.{filled-lent}
 use Rattle.strings.specs.Atomic.{oscString}

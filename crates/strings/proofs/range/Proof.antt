@@ -1,4 +1,4 @@
--- `encoder::write::range` meets its contract.
+-- `strings::range` meets its contract.
 use mathlib.Core.Path.{_≡_}
 use Prim.Native.Nat.{_+_, _-_}
 use native.Mathlib.Omega.{arith}

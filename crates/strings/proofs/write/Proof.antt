@@ -1,4 +1,4 @@
--- `encoder::write::write` meets its contract. After i turns the first i bytes are written.
+-- `strings::write` meets its contract. After i turns the first i bytes are written.
 use mathlib.Core.Path.{_≡_, refl}
 use Prim.Native.Nat.{_≤_, _-_}
 use native.Mathlib.Omega.{arith}

@@ -1,4 +1,4 @@
--- `encoder::survey::survey_argument` and `survey_arguments` meet their contracts. The levels of arrays fall; the arguments stand
+-- `survey::survey_argument` and `survey_arguments` meet their contracts. The levels of arrays fall; the arguments stand
 -- above one of them.
 use mathlib.Core.Path.{sym, _∙_}
 use native.Mathlib.Omega.{arith}

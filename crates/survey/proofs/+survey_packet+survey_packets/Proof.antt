@@ -1,4 +1,4 @@
--- `encoder::survey::survey_packet` and `survey_packets` meet their contracts. The levels of bundles fall; the packets stand above
+-- `survey::survey_packet` and `survey_packets` meet their contracts. The levels of bundles fall; the packets stand above
 -- one of them.
 use mathlib.Core.Path.{refl, sym, _∙_}
 use mathlib.Core.List.{[], _∷_}

@@ -1,4 +1,4 @@
--- `encoder::survey::is_placed` meets its contract: the tests are the definition's.
+-- `survey::is_placed` meets its contract: the tests are the definition's.
 use mathlib.Core.Path.{sym, _∙_}
 use native.Mathlib.Omega.{arith}
 use borrow.Author.Tests.{eq-eqb, ne-eqb, lt-ltb, le-ltb}

@@ -1,4 +1,4 @@
--- `encoder::survey::survey` meets its contract: the first record is the whole table's.
+-- `survey::survey` meets its contract: the first record is the whole table's.
 use mathlib.Core.Path.{sym, _∙_}
 use native.Mathlib.Omega.{arith}
 use Rattle.survey.proofs.Surveyed.{tree-surveyed}

@@ -11,14 +11,14 @@ use Rattle.table.proofs.text_ok.Tie as tie
 returns : tie.Need-returns
 returns c =
     let a = c .before .before .args in
-    rw (lt-leb (a .offset + a .length) (length (a .source .now)) (omega arith))
+    rw (lt-leb (a .offset + a .count) (length (a .source .now)) (omega arith))
 
 returns-2 : tie.Need-returns-2
 returns-2 c =
     let p2 = c .before .before in
     let p4 = p2 .before .before in
     let a = p4 .args in
-    text-tested (a .source .now) (a .offset) (a .length) (p2 .if1 .left) (c .is-utf8 .ensures)
+    text-tested (a .source .now) (a .offset) (a .count) (p2 .if1 .left) (c .is-utf8 .ensures)
 
 pub text-ok-spec : {M : Type 1} → statement M
 text-ok-spec =

@@ -1,10 +1,10 @@
--- `encoder::write::encode_arg_data` meets its contract: of the row, what is written and what is left. The number of records falls.
+-- `writers::encode_arg_data` meets its contract: of the row, what is written and what is left. The number of records falls.
 use Prim.Native.Nat.{_-_, ℕ, _<_}
 use native.Mathlib.Omega.{arith}
 use borrow.Author.Needs.{needs}
 use Rattle.wire.proofs.Writers.{filled-length}
-use Rattle.writers.specs.Osc.{dataOf}
-use Rattle.writers.specs.Writers.{Sound}
+use Rattle.writers.specs.Osc.{writeData}
+use Rattle.writers.specs.InnerWriters.{Sound}
 use Rattle.writers.proofs.Classed.{data-none}
 use Rattle.writers.proofs.Rows.{Going, begun-empty, ended, ends, room-left}
 use Rattle.writers.proofs.Arguments.{data-inside, array-after, array-gone, closes-gone, leaf-asked, leaf-after, leaf-gone}
@@ -43,7 +43,7 @@ encode-arg-data-below t =
 
 abbrev encode-arg-data-Inv-loop : encode-arg-data-lts.InvT-loop
 encode-arg-data-Inv-loop table lo hi source out₀ at₀ written₀ out at written =
-    Going (Sound source) (dataOf source) (dataOf source) table lo hi out₀ out at written
+    Going (Sound source) (writeData source) (writeData source) table lo hi out₀ out at written
 
 abbrev encode-arg-data-μ-loop : encode-arg-data-lts.MeasureT-loop
 encode-arg-data-μ-loop table lo hi source out₀ at₀ written₀ out at written = hi - at

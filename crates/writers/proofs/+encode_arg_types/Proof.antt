@@ -1,10 +1,10 @@
--- `encoder::write::encode_arg_types` meets its contract: of the row, what is written and what is left. The number of records falls.
+-- `writers::encode_arg_types` meets its contract: of the row, what is written and what is left. The number of records falls.
 use Prim.Native.Nat.{_-_, ℕ, _<_}
 use native.Mathlib.Omega.{arith}
 use lib.ListN.{length-set}
 use Rattle.wire.proofs.Writers.{filled-length}
-use Rattle.writers.specs.Osc.{tagsOf}
-use Rattle.writers.specs.Writers.{Any}
+use Rattle.writers.specs.Osc.{writeTags}
+use Rattle.writers.specs.InnerWriters.{Any}
 use Rattle.writers.proofs.Classed.{tags-none}
 use Rattle.writers.proofs.Rows.{Going, begun-empty, ended, ends, tag-room, tags-inside, close-room, tags-array-gone, tags-leaf-gone}
 use Rattle.node.proofs.record.kind_at.Reads as kind-at-reads
@@ -37,7 +37,7 @@ encode-arg-types-below t =
     encode-arg-types.Pre
 
 abbrev encode-arg-types-Inv-loop : encode-arg-types-lts.InvT-loop
-encode-arg-types-Inv-loop table lo hi out₀ at₀ written₀ out at written = Going Any tagsOf tagsOf table lo hi out₀ out at written
+encode-arg-types-Inv-loop table lo hi out₀ at₀ written₀ out at written = Going Any writeTags writeTags table lo hi out₀ out at written
 
 abbrev encode-arg-types-μ-loop : encode-arg-types-lts.MeasureT-loop
 encode-arg-types-μ-loop table lo hi out₀ at₀ written₀ out at written = hi - at

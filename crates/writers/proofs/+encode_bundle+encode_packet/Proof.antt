@@ -1,4 +1,4 @@
--- `encoder::write::encode_bundle` and `encode_packet` meet their contracts: of a bundle's elements, what is written and what is left.
+-- `writers::encode_bundle` and `encode_packet` meet their contracts: of a bundle's elements, what is written and what is left.
 -- The number of records falls, and a packet stands above the bundle at the same record.
 use mathlib.Core.Path.{sym, _∙_}
 use Prim.Native.Nat.{_+_, _-_, _*_, ℕ, _<_}
@@ -7,8 +7,8 @@ use borrow.Author.Needs.{needs}
 use Rattle.wire.proofs.Parts.{length-lent}
 use Rattle.wire.proofs.Writers.{filled-length}
 use Rattle.node.specs.Records.{endAt}
-use Rattle.writers.specs.Osc.{elementsOf}
-use Rattle.writers.specs.Writers.{Sound, packetAt}
+use Rattle.writers.specs.Osc.{writeElements}
+use Rattle.writers.specs.InnerWriters.{Sound, packetAt}
 use Rattle.writers.proofs.Rows.{Going, next, ends}
 use Rattle.writers.proofs.Packets.{before-end, head-asked, bundle-begun, bundle-ended, element-room, packet-asked, packet-after}
 use Rattle.writers.proofs.Packets.{element-gone}
@@ -62,7 +62,7 @@ encode-packet-below t =
 
 abbrev encode-bundle-Inv-loop : encode-bundle-lts.InvT-loop
 encode-bundle-Inv-loop table at source out₀ end written₀ next₀ out written next =
-    Going (Sound source) (packetAt source table at) (elementsOf source) table (at + 1) end out₀ out next written
+    Going (Sound source) (packetAt source table at) (writeElements source) table (at + 1) end out₀ out next written
 
 abbrev encode-bundle-μ-loop : encode-bundle-lts.MeasureT-loop
 encode-bundle-μ-loop table at source out₀ end written₀ next₀ out written next = end - next

@@ -1,4 +1,4 @@
--- `encoder::write::encode_message` meets its contract: three writers, each after the one before it.
+-- `writers::encode_message` meets its contract: three writers, each after the one before it.
 use native.Mathlib.Omega.{arith}
 use Rattle.writers.proofs.Packets.{before-end, address-asked, address-fits, text-asked, head-room, data-asked, message-end}
 use Rattle.writers.proofs.Packets.{message-filled}

@@ -7,8 +7,8 @@ ghost use mathlib.Core.Path.{_≡_};
 ghost use Prim.Native.Nat.{ℕ, _+_, _*_, _^_, _≤_, _<_};
 ghost use lib.ListN.{length};
 ghost use Rattle.node.specs.Records.{recordSize, endAt};
-ghost use Rattle.strings.specs.Atomic.{stringLength, blobLength};
-ghost use Rattle.survey.specs.Measure.{argumentLength, dataLength, tagLength, sumTo, messageLength, elementLength, Measured};
+ghost use Rattle.strings.specs.InnerStrings.{stringLength, blobLength};
+ghost use Rattle.lengths.specs.InnerLengths.{argumentLength, dataLength, tagLength, sumTo, messageLength, elementLength, LengthOrOver};
 
 // The longest packet that is measured exactly, with the size before it.
 const MOST: usize = 65_539;
@@ -102,10 +102,10 @@ fn element_length(table: &[u8], at: usize) -> usize
 }
 
 // The length of the packet as an element, its size with it. No sum wraps: nothing is added once it is over the limit.
-pub fn measure(table: &[u8], count: usize) -> usize
+pub fn packet_length(table: &[u8], count: usize) -> usize
     requires { ⌜ (count ≤ 65535) × (recordSize * count ≤ length (now table)) ⌝ }
     requires { ⌜ ((i : ℕ) → i < count → (i < endAt (now table) i) × (endAt (now table) i ≤ count)) ⌝ }
-    ensures { λ r. ⌜ Measured r (sumTo (elementLength (now (table .entry))) count) ⌝ }
+    ensures { λ r. ⌜ LengthOrOver r (sumTo (elementLength (now (table .entry))) count) ⌝ }
 {
     let mut total: usize = 0;
     let mut at: usize = 0;

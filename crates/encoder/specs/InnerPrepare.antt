@@ -9,13 +9,13 @@ use Rattle.node.specs.Forest.{Forest, nil, node, depth}
 use Rattle.node.specs.Records.{recordSize, kindAt, endAt, aAt, bAt}
 use Rattle.table.specs.Formed.{WellFormed, rangeOk}
 use Rattle.table.specs.Tree.{Spans, IsTree}
-use Rattle.encoder.specs.Outcome.{Outcome, write}
-use Rattle.writers.specs.Writers.{Sound, packetAt}
+use Rattle.encoder.specs.Outcome.{Outcome, bytesOutcome}
+use Rattle.writers.specs.InnerWriters.{Sound, packetAt}
 use Rattle.encoder.specs.declared.Prepared.{Prepared}
 use Rattle.encoder.specs.declared.Prepared.the-variants.{Length, Refused}
 
 -- the packet of the first record can be written, and n is its length; where one is over 65,535, so is the other
-pub record Sized (source t : List ℕ) (n : ℕ) : Type 0 where
+pub record Writable (source t : List ℕ) (n : ℕ) : Type 0 where
   pub inside : Forest
   pub spans : Spans t 1 (endAt t 0) inside
   pub sound : Sound source inside
@@ -26,7 +26,7 @@ pub record Sized (source t : List ℕ) (n : ℕ) : Type 0 where
 
 -- whatever tree stands in the table, the outcome is that of writing what `frame` makes of its packet
 abbrev pub Writes : (List ℕ → List ℕ) → List ℕ → List ℕ → List ℕ → Outcome → Type 0
-Writes frame source t out r = (F : Forest) → Spans t 1 (endAt t 0) F → r ≡ write (frame (packetAt source t 0 F)) out
+Writes frame source t out r = (F : Forest) → Spans t 1 (endAt t 0) F → r ≡ bytesOutcome (frame (packetAt source t 0 F)) out
 
 -- 11 for a table that is not well formed, then 9 for a tree that is deeper than 64, then the length
 pub data Prepares (t : List ℕ) (count : ℕ) (source : List ℕ) (r : Prepared) : Type 0 where
@@ -36,4 +36,4 @@ pub data Prepares (t : List ℕ) (count : ℕ) (source : List ℕ) (r : Prepared
       → r ≡ Refused TooDeep → Prepares t count source r
   ready : (inside : Forest) → IsTree t count source (kindAt t 0) (aAt t 0) (bAt t 0) inside
       → depth (node (kindAt t 0) (aAt t 0) (bAt t 0) inside nil) ≤ 64
-      → (n : ℕ) → r ≡ Length n → Sized source t n → Prepares t count source r
+      → (n : ℕ) → r ≡ Length n → Writable source t n → Prepares t count source r

@@ -1,14 +1,14 @@
 -- The length of a packet is the sum over its records.
 use mathlib.Core.Path.{_≡_, refl, sym, ap, _∙_}
 use mathlib.Core.Bool.{Bool, true, false, not, cond, true≢false, false≢true}
-use mathlib.Core.Logic.{_⊎_, inl, inr, ⊎-elim}
+use mathlib.Core.Logic.{⊎-elim}
 use mathlib.Core.List.{List, [], _∷_}
 use Prim.Native.Nat.{ℕ, zero, suc, _+_, _-_, _≤_}
 use native.Mathlib.Omega.{arith}
 use native.Mathlib.Numerals.{add-one}
 use lib.Dec.{eqb}
 use lib.ListN.{length, length-append}
-use borrow.Author.Tests.{eqb-true, eqb-false, ne-eqb, not-true}
+use borrow.Author.Tests.{ne-eqb, not-true}
 use Rattle.wire.proofs.Numbers.{length-bytes}
 use Rattle.wire.proofs.Parts.{length-part}
 use Rattle.node.specs.Forest.{Forest, nil, node}
@@ -19,12 +19,14 @@ use Rattle.node.specs.declared.tags.Class.{Class}
 use Rattle.node.specs.declared.tags.Class.the-variants.{Four, Eight, Bare, Text, Blob, Scalar, Unknown}
 use Rattle.node.specs.declared.tags.Sort.{Sort}
 use Rattle.node.specs.declared.tags.Sort.the-variants.{Opens, Closes, Leaf}
+use Rattle.table.proofs.Choices.{is-or}
 use Rattle.table.specs.Formed.{part, rangeOk, isPacket, allowed}
 use Rattle.table.specs.Tree.{Spans, Obeys}
 use Rattle.table.proofs.Spanned.{Parts, parts}
-use Rattle.strings.specs.Atomic.{oscString, argumentOf, stringLength, ranged}
-use Rattle.writers.specs.Osc.{dataBy, dataOf, tagsBy, tagsOf, messageOf, elementsOf, packetOf}
-use Rattle.survey.specs.Measure.{argumentLength, dataLength, tagLength, sumTo, tagsTo, dataTo, messageLength, elementLength}
+use Rattle.strings.specs.Atomic.{oscString, writeArgument}
+use Rattle.strings.specs.InnerStrings.{stringLength, hasRange}
+use Rattle.writers.specs.Osc.{dataBy, writeData, tagsBy, writeTags, writeMessage, writeElements, writePacket}
+use Rattle.lengths.specs.InnerLengths.{argumentLength, dataLength, tagLength, sumTo, tagsTo, dataTo, messageLength, elementLength}
 use Rattle.strings.proofs.Lengths.{length-string, length-blob}
 use Rattle.writers.proofs.Lengths.{length-bundle, length-message}
 use Rattle.writers.proofs.Classed.{opens, leaf-range, address-range, tags-none, data-none, elements-none, tags-is, data-is}
@@ -44,13 +46,6 @@ pub sum-up : (g : ℕ → ℕ) (i n : ℕ) → i ≤ n → sumTo g i ≤ sumTo g
 sum-up g i n h = let e : i + (n - i) ≡ n = omega arith in rw e at (sum-on g i (n - i))
 
 -- ---- which kinds stand in a message, and which contain nothing
-
-pub is-or : (k j : ℕ) → (k ≡ j) ⊎ (k ≡ j → ⊥)
-is-or k j = go (eqb k j) refl
-  where
-    go : (x : Bool) → eqb k j ≡ x → (k ≡ j) ⊎ (k ≡ j → ⊥)
-    go true e = inl (eqb-true k j e)
-    go false e = inr (eqb-false k j e)
 
 -- what stands in no bundle is no packet
 no-packet : (container k : ℕ) → (container ≡ 35 → ⊥) → allowed container k ≡ true → isPacket k ≡ false
@@ -86,8 +81,8 @@ closes-apart e = let z : _≡_ {A = ℕ} 0 1 = cc in omega arith
 leaf-apart : (class : Class) → Leaf class ≡ Opens → ⊥
 leaf-apart class e = let z : _≡_ {A = ℕ} 0 1 = cc in omega arith
 
-length-argument : (class : Class) (source : List ℕ) (a b : ℕ) → (ranged class ≡ true → a + b ≤ length source)
-    → length (argumentOf class source a b) ≡ argumentLength class b
+length-argument : (class : Class) (source : List ℕ) (a b : ℕ) → (hasRange class ≡ true → a + b ≤ length source)
+    → length (writeArgument class source a b) ≡ argumentLength class b
 length-argument Four source a b h = length-bytes 4 a
 length-argument Eight source a b h = simp (length-append, length-bytes)
 length-argument Bare source a b h = refl
@@ -97,7 +92,7 @@ length-argument Scalar source a b h = length-bytes 4 a
 length-argument Unknown source a b h = refl
 
 data-by : (sort : Sort) (source : List ℕ) (a b : ℕ) (within : List ℕ)
-    → ((class : Class) → sort ≡ Leaf class → ranged class ≡ true → a + b ≤ length source)
+    → ((class : Class) → sort ≡ Leaf class → hasRange class ≡ true → a + b ≤ length source)
     → ((sort ≡ Opens → ⊥) → within ≡ []) → length (dataBy sort source a b within) ≡ dataLength sort b + length within
 data-by Opens source a b within h m = omega arith
 data-by Closes source a b within h m = omega (arith, ap length (m closes-apart))
@@ -117,16 +112,16 @@ module _ (source : List ℕ) (container k a b : ℕ) (inside rest : Forest) (n :
   only-arrays m =
       leaf-empty source k inside (no-bundle container k n (p .may)) (no-message container k n (p .may)) (λ e. m (opens k e)) (p .in-obeys)
 
-  pub tags-one : length (tagsOf (node k a b inside rest)) ≡ tagLength (sortOf k) + length (tagsOf inside) + length (tagsOf rest)
+  pub tags-one : length (writeTags (node k a b inside rest)) ≡ tagLength (sortOf k) + length (writeTags inside) + length (writeTags rest)
   tags-one =
-      let e = tags-by (sortOf k) k (tagsOf inside) (λ m. ap tagsOf (only-arrays m) ∙ tags-none) in
+      let e = tags-by (sortOf k) k (writeTags inside) (λ m. ap writeTags (only-arrays m) ∙ tags-none) in
       omega (arith, simp length-append at (ap length (tags-is k a b inside rest)))
 
-  pub data-one : length (dataOf source (node k a b inside rest)) ≡ dataLength (sortOf k) b + length (dataOf source inside) + length
-      (dataOf source rest)
+  pub data-one : length (writeData source (node k a b inside rest)) ≡ dataLength (sortOf k) b + length (writeData source inside) + length
+      (writeData source rest)
   data-one =
-      let e = data-by (sortOf k) source a b (dataOf source inside) (λ class. leaf-range source k a b class (p .range))
-      (λ m. ap (dataOf source) (only-arrays m) ∙ data-none source) in
+      let e = data-by (sortOf k) source a b (writeData source inside) (λ class. leaf-range source k a b class (p .range))
+      (λ m. ap (writeData source) (only-arrays m) ∙ data-none source) in
       omega (arith, simp length-append at (ap length (data-is k a b inside rest source (sortOf k) refl)))
 
 -- ---- the records of a message
@@ -152,14 +147,14 @@ module _ (source t : List ℕ) (lo hi : ℕ) (F : Forest) (s : Spans t lo hi F) 
   no-bundle-here : _≡_ {A = ℕ} 47 35 → ⊥
   no-bundle-here e = omega (arith, e)
 
-  tags-sum : tagsTo t hi ≡ tagsTo t lo + length (tagsOf F)
+  tags-sum : tagsTo t hi ≡ tagsTo t lo + length (writeTags F)
   tags-sum =
-      sum-args source t (λ i. tagLength (sortOf (kindAt t i))) (λ G. length (tagsOf G)) (ap length tags-none)
+      sum-args source t (λ i. tagLength (sortOf (kindAt t i))) (λ G. length (writeTags G)) (ap length tags-none)
       (λ c i inside rest n p. tags-one source c _ _ _ inside rest n p) 47 lo hi F no-bundle-here s o
 
-  data-sum : dataTo t hi ≡ dataTo t lo + length (dataOf source F)
+  data-sum : dataTo t hi ≡ dataTo t lo + length (writeData source F)
   data-sum =
-      sum-args source t (λ i. dataLength (sortOf (kindAt t i)) (bAt t i)) (λ G. length (dataOf source G)) (ap length (data-none source))
+      sum-args source t (λ i. dataLength (sortOf (kindAt t i)) (bAt t i)) (λ G. length (writeData source G)) (ap length (data-none source))
       (λ c i inside rest n p. data-one source c _ _ _ inside rest n p) 47 lo hi F no-bundle-here s o
 
   -- an argument adds nothing of its own to a packet
@@ -176,11 +171,11 @@ module _ (source t : List ℕ) (lo hi : ℕ) (F : Forest) (s : Spans t lo hi F) 
 -- a message's length by its records is that of its bytes
 message-sum : (source t : List ℕ) (at : ℕ) (F : Forest) → Spans t (at + 1) (endAt t at) F → Obeys source 47 F
     → aAt t at + bAt t at ≤ length source
-    → messageLength t at ≡ length (messageOf source (aAt t at) (bAt t at) F)
+    → messageLength t at ≡ length (writeMessage source (aAt t at) (bAt t at) F)
 unfolding messageLength
 message-sum source t at F s o h =
-    let x : tagsTo t (endAt t at) - tagsTo t (at + 1) ≡ length (tagsOf F) = omega (arith, tags-sum source t (at + 1) (endAt t at) F s o) in
-    let y : dataTo t (endAt t at) - dataTo t (at + 1) ≡ length (dataOf source F) = omega
+    let x : tagsTo t (endAt t at) - tagsTo t (at + 1) ≡ length (writeTags F) = omega (arith, tags-sum source t (at + 1) (endAt t at) F s o) in
+    let y : dataTo t (endAt t at) - dataTo t (at + 1) ≡ length (writeData source F) = omega
     (arith, data-sum source t (at + 1) (endAt t at) F s o) in
     let z : length (oscString (part source (aAt t at) (bAt t at))) ≡ stringLength (bAt t at) = length-string _
     ∙ rw (length-part source (aAt t at) (bAt t at) h) in
@@ -190,28 +185,28 @@ message-sum source t at F s o h =
 
 message-adds : (source t : List ℕ) (at : ℕ) (F : Forest) → kindAt t at ≡ 47 → Spans t (at + 1) (endAt t at) F → Obeys source (kindAt t at) F
     → rangeOk source (kindAt t at) (aAt t at) (bAt t at) ≡ true
-    → elementLength t at ≡ 4 + length (packetOf source (kindAt t at) (aAt t at) (bAt t at) F)
+    → elementLength t at ≡ 4 + length (writePacket source (kindAt t at) (aAt t at) (bAt t at) F)
 unfolding elementLength
 message-adds source t at F y s o r =
     let m = message-sum source t at F s (rw y at o) (address-range source (kindAt t at) (aAt t at) (bAt t at) r y) in
     rw (message-is source (kindAt t at) (aAt t at) (bAt t at) F y, y, m)
 
 bundle-adds : (source t : List ℕ) (at : ℕ) (F : Forest) → kindAt t at ≡ 35
-    → elementLength t at + length (elementsOf source F) ≡ 4 + length (packetOf source (kindAt t at) (aAt t at) (bAt t at) F)
+    → elementLength t at + length (writeElements source F) ≡ 4 + length (writePacket source (kindAt t at) (aAt t at) (bAt t at) F)
 unfolding elementLength
 bundle-adds source t at F y =
     let n : kindAt t at ≡ 47 → ⊥ = λ q. omega (arith, y, q) in
     rw (bundle-is source (kindAt t at) (aAt t at) (bAt t at) F n, y) (simp (length-append, length-bundle) (omega arith))
 
 elements-sum : (source t : List ℕ) (lo hi : ℕ) (F : Forest) → Spans t lo hi F → Obeys source 35 F
-    → sumTo (elementLength t) hi ≡ sumTo (elementLength t) lo + length (elementsOf source F)
+    → sumTo (elementLength t) hi ≡ sumTo (elementLength t) lo + length (writeElements source F)
 unfolding Spans
 elements-sum source t lo hi nil s o = rw s (omega (arith, ap length (elements-none source)))
 elements-sum source t lo hi (node k a b inside rest) s o =
     let p : Parts source 35 (kindAt t lo) (aAt t lo) (bAt t lo) inside rest = rw (s .0, s .1, s .2) (parts source 35 k a b inside rest o) in
     let r = elements-sum source t (endAt t lo) hi rest (s .4) (p .rest-obeys) in
     let deeper = elements-sum source t (lo + 1) (endAt t lo) inside (s .3) in
-    let l : length (elementsOf source (node k a b inside rest)) ≡ 4 + length (packetOf source (kindAt t lo) (aAt t lo) (bAt t lo) inside) + length (elementsOf source rest)
+    let l : length (writeElements source (node k a b inside rest)) ≡ 4 + length (writePacket source (kindAt t lo) (aAt t lo) (bAt t lo) inside) + length (writeElements source rest)
     = ap length (elements-is k a b inside rest source) ∙ rw (s .0, s .1, s .2) (simp (length-append, length-bytes)) in
     ⊎-elim
     (λ y.
@@ -232,9 +227,9 @@ sum-none g = refl
 -- the sum over all records is the length of the packet as an element
 pub packet-sum : (source t : List ℕ) (count k a b : ℕ) (inside : Forest) → Spans t 0 count (node k a b inside nil)
     → Obeys source 35 (node k a b inside nil)
-    → sumTo (elementLength t) count ≡ 4 + length (packetOf source k a b inside)
+    → sumTo (elementLength t) count ≡ 4 + length (writePacket source k a b inside)
 packet-sum source t count k a b inside s o =
-    let l : length (elementsOf source (node k a b inside nil)) ≡ 4 + length (packetOf source k a b inside) + 0
+    let l : length (writeElements source (node k a b inside nil)) ≡ 4 + length (writePacket source k a b inside) + 0
     = ap length (elements-is k a b inside nil source) ∙ simp (length-append, length-bytes, elements-none) in
     omega (arith, elements-sum source t 0 count (node k a b inside nil) s o, sum-none (elementLength t))
 

@@ -1,11 +1,11 @@
--- `encoder::measure::element_length` meets its contract.
+-- `lengths::element_length` meets its contract.
 use mathlib.Core.Path.{sym, ap, _∙_}
 use Prim.Native.Nat.{ℕ, _+_}
 use native.Mathlib.Omega.{arith}
-use Rattle.survey.proofs.Sums.{element-message, element-bundle, element-other}
+use Rattle.lengths.proofs.Sums.{element-message, element-bundle, element-other}
 use borrow.Author.Needs.{needs}
-use Rattle.survey.proofs.length.element_length.Statement.{statement}
-use Rattle.survey.proofs.length.element_length.Tie as tie
+use Rattle.lengths.proofs.element_length.Statement.{statement}
+use Rattle.lengths.proofs.element_length.Tie as tie
 
 returns : tie.Need-returns
 returns c =

@@ -1,14 +1,14 @@
--- `encoder::measure::message_length` meets its contract: the tags and the data of the records passed are counted, and fit.
+-- `lengths::message_length` meets its contract: the tags and the data of the records passed are counted, and fit.
 use mathlib.Core.Path.{_≡_, ap}
 use Prim.Native.Nat.{_+_, _*_, _-_, _≤_}
 use native.Mathlib.Omega.{arith}
 use borrow.Author.Needs.{needs}
 use Rattle.node.specs.declared.record.Record.{Record}
-use Rattle.strings.specs.Atomic.{stringLength}
-use Rattle.survey.specs.Measure.{tagsTo, dataTo}
-use Rattle.survey.proofs.Sums.{argument-passed, message-measured}
-use Rattle.survey.proofs.length.message_length.Statement.{statement}
-use Rattle.survey.proofs.length.message_length.Tie as tie
+use Rattle.strings.specs.InnerStrings.{stringLength}
+use Rattle.lengths.specs.InnerLengths.{tagsTo, dataTo}
+use Rattle.lengths.proofs.Sums.{argument-passed, message-measured}
+use Rattle.lengths.proofs.message_length.Statement.{statement}
+use Rattle.lengths.proofs.message_length.Tie as tie
 
 abbrev Inv-loop : tie.InvT-loop
 Inv-loop table at «record» end tags₀ content₀ i₀ tags content i =

@@ -10,7 +10,7 @@ use Rattle.node.specs.declared.tags.Class.{Class}
 use Rattle.node.specs.declared.tags.Class.the-variants.{Four, Eight, Bare, Text, Blob, Scalar, Unknown}
 use Rattle.node.specs.declared.tags.Sort.{Sort}
 use Rattle.node.specs.declared.tags.Sort.the-variants.{Opens, Closes, Leaf}
-use Rattle.strings.specs.Atomic.{stringLength, blobLength}
+use Rattle.strings.specs.InnerStrings.{stringLength, blobLength}
 
 -- how many bytes the data of an argument takes whose second number is b
 abbrev pub argumentLength : Class → ℕ → ℕ
@@ -57,6 +57,6 @@ unfoldable pub elementLength : List ℕ → ℕ → ℕ
 elementLength t at = cond (eqb (kindAt t at) 47) (4 + messageLength t at) (cond (eqb (kindAt t at) 35) 20 0)
 
 -- r is the length; where one is over 65,539, which is 65,535 and a size, so is the other
-pub record Measured (r total : ℕ) : Type 0 where
+pub record LengthOrOver (r total : ℕ) : Type 0 where
   pub exact : r ≤ 65539 → r ≡ total
   pub over : 65539 < r → 65539 < total

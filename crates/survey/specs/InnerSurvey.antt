@@ -14,9 +14,9 @@ use Rattle.node.specs.declared.tags.Class.{Class}
 use Rattle.node.specs.declared.tags.Class.the-variants.{Four, Eight, Bare, Text, Blob, Scalar, Unknown}
 use Rattle.table.specs.Formed.{inside, textOk, rangeOk, allowed}
 use Rattle.table.specs.Tree.{Spans, Obeys, IsTree}
-use Rattle.writers.specs.Osc.{tagsOf, dataOf, messageOf, elementsOf}
-use Rattle.writers.specs.Writers.{packetAt}
-use Rattle.survey.specs.Measure.{tagLength, dataLength}
+use Rattle.writers.specs.Osc.{writeTags, writeData, writeMessage, writeElements}
+use Rattle.writers.specs.InnerWriters.{packetAt}
+use Rattle.lengths.specs.InnerLengths.{tagLength, dataLength}
 
 -- record `at` has its three zeros, and ends after itself and no later than hi ("The node table")
 abbrev pub placed : List ℕ → ℕ → ℕ → Bool
@@ -37,52 +37,52 @@ abbrev pub leafOk : List ℕ → Class → ℕ → ℕ → Bool
 leafOk source class a b = cond (leafRules class a b) (leafRange source class a b) false
 
 -- the records lo to hi - 1 are a forest that obeys the rules of a container, and have their zeros ("The node table")
-pub record Found (t source : List ℕ) (container lo hi : ℕ) (F : Forest) : Type 0 where
+pub record SurveyedRow (t source : List ℕ) (container lo hi : ℕ) (F : Forest) : Type 0 where
   pub spans : Spans t lo hi F
   pub obeys : Obeys source container F
   pub zeros : (i : ℕ) → lo ≤ i → i < hi → zerosAt t i ≡ 0
 
 -- record `at` and what it contains may stand in a container: what `Obeys` says of a forest's first node
-pub record Stands (t source : List ℕ) (container at : ℕ) (inside : Forest) : Type 0 where
+pub record SurveyedNode (t source : List ℕ) (container at : ℕ) (inside : Forest) : Type 0 where
   pub rules : ownRules (kindAt t at) (aAt t at) (bAt t at) ≡ true
   pub range : rangeOk source (kindAt t at) (aAt t at) (bAt t at) ≡ true
   pub may : allowed container (kindAt t at) ≡ true
-  pub found : Found t source (kindAt t at) (at + 1) (endAt t at) inside
+  pub found : SurveyedRow t source (kindAt t at) (at + 1) (endAt t at) inside
 
 -- record `at` is an argument, with so many tags and so many bytes of data in it ("How bytes are written": arrays have brackets)
-pub record Argument (t source : List ℕ) (at tags content : ℕ) : Type 0 where
+pub record SurveyedArgument (t source : List ℕ) (at tags content : ℕ) : Type 0 where
   pub inside : Forest
-  pub stands : Stands t source 47 at inside
-  pub tagged : tagLength (sortOf (kindAt t at)) + length (tagsOf inside) ≡ tags
-  pub sized : dataLength (sortOf (kindAt t at)) (bAt t at) + length (dataOf source inside) ≡ content
+  pub stands : SurveyedNode t source 47 at inside
+  pub tagged : tagLength (sortOf (kindAt t at)) + length (writeTags inside) ≡ tags
+  pub sized : dataLength (sortOf (kindAt t at)) (bAt t at) + length (writeData source inside) ≡ content
 
 -- the records lo to hi - 1 are arguments, with so many tags and so many bytes of data
-pub record Arguments (t source : List ℕ) (lo hi tags content : ℕ) : Type 0 where
+pub record SurveyedArguments (t source : List ℕ) (lo hi tags content : ℕ) : Type 0 where
   pub forest : Forest
-  pub found : Found t source 47 lo hi forest
-  pub tagged : length (tagsOf forest) ≡ tags
-  pub sized : length (dataOf source forest) ≡ content
+  pub found : SurveyedRow t source 47 lo hi forest
+  pub tagged : length (writeTags forest) ≡ tags
+  pub sized : length (writeData source forest) ≡ content
 
 -- record `at` is a message's, which is n bytes long as it is written
-pub record Message (t source : List ℕ) (at n : ℕ) : Type 0 where
+pub record SurveyedMessage (t source : List ℕ) (at n : ℕ) : Type 0 where
   pub forest : Forest
-  pub found : Found t source 47 (at + 1) (endAt t at) forest
+  pub found : SurveyedRow t source 47 (at + 1) (endAt t at) forest
   pub range : textOk source (aAt t at) (bAt t at) ≡ true
-  pub sized : length (messageOf source (aAt t at) (bAt t at) forest) ≡ n
+  pub sized : length (writeMessage source (aAt t at) (bAt t at) forest) ≡ n
 
 -- record `at` is a packet, whose bundles are nested no deeper than `levels`, and n bytes long as an element, its size counted
-pub record Element (t source : List ℕ) (at levels n : ℕ) : Type 0 where
+pub record SurveyedPacket (t source : List ℕ) (at levels n : ℕ) : Type 0 where
   pub inside : Forest
-  pub stands : Stands t source 35 at inside
+  pub stands : SurveyedNode t source 35 at inside
   pub shallow : level (kindAt t at) (depth inside) ≤ levels
   pub sized : 4 + length (packetAt source t at inside) ≡ n
 
 -- the records lo to hi - 1 are packets, whose bundles are nested no deeper than `levels`, and n bytes long as elements
-pub record Elements (t source : List ℕ) (lo hi levels n : ℕ) : Type 0 where
+pub record SurveyedPackets (t source : List ℕ) (lo hi levels n : ℕ) : Type 0 where
   pub forest : Forest
-  pub found : Found t source 35 lo hi forest
+  pub found : SurveyedRow t source 35 lo hi forest
   pub shallow : depth forest ≤ levels
-  pub sized : length (elementsOf source forest) ≡ n
+  pub sized : length (writeElements source forest) ≡ n
 
 -- the table has a tree, which is not too deep (refusal 9), and n bytes long as an element, its size counted
 pub record Surveyed (t : List ℕ) (count : ℕ) (source : List ℕ) (n : ℕ) : Type 0 where
