@@ -43,14 +43,17 @@ use Rattle.lengths.proofs.Sums.{packet-sum}
 -- ---- the limit and the output's length
 
 module _ (bs out : List ℕ) where
+  -- bytes over the limit are refusal 1
   pub write-long : 65535 < length bs → refuse TooLong out ≡ bytesOutcome bs out
   unfolding bytesOutcome
   write-long h = rw (lt-leb (length bs) 65535 h)
 
+  -- an output that is shorter than the bytes is refusal 12
   pub write-short : length bs ≤ 65535 → length out < length bs → refuse OutputShort out ≡ bytesOutcome bs out
   unfolding bytesOutcome
   write-short l h = rw (le-leb (length bs) 65535 l, lt-leb (length bs) (length out) h)
 
+  -- bytes that stand over the output are written
   pub written : {o : List ℕ} {n : ℕ} → length bs ≤ 65535 → Filled bs out o n
       → _≡_ {A = Outcome} (record { answer = Written n; out = o }) (bytesOutcome bs out)
   unfolding bytesOutcome
@@ -59,10 +62,12 @@ module _ (bs out : List ℕ) where
 -- ---- a text
 
 module _ (text out : List ℕ) {b : Bool} (d : Decides b (Octets text)) where
+  -- a text that is not UTF-8 is refusal 4
   pub not-text : not b ≡ true → refuse (Unreadable NotUtf8) out ≡ stringOutcome text out
   unfolding stringOutcome
   not-text e = rw (same-answer (octets text) d ∙ not-true b e)
 
+  -- any other is written as an OSC-string
   pub text-outcome : not b ≡ false → {x : Outcome} → x ≡ bytesOutcome (oscString text) out → x ≡ stringOutcome text out
   unfolding stringOutcome
   text-outcome e h = rw (same-answer (octets text) d ∙ not-false b e) h
@@ -70,6 +75,7 @@ module _ (text out : List ℕ) {b : Bool} (d : Decides b (Octets text)) where
 -- ---- a packet whose length is known
 
 module _ {source t : List ℕ} {n : ℕ} (z : Writable source t n) where
+  -- an output of at least n bytes has room for the packet
   pub ready : (m : ℕ) → n ≤ 65535 → n ≤ m → Ready source t 0 m
   ready m l h =
       record {
@@ -95,12 +101,15 @@ module _ {source t : List ℕ} {n : ℕ} (z : Writable source t n) where
     long : 65535 < n → 65535 < length (packetAt source t 0 F)
     long l = rw same at (z .over l)
 
+    -- a packet over the limit is refusal 1
     pub packet-long : (out : List ℕ) → 65535 < n → refuse TooLong out ≡ bytesOutcome (packetAt source t 0 F) out
     packet-long out h = write-long (packetAt source t 0 F) out (long h)
 
+    -- an output that is shorter than the packet is refusal 12
     pub packet-short : (out : List ℕ) → n ≤ 65535 → length out < n → refuse OutputShort out ≡ bytesOutcome (packetAt source t 0 F) out
     packet-short out l h = write-short (packetAt source t 0 F) out (omega (arith, known l)) (omega (arith, known l))
 
+    -- a packet that stands over the output is written
     pub packet-written : (out : List ℕ) {o : List ℕ} {r : ℕ} → n ≤ 65535 → WritesRow (packetAt source t 0) t 1 (endAt t 0) out o r
         → _≡_ {A = Outcome} (record { answer = Written r; out = o }) (bytesOutcome (packetAt source t 0 F) out)
     packet-written out l f = written (packetAt source t 0 F) out (omega (arith, known l)) (f F s)
@@ -109,17 +118,20 @@ module _ {source t : List ℕ} {n : ℕ} (z : Writable source t n) where
     element-length : length (writeElement (packetAt source t 0 F)) ≡ 4 + length (packetAt source t 0 F)
     element-length = simp (length-append, length-bytes)
 
+    -- with its length before it a packet over the lower limit is refusal 1
     pub element-long : (out : List ℕ) → 65531 < n → refuse TooLong out ≡ bytesOutcome (writeElement (packetAt source t 0 F)) out
     element-long out h =
         write-long (writeElement (packetAt source t 0 F)) out
         (⊎-elim (λ l. omega (arith, long l, element-length)) (λ l. omega (arith, known l, element-length)) (lt-or-le 65535 n))
 
+    -- an output that is shorter than both is refusal 12
     pub element-short : (out : List ℕ) → n ≤ 65531 → length out < 4 + n
         → refuse OutputShort out ≡ bytesOutcome (writeElement (packetAt source t 0 F)) out
     element-short out l h =
         let e = known (omega arith) in
         write-short (writeElement (packetAt source t 0 F)) out (omega (arith, element-length)) (omega (arith, element-length))
 
+    -- length and packet over the output are written
     pub element-written : (out : List ℕ) {o p : List ℕ} {r : ℕ} → n ≤ 65531 → Wrote (bytes 4 n) out o
         → WritesRow (packetAt source t 0) t 1 (endAt t 0) (midOf 4 (length o - 4) o) p r
         → _≡_ {A = Outcome} (record { answer = Written (4 + r); out = putMid 4 (length o - 4) o p })
@@ -133,9 +145,11 @@ module _ {source t : List ℕ} {n : ℕ} (z : Writable source t n) where
 
 -- where the survey is sure, its length is the packet's
 module _ {t : List ℕ} {count : ℕ} {source : List ℕ} {n : ℕ} (w : Surveyed t count source n) where
+  -- it counts the four bytes of a size
   pub survey-some : 4 ≤ n
   survey-some = omega (arith, w .sized)
 
+  -- so the table is ready, and the length without them is the packet's
   pub survey-ready : n ≤ 65539 → Prepares t count source (Length (n - 4))
   unfolding Spans Obeys
   survey-ready h =
@@ -151,6 +165,7 @@ module _ {t : List ℕ} {count : ℕ} {source : List ℕ} {n : ℕ} (w : Surveye
       })
 
 module _ (t : List ℕ) (count : ℕ) (source : List ℕ) {b : Bool} (d : Decides b (WellFormed t count source)) where
+  -- a table that is not well formed is refusal 11
   pub bad-table : not b ≡ true → Prepares t count source (Refused BadTable)
   bad-table e = prepare.malformed (λ w. false≢true (sym (not-true b e) ∙ d .complete w)) refl
 
@@ -168,13 +183,16 @@ module _ (t : List ℕ) (count : ℕ) (source : List ℕ) {b : Bool} (d : Decide
     abbrev root : Forest
     root = node (kindAt t 0) (aAt t 0) (bAt t 0) inside nil
 
+    -- a well-formed table is one row
     pub rooted : Row t 0 count
     rooted = record { forest = root; spans = tree .spans; table = well .fits }
 
+    -- its records can be summed
     pub measurable : ((count ≤ 65535) × (recordSize * count ≤ length t)) × ((i : ℕ) → i < count → (i < endAt t i) × (endAt t i ≤ count))
     measurable = ((well .few, well .fits), λ i h. (omega (arith, tiles-le (well .nodes i h .tiles)), well .nodes i h .within))
 
     module _ {x : Bool} (q : (F : Forest) → Spans t 0 count F → x ≡ ltb 64 (depth F)) where
+      -- a tree that is too deep is refusal 9
       pub too-deep : x ≡ true → Prepares t count source (Refused TooDeep)
       too-deep y = prepare.deep inside tree (ltb-true 64 (depth root) (sym (q root (tree .spans)) ∙ y)) refl
 
@@ -182,6 +200,7 @@ module _ (t : List ℕ) (count : ℕ) (source : List ℕ) {b : Bool} (d : Decide
         total : sumTo (elementLength t) count ≡ 4 + length (packetAt source t 0 inside)
         total = packet-sum source t count (kindAt t 0) (aAt t 0) (bAt t 0) inside (tree .spans) (tree .obeys)
 
+        -- the sum counts the four bytes of a size
         pub some-length : 4 ≤ m
         some-length = ⊎-elim (λ l. omega arith) (λ l. omega (arith, g .exact l, total)) (lt-or-le 65539 m)
 
@@ -198,12 +217,14 @@ module _ (t : List ℕ) (count : ℕ) (source : List ℕ) {b : Bool} (d : Decide
               over = λ l. omega (arith, g .over (omega arith), total);
             }
 
+        -- without them it is the length of the packet
         pub measured : x ≡ false → Prepares t count source (Length (m - 4))
         measured y = prepare.ready inside tree (ltb-false 64 (depth root) (sym (q root (tree .spans)) ∙ y)) (m - 4) refl sized
 
 -- ---- the calls
 
 module _ (frame : ℕ → List ℕ → List ℕ) (t : List ℕ) (count : ℕ) (source out : List ℕ) where
+  -- what is refused before a byte is written is refused
   pub refused : {r : Prepared} {x : Refusal} → Prepares t count source r → r ≡ Refused x → Encodes frame t count source out (refuse x out)
   unfolding treeOutcome
   refused {r} {x} (prepare.malformed n e) q = let y : x ≡ BadTable = cc in malformed n (rw y)
@@ -219,6 +240,7 @@ pub record Planned (t : List ℕ) (count : ℕ) (source : List ℕ) (n : ℕ) : 
   pub shallow : depth (node (kindAt t 0) (aAt t 0) (bAt t 0) inside nil) ≤ 64
   pub sized : Writable source t n
 
+-- where a length is known, the packet is to be written
 pub planned : (t : List ℕ) (count : ℕ) (source : List ℕ) {r : Prepared} {n : ℕ} → Prepares t count source r → r ≡ Length n
     → Planned t count source n
 planned t count source {r} {n} (prepare.malformed m e) q = let y : _≡_ {A = ℕ} 0 1 = cc in absurd (omega arith)
@@ -236,6 +258,7 @@ module _ {t : List ℕ} {count : ℕ} {source : List ℕ} {n : ℕ} (out : List 
   unfolding treeOutcome
   framed frame e = formed (kindAt t 0) (aAt t 0) (bAt t 0) (w .inside) (w .tree) (rw (le-leb _ 64 (w .shallow)) e)
 
+  -- `encode` writes the packet as it is
   pub encoded-unframed : {x : Outcome} → ((F : Forest) → Spans t 1 (endAt t 0) F → x ≡ bytesOutcome (packetAt source t 0 F) out)
       → Encodes unframed t count source out x
   encoded-unframed f = framed unframed (f (w .inside) inside-spans)
@@ -245,10 +268,12 @@ module _ {t : List ℕ} {count : ℕ} {source : List ℕ} {n : ℕ} (out : List 
   root-read = omega (arith, w .sized .table, spans-size t 1 (endAt t 0) (w .sized .inside) (w .sized .spans))
 
   module _ {r : Record} (e : r ≡ recordAt t 0) {x : Outcome} where
+    -- `encode_tcp` writes a length before a message
     pub encoded-message : r .kind ≡ 47 → ((F : Forest) → Spans t 1 (endAt t 0) F → x ≡ bytesOutcome (writeElement (packetAt source t 0 F)) out)
         → Encodes prefixed t count source out x
     encoded-message y f = framed prefixed (rw (eq-eqb (kindAt t 0) 47 (rw e at y)) (f (w .inside) inside-spans))
 
+    -- and none before a bundle
     pub encoded-bundle : (r .kind ≡ 47 → ⊥) → ((F : Forest) → Spans t 1 (endAt t 0) F → x ≡ bytesOutcome (packetAt source t 0 F) out)
         → Encodes prefixed t count source out x
     encoded-bundle m f = framed prefixed (rw (ne-eqb (kindAt t 0) 47 (rw e at m)) (f (w .inside) inside-spans))

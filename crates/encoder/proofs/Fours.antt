@@ -56,14 +56,17 @@ encodes-even frame h t count source out r (formed k a b inside tree e) =
     (write-even (frame k (writePacket source k a b inside)) out (h source k a b inside))
     (refuse-even TooDeep out))
 
+-- `encode` answers a multiple of four
 pub encode-fours : (t : List ℕ) (count : ℕ) (source out : List ℕ) (r : Outcome) → Encodes unframed t count source out r → (n : ℕ)
     → r .answer ≡ Written n → n % 4 ≡ 0
 encode-fours = encodes-even unframed packet-even
 
+-- `encode_tcp` answers a multiple of four
 pub encode-tcp-fours : (t : List ℕ) (count : ℕ) (source out : List ℕ) (r : Outcome) → Encodes prefixed t count source out r → (n : ℕ)
     → r .answer ≡ Written n → n % 4 ≡ 0
 encode-tcp-fours = encodes-even prefixed prefixed-even
 
+-- `encode_string` answers a multiple of four
 pub encode-string-fours : (text out : List ℕ) (n : ℕ) → stringOutcome text out .answer ≡ Written n → n % 4 ≡ 0
 unfolding stringOutcome
 encode-string-fours text out =

@@ -18,13 +18,16 @@ encodes-only frame t count source out r s (formed k a b inside tree e) (formed k
     let v : treeOutcome frame source out k a b inside ≡ treeOutcome frame source out k′ a′ b′ inside′ = cc in
     e ∙ v ∙ sym f
 
+-- `encode` has one outcome
 pub encode-only : (t : List ℕ) (count : ℕ) (source out : List ℕ) (r s : Outcome) → Encodes unframed t count source out r
     → Encodes unframed t count source out s → r ≡ s
 encode-only = encodes-only unframed
 
+-- `encode_tcp` has one outcome
 pub encode-tcp-only : (t : List ℕ) (count : ℕ) (source out : List ℕ) (r s : Outcome)
     → Encodes prefixed t count source out r → Encodes prefixed t count source out s → r ≡ s
 encode-tcp-only = encodes-only prefixed
 
+-- `encode_string` has one outcome
 pub encode-string-only : (text out : List ℕ) (r s : Outcome) → r ≡ stringOutcome text out → s ≡ stringOutcome text out → r ≡ s
 encode-string-only text out r s = one-outcome

@@ -1,4 +1,4 @@
--- What is known before a byte is written: the refusals 11 and 9, and the length of the packet.
+-- Inside the code, and no part of the document: what is known before a byte is written, the refusals 11 and 9 and the length of the packet.
 use mathlib.Core.Path.{_≡_}
 use mathlib.Core.Bool.{true}
 use mathlib.Core.List.{List}

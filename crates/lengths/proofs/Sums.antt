@@ -34,6 +34,7 @@ use Rattle.writers.proofs.Classed.{elements-is, message-is, bundle-is}
 
 -- ---- sums
 
+-- a sum over one record more
 pub sum-more : (g : ℕ → ℕ) (n : ℕ) → sumTo g (n + 1) ≡ sumTo g n + g n
 unfolding sumTo
 sum-more g n = rw add-one
@@ -42,6 +43,7 @@ sum-on : (g : ℕ → ℕ) (i d : ℕ) → sumTo g i ≤ sumTo g (i + d)
 sum-on g i zero = let e : i + 0 ≡ i = omega arith in rw e (omega arith)
 sum-on g i (suc d) = let e : i + suc d ≡ (i + d) + 1 = omega arith in rw (e, sum-more) (omega (arith, sum-on g i d))
 
+-- a sum over more records is no less
 pub sum-up : (g : ℕ → ℕ) (i n : ℕ) → i ≤ n → sumTo g i ≤ sumTo g n
 sum-up g i n h = let e : i + (n - i) ≡ n = omega arith in rw e at (sum-on g i (n - i))
 
@@ -112,11 +114,13 @@ module _ (source : List ℕ) (container k a b : ℕ) (inside rest : Forest) (n :
   only-arrays m =
       leaf-empty source k inside (no-bundle container k n (p .may)) (no-message container k n (p .may)) (λ e. m (opens k e)) (p .in-obeys)
 
+  -- the tags of a row are those of its first record, of what that contains and of the rest
   pub tags-one : length (writeTags (node k a b inside rest)) ≡ tagLength (sortOf k) + length (writeTags inside) + length (writeTags rest)
   tags-one =
       let e = tags-by (sortOf k) k (writeTags inside) (λ m. ap writeTags (only-arrays m) ∙ tags-none) in
       omega (arith, simp length-append at (ap length (tags-is k a b inside rest)))
 
+  -- and so is its data
   pub data-one : length (writeData source (node k a b inside rest)) ≡ dataLength (sortOf k) b + length (writeData source inside) + length
       (writeData source rest)
   data-one =
@@ -220,6 +224,7 @@ elements-sum source t lo hi (node k a b inside rest) s o =
     omega (arith, sum-more (elementLength t) lo))
     (is-or (kindAt t lo) 47)
 
+-- the sum over no record is 0
 pub sum-none : (g : ℕ → ℕ) → sumTo g 0 ≡ 0
 unfolding sumTo
 sum-none g = refl
@@ -258,14 +263,17 @@ message-measured t at i tags content {r} e h ei x y =
     rw (u, v, e)
 
 module _ (t : List ℕ) (at : ℕ) {r : Record} (e : r ≡ recordAt t at) where
+  -- a message's record adds the message and its size
   pub element-message : r .kind ≡ 47 → elementLength t at ≡ 4 + messageLength t at
   unfolding elementLength
   element-message y = let k : kindAt t at ≡ 47 = rw e at y in rw k
 
+  -- a bundle's record adds its size and its head
   pub element-bundle : (r .kind ≡ 47 → ⊥) → r .kind ≡ 35 → elementLength t at ≡ 20
   unfolding elementLength
   element-bundle n y = let k : kindAt t at ≡ 35 = rw e at y in rw k
 
+  -- any other record adds nothing of its own
   pub element-other : (r .kind ≡ 47 → ⊥) → (r .kind ≡ 35 → ⊥) → elementLength t at ≡ 0
   unfolding elementLength
   element-other n m = rw (ne-eqb (kindAt t at) 47 (rw e at n), ne-eqb (kindAt t at) 35 (rw e at m))

@@ -1,4 +1,4 @@
--- How long a packet will be, by the records of its table and without writing it.
+-- Inside the code, and no part of the document: how long a packet will be, by the records of its table and without writing it.
 use mathlib.Core.Path.{_≡_}
 use mathlib.Core.Bool.{cond}
 use mathlib.Core.List.{List}

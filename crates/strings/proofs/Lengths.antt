@@ -11,10 +11,12 @@ use Rattle.table.specs.Formed.{part}
 use Rattle.strings.specs.Atomic.{int32, oscString, oscBlob, writeArgument}
 use Rattle.strings.specs.InnerStrings.{stringLength, blobLength}
 
+-- how long an OSC-string is
 pub length-string : (text : List ℕ) → length (oscString text) ≡ stringLength (length text)
 unfolding oscString
 length-string text = simp (length-append, length-replicate)
 
+-- how long an OSC-blob is
 pub length-blob : (content : List ℕ) → length (oscBlob content) ≡ blobLength (length content)
 unfolding oscBlob
 length-blob content = simp (length-append, length-bytes, length-replicate) (omega arith)
@@ -23,12 +25,14 @@ length-blob content = simp (length-append, length-bytes, length-replicate) (omeg
 pub both : (x y : List ℕ) → length x % 4 ≡ 0 → length y % 4 ≡ 0 → length (x ++ y) % 4 ≡ 0
 both x y p q = simp length-append (omega arith)
 
+-- an OSC-string is a multiple of four bytes long
 pub string-even : (text : List ℕ) → length (oscString text) % 4 ≡ 0
 string-even text = rw length-string (omega arith)
 
 number-even : (x : ℕ) → length (int32 x) % 4 ≡ 0
 number-even x = rw length-bytes refl
 
+-- an argument's data is a multiple of four bytes long
 pub argument-even : (class : Class) (source : List ℕ) (a b : ℕ) → length (writeArgument class source a b) % 4 ≡ 0
 argument-even Four source a b = number-even a
 argument-even Eight source a b = both (int32 a) (int32 b) (number-even a) (number-even b)

@@ -42,6 +42,7 @@ pub record Placed (t : List ℕ) (at hi : ℕ) : Type 0 where
   pub on : at < endAt t at
   pub within : endAt t at ≤ hi
 
+-- what the test of a record says of it
 pub placed-is : (t : List ℕ) (at hi : ℕ) → placed t at hi ≡ true → Placed t at hi
 placed-is t at hi e =
     let z : eqb (zerosAt t at) 0 ≡ true = then-only (eqb (zerosAt t at) 0) (cond (ltb at (endAt t at)) (leb (endAt t at) hi) false) e
@@ -68,10 +69,12 @@ module _ (source : List ℕ) (k a b : ℕ) (class : Class) (s : sortOf k ≡ Lea
   ruled : leafRules class a b ≡ true
   ruled = then-only (leafRules class a b) (leafRange source class a b) o false≢true
 
+  -- its own rules hold
   pub leaf-rules : ownRules k a b ≡ true
   unfolding ownRules
   leaf-rules = rw (leaf-no-packet source k a b class s o, s) ruled
 
+  -- it may stand in a message
   pub leaf-may : allowed 47 k ≡ true
   unfolding allowed
   leaf-may = rw (leaf-no-packet source k a b class s o)
@@ -79,6 +82,7 @@ module _ (source : List ℕ) (k a b : ℕ) (class : Class) (s : sortOf k ≡ Lea
   hasRange : leafRange source class a b ≡ true
   hasRange = rw ruled at o
 
+  -- its range is right
   pub leaf-range-ok : rangeOk source k a b ≡ true
   unfolding rangeOk sortOf classOf
   leaf-range-ok =
@@ -95,6 +99,7 @@ module _ (source : List ℕ) (k a b : ℕ) (class : Class) (s : sortOf k ≡ Lea
 
 -- ---- rows
 
+-- no records are a row
 pub found-none : (t source : List ℕ) (container at : ℕ) → SurveyedRow t source container at at nil
 unfolding Spans Obeys
 found-none t source container at = record { spans = refl; obeys = tt; zeros = λ i l h. absurd (omega arith) }
@@ -188,6 +193,7 @@ arguments-more {t} {source} {at} p x w =
       sized = omega (arith, data-one source 47 _ _ _ (x .inside) (w .forest) (λ e. omega (arith, e)) q, x .sized, w .sized);
     }
 
+-- no records are arguments
 pub arguments-none : (t source : List ℕ) (at : ℕ) → SurveyedArguments t source at at 0 0
 arguments-none t source at =
     record { forest = nil; found = found-none t source 47 at; tagged = rw tags-none; sized = rw data-none }
@@ -200,6 +206,7 @@ pub record Behind (t source : List ℕ) (lo hi at n m : ℕ) : Type 0 where
   pub few : n ≤ 2 * (at - lo)
   pub short : m ≤ 65539
 
+-- before the first record nothing is passed
 pub behind-none : (t source : List ℕ) (lo hi : ℕ) → lo ≤ hi → Behind t source lo hi lo 0 0
 behind-none t source lo hi h =
     record {
@@ -212,6 +219,7 @@ behind-none t source lo hi h =
     }
 
 module _ {t source : List ℕ} {lo hi at n m : ℕ} (b : Behind t source lo hi at n m) where
+  -- an argument is passed with its tags and its data
   pub behind-more : (x y : ℕ) → Placed t at hi → SurveyedArgument t source at x y → x ≤ 2 * (endAt t at - at) → m + y ≤ 65539
       → Behind t source lo hi (endAt t at) (n + x) (m + y)
   behind-more x y p a l h =
@@ -226,6 +234,7 @@ module _ {t source : List ℕ} {lo hi at n m : ℕ} (b : Behind t source lo hi a
         short = h;
       }
 
+  -- where no record is left, the arguments are surveyed
   pub behind-all : hi ≤ at → SurveyedArguments t source lo hi n m
   behind-all q =
       let z : at ≡ hi = omega (arith, b .within) in
@@ -250,9 +259,10 @@ message-found t source at {a} {b} {e} ae be ee r w xe ye =
     }
 
 module _ {t source : List ℕ} {at levels : ℕ} where
-  pub element-message : {n : ℕ} → kindAt t at ≡ 47 → SurveyedMessage t source at n → SurveyedPacket t source at levels (4 + n)
+  -- a message is an element, with its size
+  pub surveyed-message : {n : ℕ} → kindAt t at ≡ 47 → SurveyedMessage t source at n → SurveyedPacket t source at levels (4 + n)
   unfolding ownRules rangeOk allowed
-  element-message k w =
+  surveyed-message k w =
       record {
         inside = w .forest;
         stands = record { rules = rw k; range = rw k (w .range); may = rw k; found = rw k (w .found) };
@@ -260,10 +270,11 @@ module _ {t source : List ℕ} {at levels : ℕ} where
         sized = omega (arith, ap length (message-is source (kindAt t at) (aAt t at) (bAt t at) (w .forest) k), w .sized);
       }
 
-  pub element-bundle : {n : ℕ} → kindAt t at ≡ 35 → (levels ≡ 0 → ⊥) → SurveyedPackets t source (at + 1) (endAt t at) (levels - 1) n
+  -- a bundle is an element, with its size and its head; its elements have one level less
+  pub surveyed-bundle : {n : ℕ} → kindAt t at ≡ 35 → (levels ≡ 0 → ⊥) → SurveyedPackets t source (at + 1) (endAt t at) (levels - 1) n
       → SurveyedPacket t source at levels (20 + n)
   unfolding ownRules rangeOk allowed
-  element-bundle k z w =
+  surveyed-bundle k z w =
       let no-message : kindAt t at ≡ 47 → ⊥ = λ e. omega (arith, e, k) in
       let l = ap length (bundle-is source (kindAt t at) (aAt t at) (bAt t at) (w .forest) no-message) in
       record {
@@ -273,6 +284,7 @@ module _ {t source : List ℕ} {at levels : ℕ} where
         sized = omega (arith, simp (length-append, length-bundle) at l, w .sized);
       }
 
+-- an element before elements
 pub elements-more : {t source : List ℕ} {at hi levels n m : ℕ} → Placed t at hi → SurveyedPacket t source at levels n
     → SurveyedPackets t source (endAt t at) hi levels m → SurveyedPackets t source at hi levels (n + m)
 unfolding depth
@@ -290,6 +302,7 @@ elements-more {t} {source} {at} p x w =
       );
     }
 
+-- no records are elements
 pub elements-none : (t source : List ℕ) (at levels : ℕ) → SurveyedPackets t source at at levels 0
 unfolding depth
 elements-none t source at levels =
@@ -302,11 +315,13 @@ pub record Ahead (t source : List ℕ) (levels lo hi at n : ℕ) : Type 0 where
   pub within : at ≤ hi
   pub short : n ≤ 65539
 
+-- before the first record nothing is passed
 pub ahead-none : (t source : List ℕ) (levels lo hi : ℕ) → lo ≤ hi → Ahead t source levels lo hi lo 0
 ahead-none t source levels lo hi h =
     record { before = λ m w. let e : 0 + m ≡ m = omega arith in rw e w; passed = omega arith; within = h; short = omega arith }
 
 module _ {t source : List ℕ} {levels lo hi at n : ℕ} (b : Ahead t source levels lo hi at n) where
+  -- an element is passed with its bytes
   pub ahead-more : (x : ℕ) → Placed t at hi → SurveyedPacket t source at levels x → n + x ≤ 65539
       → Ahead t source levels lo hi (endAt t at) (n + x)
   ahead-more x p a h =
@@ -317,6 +332,7 @@ module _ {t source : List ℕ} {levels lo hi at n : ℕ} (b : Ahead t source lev
         short = h;
       }
 
+  -- where no record is left, the elements are surveyed
   pub ahead-all : hi ≤ at → SurveyedPackets t source lo hi levels n
   ahead-all q =
       let z : at ≡ hi = omega (arith, b .within) in
@@ -325,6 +341,7 @@ module _ {t source : List ℕ} {levels lo hi at n : ℕ} (b : Ahead t source lev
 
 -- ---- a table
 
+-- one element that is the whole table is its tree
 pub tree-surveyed : {t source : List ℕ} {count n : ℕ} → 1 ≤ count → count ≤ 65535 → recordSize * count ≤ length t → endAt t 0 ≡ count
     → SurveyedPackets t source 0 count 64 n → Surveyed t count source n
 unfolding Spans Obeys

@@ -1,5 +1,5 @@
--- What one reading of a table finds, where it is sure: document 01, "The node table", "Refusal numbers" (9) and "How bytes are
--- written". The words are those of Formed.antt and Tree.antt of `table`, and of Osc.antt here.
+-- Inside the code, and no part of the document: what one reading of a table finds, where it is sure. The words are those of
+-- Formed.antt and Tree.antt of `table`, and of Osc.antt of `writers`.
 use mathlib.Core.Path.{_≡_}
 use mathlib.Core.Bool.{Bool, true, false, cond}
 use mathlib.Core.List.{List}

@@ -29,9 +29,11 @@ pub record Passed (t : List ℕ) (hi limit : ℕ) (F : Forest) (at : ℕ) : Type
   pub spans : Spans t at hi rest
   pub same : ltb limit (depth F) ≡ ltb limit (depth rest)
 
+-- before the first record nothing is passed
 pub passed-none : (t : List ℕ) (lo hi limit : ℕ) (F : Forest) → Spans t lo hi F → Passed t hi limit F lo
 passed-none t lo hi limit F s = record { rest = F; spans = s; same = refl }
 
+-- where no record is left, the whole is not too deep
 pub passed-all : {t : List ℕ} {hi limit : ℕ} {F : Forest} {at : ℕ} → Passed t hi limit F at → hi ≤ at → false ≡ ltb limit (depth F)
 unfolding depth
 passed-all {t} {hi} {limit} {F} {at} p h =
@@ -67,9 +69,11 @@ module _ {t : List ℕ} {hi limit : ℕ} {F : Forest} {at : ℕ} {r : Record} (p
     next : Next t hi at (p .rest) r
     next = subst (Next t hi at (p .rest)) (sym e) (next-read t hi at (p .rest) h (p .spans))
 
+    -- what the next record contains is a row of the table
     pub next-row : {lo : ℕ} → Row t lo hi → Row t (at + 1) (r .end)
     next-row w = record { forest = next .inside; spans = next .in-spans; table = omega (arith, w .table, next .within) }
 
+    -- the next record ends after itself, and in the row
     pub next-on : (at < r .end) × (r .end ≤ hi)
     next-on = (next .on, next .within)
 
@@ -101,8 +105,10 @@ module _ {t : List ℕ} {hi limit : ℕ} {F : Forest} {at : ℕ} {r : Record} (p
     -- a bundle whose elements are one level nearer to the limit
     module _ (k : r .kind ≡ 35) (z : limit ≡ 0 → ⊥) {x : Bool}
         (d : (G : Forest) → Spans t (at + 1) (r .end) G → x ≡ ltb (limit - 1) (depth G)) where
+      -- its elements are too deep, so the whole is
       pub found-inside : x ≡ true → true ≡ ltb limit (depth F)
       found-inside y = found (λ G s. let l : limit - 1 < depth G = ltb-true (limit - 1) (depth G) (sym (d G s) ∙ y) in rw k (omega arith))
 
+      -- its elements are not too deep, so it is passed
       pub passed-bundle : x ≡ false → Passed t hi limit F (r .end)
       passed-bundle y = passed (λ G s. let l : depth G ≤ limit - 1 = ltb-false (limit - 1) (depth G) (sym (d G s) ∙ y) in rw k (omega arith))

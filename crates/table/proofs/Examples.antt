@@ -28,6 +28,7 @@ table length end =
 abbrev pub five : Forest
 five = node 105 5 0 nil nil
 
+-- P3's table is the tree of a message with one integer
 pub p3-tree : IsTree (table 2 2) 2 packet 47 0 2 five
 unfolding number bytes size classOf sortOf recordOf recordsOf ownRules rangeOk allowed Obeys FieldsFit
 p3-tree =
@@ -35,6 +36,7 @@ p3-tree =
     (omega arith, omega arith, (omega arith, omega arith, tt, tt), tt) (omega arith)
     (refl, refl, refl, (refl, refl, refl, tt, tt), tt)
 
+-- so it is well formed
 pub p3-formed : WellFormed (table 2 2) 2 packet
 p3-formed = tree-formed p3-tree
 

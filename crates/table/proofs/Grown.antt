@@ -14,6 +14,7 @@ use Rattle.table.specs.Formed.{rangeOk, allowed, Tiles, done, step, Node
 use Rattle.table.specs.Tree.{Spans, Obeys, IsTree}
 use Rattle.table.proofs.Spanned.{spans-size}
 
+-- tiles run forward
 pub tiles-le : {t : List ℕ} {container lo hi : ℕ} → Tiles t container lo hi → lo ≤ hi
 tiles-le done = omega arith
 tiles-le (step lt may on r) = omega arith
@@ -55,6 +56,7 @@ module _ (t : List ℕ) (count : ℕ) (source : List ℕ) where
       (grow ok fuel (omega arith) (omega arith) (k .tiles))
       (grow ok fuel (omega arith) le r)
 
+  -- a well-formed table has a tree, whose root is the first record
   pub tree-of : WellFormed t count source → (inside : Forest) × IsTree t count source (kindAt t 0) (aAt t 0) (bAt t 0) inside
   unfolding Spans Obeys allowed
   tree-of w =
@@ -111,6 +113,7 @@ kept-of t source container lo hi (node k a b inside rest) s o i l h =
     (λ g. ⊎-elim (λ q. kept-up (omega arith) (deep (omega arith) q)) (λ q. later q h) (lt-or-le i (endAt t lo)))
     (eq-or-lt-of-le l)
 
+-- a table that has a tree is well formed
 pub formed-of : {t : List ℕ} {count : ℕ} {source : List ℕ} {k a b : ℕ} {inside : Forest} → IsTree t count source k a b inside
     → WellFormed t count source
 unfolding Spans Obeys allowed

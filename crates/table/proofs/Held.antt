@@ -104,6 +104,7 @@ pub record Holds (t : List ℕ) (lo hi : ℕ) (F : Forest) : Type 0 where
   pub spans : Spans t lo hi F
   pub zeros : (i : ℕ) → lo ≤ i → i < hi → zerosAt t i ≡ 0
 
+-- where a forest's records stand in a table from lo on, the forest spans lo to hi there, and its zeros are 0
 pub records-held : (t more : List ℕ) (lo hi : ℕ) (F : Forest) → FieldsFit F → lo + size F ≡ hi → hi < 256 ^ 4
     → drop (startOf lo) t ≡ recordsOf lo F ++ more → Holds t lo hi F
 unfolding Spans FieldsFit recordsOf size

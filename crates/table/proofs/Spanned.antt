@@ -76,11 +76,13 @@ pub record Parts (source : List ℕ) (container k a b : ℕ) (inside rest : Fore
   pub in-obeys : Obeys source k inside
   pub rest-obeys : Obeys source container rest
 
+-- what a forest obeys, taken apart at its first node
 pub parts : (source : List ℕ) (container k a b : ℕ) (inside rest : Forest) → Obeys source container (node k a b inside rest)
     → Parts source container k a b inside rest
 unfolding Obeys
 parts source container k a b inside rest o = record { rules = o .0; range = o .1; may = o .2; in-obeys = o .3; rest-obeys = o .4 }
 
+-- the same for the first record of a row
 pub cut-parts : {t : List ℕ} {lo hi : ℕ} {F : Forest} (u : Cut t lo hi F) (source : List ℕ) (container : ℕ) → Obeys source container F
     → Parts source container (kindAt t lo) (aAt t lo) (bAt t lo) (u .inside) (u .rest)
 cut-parts {t} {lo} u source container o = parts source container _ _ _ (u .inside) (u .rest) (rw (u .is) at o)

@@ -23,6 +23,7 @@ pub record Walked (t : List ℕ) (container lo hi at : ℕ) : Type 0 where
   pub back : Tiles t container at hi → Tiles t container lo hi
   pub on : Tiles t container lo hi → Tiles t container at hi
 
+-- the walk begins with all tiles before it
 pub walk : {t : List ℕ} {container lo hi : ℕ} → Walked t container lo hi lo
 walk = record { back = λ x. x; on = λ x. x }
 
@@ -46,12 +47,15 @@ module _ {t : List ℕ} {container lo hi at : ℕ} (w : Walked t container lo hi
     first x = subst (λ (s : Record). (allowed container (s .kind) ≡ true) × (at < s .end) × Tiles t container (s .end) hi) (sym e)
         (tiles-cut h (w .on x))
 
+    -- a child that the container may not have
     pub not-allowed : allowed container (r .kind) ≡ false → Decides false (Tiles t container lo hi)
     not-allowed n = no (λ x. true≢false (sym (first x .0) ∙ n))
 
+    -- a child that does not end after itself
     pub ends-early : r .end ≤ at → Decides false (Tiles t container lo hi)
     ends-early n = no (λ x. omega (arith, first x .1))
 
+    -- a child is passed
     pub walked-on : allowed container (r .kind) ≡ true → at < r .end → Walked t container lo hi (r .end)
     walked-on may on =
         let may′ = subst (λ (s : Record). allowed container (s .kind) ≡ true) e may in
@@ -87,18 +91,23 @@ module _ {t : List ℕ} {count : ℕ} {source : List ℕ} {i : ℕ} {r : Record}
   to-node y = let x = subst (Rules t count source i) e y in
       record { zeros = x .zeros; rules = x .rules; range = x .range; within = x .within; tiles = x .tiles }
 
+  -- three bytes that are not 0
   pub not-zeros : (r .zeros ≡ 0 → ⊥) → Decides false (NodeOk t count source i)
   not-zeros n = no (λ x. n (of-node x .zeros))
 
+  -- a record against its own rules
   pub not-rules : ownRules (r .kind) (r .a) (r .b) ≡ false → Decides false (NodeOk t count source i)
   not-rules n = no (λ x. true≢false (sym (of-node x .rules) ∙ n))
 
+  -- a record whose range is wrong
   pub not-range : rangeOk source (r .kind) (r .a) (r .b) ≡ false → Decides false (NodeOk t count source i)
   not-range n = no (λ x. true≢false (sym (of-node x .range) ∙ n))
 
+  -- a record that ends after the table
   pub not-within : count < r .end → Decides false (NodeOk t count source i)
   not-within n = no (λ x. omega (arith, of-node x .within))
 
+  -- otherwise its tiles decide
   pub node-decides : {b : Bool} → r .zeros ≡ 0 → ownRules (r .kind) (r .a) (r .b) ≡ true → rangeOk source (r .kind) (r .a) (r .b) ≡ true
       → r .end ≤ count → Decides b (Tiles t (r .kind) (i + 1) (r .end)) → Decides b (NodeOk t count source i)
   node-decides z o g w d =

@@ -55,6 +55,7 @@ module _ {source t : List ℕ} {lo hi : ℕ} {o₀ o : List ℕ} {at k : ℕ}
 
   -- an array: what it contains is written
   module _ (q : sort ≡ Opens) where
+    -- there is room for the data of what it contains
     pub data-inside : OutputRoom (Sound source) (writeData source) t (at + 1) end (length (midOf k (length o - k) o))
     data-inside =
         record {
@@ -70,14 +71,17 @@ module _ {source t : List ℕ} {lo hi : ℕ} {o₀ o : List ℕ} {at k : ℕ}
       within : Filled (writeData source (next w h .inside)) (midOf k (length o - k) o) p n
       within = f (next w h .inside) (rw e (next w h .in-spans))
 
+      -- with it the output is no longer than a packet may be
       pub array-after : k + n ≤ 65535
       array-after = omega (arith, within .count, rw q at data-room)
 
+      -- the array is passed
       pub array-gone : Going (Sound source) (writeData source) (writeData source) t lo hi o₀ (putMid k (length o - k) o p) end (k + n)
       array-gone = datum-gone q within
 
   -- an argument that is no array
   module _ {class : Class} (q : sort ≡ Leaf class) {a b : ℕ} (u : a ≡ aAt t at) (v : b ≡ bAt t at) where
+    -- its range lies in the source, and there is room for its data
     pub leaf-asked : (hasRange class ≡ true → a + b ≤ length source) ×
         (length (writeArgument class source a b) ≤ length (midOf k (length o - k) o))
     leaf-asked = (
@@ -86,8 +90,10 @@ module _ {source t : List ℕ} {lo hi : ℕ} {o₀ o : List ℕ} {at k : ℕ}
     )
 
     module _ {p : List ℕ} {n : ℕ} (f : Filled (writeArgument class source a b) (midOf k (length o - k) o) p n) where
+      -- with it the output is no longer than a packet may be
       pub leaf-after : k + n ≤ 65535
       leaf-after = omega (arith, rw (u, v) at (f .count), rw q at data-room)
 
+      -- the argument is passed
       pub leaf-gone : Going (Sound source) (writeData source) (writeData source) t lo hi o₀ (putMid k (length o - k) o p) end (k + n)
       leaf-gone = datum-gone q (rw (u, v) at f)

@@ -36,10 +36,12 @@ leafy Opens = false
 leafy Closes = false
 leafy (Leaf class) = true
 
+-- [ opens an array
 pub opens : (k : ℕ) → k ≡ 91 → sortOf k ≡ Opens
 unfolding sortOf
 opens k e = rw e
 
+-- no other kind does
 pub opens-only : (k : ℕ) → sortOf k ≡ Opens → k ≡ 91
 unfolding sortOf
 opens-only k e =
@@ -106,40 +108,49 @@ tags-by-some Opens k within = omega arith
 tags-by-some Closes k within = omega arith
 tags-by-some (Leaf class) k within = omega arith
 
+-- no arguments have no tags
 pub tags-none : writeTags nil ≡ []
 unfolding writeTags
 tags-none = refl
 
+-- no arguments have no data
 pub data-none : (source : List ℕ) → writeData source nil ≡ []
 unfolding writeData
 data-none source = refl
 
+-- no elements have no bytes
 pub elements-none : (source : List ℕ) → writeElements source nil ≡ []
 unfolding writeElements
 elements-none source = refl
 
 module _ (k a b : ℕ) (inside rest : Forest) where
+  -- an argument has a tag
   pub tags-some : 1 ≤ length (writeTags (node k a b inside rest))
   unfolding writeTags
   tags-some = simp length-append (omega (arith, tags-by-some (sortOf k) k (writeTags inside)))
 
+  -- an array's tags stand in brackets, before those of the arguments after it
   pub tags-array : k ≡ 91 → writeTags (node k a b inside rest) ≡ (k ∷ (writeTags inside ++ (93 ∷ []))) ++ writeTags rest
   unfolding writeTags
   tags-array e = rw (opens k e)
 
+  -- any other argument has its kind as its tag
   pub tags-leaf : (k ≡ 91 → ⊥) → writeTags (node k a b inside rest) ≡ (k ∷ []) ++ writeTags rest
   unfolding writeTags
   tags-leaf n = rw (tags-by-leaf (sortOf k) k (writeTags inside) (λ e. n (opens-only k e)))
 
+  -- the tags of the first argument stand before those of the rest
   pub tags-is : writeTags (node k a b inside rest) ≡ tagsBy (sortOf k) k (writeTags inside) ++ writeTags rest
   unfolding writeTags
   tags-is = refl
 
+  -- the data of the first argument stands before that of the rest
   pub data-is : (source : List ℕ) (sort : Sort) → sort ≡ sortOf k
       → writeData source (node k a b inside rest) ≡ dataBy sort source a b (writeData source inside) ++ writeData source rest
   unfolding writeData
   data-is source sort e = rw e
 
+  -- the first element stands before the rest
   pub elements-is : (source : List ℕ)
       → writeElements source (node k a b inside rest) ≡ writeElement (writePacket source k a b inside) ++ writeElements source rest
   unfolding writeElements writePacket
@@ -148,10 +159,12 @@ module _ (k a b : ℕ) (inside rest : Forest) where
 -- ---- a packet by its kind
 
 module _ (source : List ℕ) (k a b : ℕ) (inside : Forest) where
+  -- a packet whose kind is / is a message
   pub message-is : k ≡ 47 → writePacket source k a b inside ≡ writeMessage source a b inside
   unfolding writePacket
   message-is e = rw e
 
+  -- any other packet is a bundle: its head, and its elements
   pub bundle-is : (k ≡ 47 → ⊥) → writePacket source k a b inside ≡ writeBundle a b [] ++ writeElements source inside
   unfolding writePacket writeBundle
   bundle-is n = rw (ne-eqb k 47 n) (simp (append-assoc, append-nil))

@@ -17,10 +17,12 @@ use Rattle.strings.specs.InnerStrings.{stringLength}
 use Rattle.writers.specs.Osc.{dataBy, writeData, writeTags, writeMessage, writeBundle, writeElement, writeElements, writePacket}
 use Rattle.strings.proofs.Lengths.{length-string, string-even, both, argument-even}
 
+-- a bundle has 16 bytes before its elements
 pub length-bundle : (seconds fractional : ℕ) (elements : List ℕ) → length (writeBundle seconds fractional elements) ≡ 16 + length elements
 unfolding writeBundle
 length-bundle seconds fractional elements = simp (length-append, length-bytes) (omega arith)
 
+-- how long a message is, by its address, its tags and its data
 pub length-message : (source : List ℕ) (a b : ℕ) (inside : Forest)
     → length (writeMessage source a b inside) ≡ length (oscString (part source a b)) + stringLength (1 + length (writeTags inside)) + length
     (writeData source inside)

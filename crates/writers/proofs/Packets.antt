@@ -32,11 +32,13 @@ module _ {t : List ℕ} {lo hi : ℕ} (o : List ℕ) (r : OutputRoom Any tagText
   abbrev comma : List ℕ
   comma = set o 0 44
 
+  -- there is room for the type tag text
   pub text-room : (stringLength (1 + length (writeTags (r .forest))) ≤ length o) × (stringLength (1 + length (writeTags (r .forest))) ≤ 65535)
   text-room =
       let e : 1 + length (writeTags (r .forest)) ≡ suc (length (writeTags (r .forest))) = omega arith in
       rw e (rw length-string at (r .fits), rw length-string at (r .few))
 
+  -- after the comma there is room for the tags
   pub tags-asked : OutputRoom Any writeTags t lo hi (length (midOf 1 (length comma - 1) comma))
   tags-asked =
       record {
@@ -53,11 +55,13 @@ module _ {t : List ℕ} {lo hi : ℕ} (o : List ℕ) (r : OutputRoom Any tagText
     abbrev tagged : List ℕ
     tagged = putMid 1 (length comma - 1) comma p
 
+    -- after the tags there is room for the NULs
     pub tagged-room : (stringLength (1 + n) ≤ length o) × (stringLength (1 + n) ≤ 65535) × (length tagged ≡ length o)
     tagged-room =
         let c = f (r .forest) (r .spans) in
         rw (c .count) (text-room .0, text-room .1, same-length comma 1 (c .wrote) ∙ simp length-set)
 
+    -- comma, tags and NULs are the type tag text
     pub text-filled : {q : List ℕ} {z : ℕ} → Filled (replicate (4 - (1 + n) % 4) 0) (midOf (1 + n) (length tagged - (1 + n)) tagged) q z
         → WritesRow tagText t lo hi o (putMid (1 + n) (length tagged - (1 + n)) tagged q) (1 + n + z)
     unfolding oscString
@@ -97,13 +101,16 @@ module _ {source t : List ℕ} {at : ℕ} (o : List ℕ) (y : kindAt t at ≡ 47
   table-room : recordSize * end ≤ length t
   table-room = rw e (q .room .table)
 
+  -- the address's range lies in the source
   pub address-asked : a + b ≤ length source
   address-asked = rw (u, v) (address-range source (kindAt t at) (aAt t at) (bAt t at) (q .range) y)
 
+  -- there is room for the address
   pub address-fits : length (oscString (part source a b)) ≤ length o
   address-fits = omega (arith, message-room)
 
   module _ {o₁ : List ℕ} {k : ℕ} (f₁ : Filled (oscString (part source a b)) o o₁ k) where
+    -- after the address there is room for the type tag text
     pub text-asked : OutputRoom Any tagText t (at + 1) end (length (midOf k (length o₁ - k) o₁))
     text-asked =
         record {
@@ -123,11 +130,13 @@ module _ {source t : List ℕ} {at : ℕ} (o : List ℕ) (y : kindAt t at ≡ 47
       headed-filled : Filled (oscString (part source a b) ++ tagText (q .room .forest)) o headed (k + m)
       headed-filled = filled-lent f₁ (f₂ (q .room .forest) inside-spans)
 
+      -- address and type tag text fit the output
       pub head-room : (k + m ≤ length headed) × (k + m ≤ 65535)
       head-room =
           let l = simp length-append at (headed-filled .count) in
           (omega (arith, message-room, filled-length headed-filled), omega (arith, message-room))
 
+      -- after them there is room for the data
       pub data-asked : OutputRoom (Sound source) (writeData source) t (at + 1) end (length (midOf (k + m) (length headed - (k + m)) headed))
       data-asked =
           let l = simp length-append at (headed-filled .count) in
@@ -141,12 +150,14 @@ module _ {source t : List ℕ} {at : ℕ} (o : List ℕ) (y : kindAt t at ≡ 47
           }
 
       module _ {p′ : List ℕ} {d : ℕ} (f₃ : WritesRow (writeData source) t (at + 1) end (midOf (k + m) (length headed - (k + m)) headed) p′ d) where
+        -- with the data the message is no longer than a packet may be
         pub message-end : k + m + d ≤ 65535
         message-end =
             let l = simp length-append at (headed-filled .count) in
             let c = f₃ (q .room .forest) inside-spans .count in
             omega (arith, message-room)
 
+        -- address, type tag text and data are the message
         pub message-filled : WritesRow (packetAt source t at) t (at + 1) (endAt t at) o (putMid (k + m) (length headed - (k + m)) headed p′)
             (k + m + d)
         message-filled F s =
@@ -160,16 +171,19 @@ module _ {source t : List ℕ} {at : ℕ} (o : List ℕ) (n : kindAt t at ≡ 47
   bundle-bytes : (F : Forest) → packetAt source t at F ≡ writeBundle a b [] ++ writeElements source F
   bundle-bytes F = rw (u, v) (bundle-is source (kindAt t at) (aAt t at) (bAt t at) F n)
 
+  -- there is room for the bundle's head
   pub head-asked : 16 ≤ length o
   head-asked =
       omega (arith, q .room .fits, simp (length-append, length-bundle) at (ap length (bundle-bytes (q .room .forest))))
 
   module _ {o₁ : List ℕ} {k : ℕ} (f : Filled (writeBundle a b []) o o₁ k) where
+    -- after the head all elements are left to write
     pub bundle-begun : Going (Sound source) (packetAt source t at) (writeElements source) t (at + 1) end o₁ o₁ (at + 1) k
     bundle-begun =
         let room : OutputRoom (Sound source) (packetAt source t at) t (at + 1) end (length o₁) = rw (e, filled-length f) (q .room) in
         begun room (writeBundle a b []) (bundle-bytes (room .forest)) (written-again f)
 
+    -- where no element is left, the bundle is written
     pub bundle-ended : {o₂ : List ℕ} {next n : ℕ}
         → Going (Sound source) (packetAt source t at) (writeElements source) t (at + 1) end o₁ o₂ next n
         → end ≤ next → WritesRow (packetAt source t at) t (at + 1) (endAt t at) o o₂ n
@@ -185,12 +199,14 @@ module _ {source t : List ℕ} {g : Forest → List ℕ} {lo hi : ℕ} {o₀ o :
   element-left = ap (writeElements source) (next w h .is)
       ∙ elements-is (kindAt t at) (aAt t at) (bAt t at) (next w h .inside) (next w h .rest) source
 
+  -- there is room for the next element
   pub element-room : (k + 4 + length (packetAt source t at (next w h .inside)) ≤ length o) ×
       (k + 4 + length (packetAt source t at (next w h .inside)) ≤ 65535)
   element-room =
       let l = simp (length-append, length-bytes) at (ap length element-left) in
       (omega (arith, room-left w, filled-length (w .filled)), omega (arith, room-left w))
 
+  -- after the gap for its size there is room for its packet
   pub packet-asked : Ready source t at (length (midOf (k + 4) (length o - (k + 4)) o))
   packet-asked =
       record {
@@ -213,6 +229,7 @@ module _ {source t : List ℕ} {g : Forest → List ℕ} {lo hi : ℕ} {o₀ o :
     inside-filled : Filled (packetAt source t at (next w h .inside)) (midOf (k + 4) (length o - (k + 4)) o) p n
     inside-filled = f (next w h .inside) (next w h .in-spans)
 
+    -- with its packet the output is no longer than a packet may be
     pub packet-after : (k + 4 + n ≤ length placed) × (k + 4 + n ≤ 65535)
     packet-after = (
       omega (arith, element-room, inside-filled .count, same-length o (k + 4) (inside-filled .wrote)),
@@ -220,6 +237,7 @@ module _ {source t : List ℕ} {g : Forest → List ℕ} {lo hi : ℕ} {o₀ o :
           (arith, element-room, inside-filled .count),
     )
 
+    -- once its size is written, the element is passed
     pub element-gone : {p′ : List ℕ} → Wrote (bytes 4 n) (midOf k (length placed - k) placed) p′ → {end : ℕ} → end ≡ endAt t at
         → Going (Sound source) g (writeElements source) t lo hi o₀ (putMid k (length placed - k) placed p′) end (k + 4 + n)
     element-gone v e =

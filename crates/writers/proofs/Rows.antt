@@ -51,6 +51,7 @@ begun r done e w =
       passed = omega arith;
     }
 
+-- the loop begins with nothing written
 pub begun-empty : {P : Forest → Type 0} {f : Forest → List ℕ} {t : List ℕ} {lo hi : ℕ} {o : List ℕ} → OutputRoom P f t lo hi (length o)
     → Going P f f t lo hi o o lo 0
 begun-empty r = begun r [] refl (record { count = refl; wrote = wrote-none _ })
@@ -124,6 +125,7 @@ module _ {t : List ℕ} {lo hi : ℕ} {o₀ o : List ℕ} {at k : ℕ} (w : Goin
   array-length y = omega (arith, simp length-append at (ap length (array-is y)))
 
   module _ {kind end : ℕ} (e : kind ≡ kindAt t at) (e′ : end ≡ endAt t at) where
+    -- an argument that is no array is passed with its tag
     pub tags-leaf-gone : (kind ≡ 91 → ⊥) → Going Any writeTags writeTags t lo hi o₀ (set o k kind) end (k + 1)
     tags-leaf-gone n = rw (e, e′)
         (gone w h (kindAt t at ∷ []) (leaf-is (rw e at n)) tt (filled-set (kindAt t at) (w .filled) (omega (arith, tag-room))))
@@ -154,12 +156,14 @@ module _ {t : List ℕ} {lo hi : ℕ} {o₀ o : List ℕ} {at k : ℕ} (w : Goin
         inside-filled : Filled (writeTags (next w h .inside)) (midOf (k + 1) (length opened - (k + 1)) opened) p n
         inside-filled = f (next w h .inside) (rw e′ (next w h .in-spans))
 
+        -- it fits the output
         pub close-room : (k + 1 + n + 1 ≤ length (putMid (k + 1) (length opened - (k + 1)) opened p)) × (k + 1 + n + 1 ≤ 65535)
         close-room =
             let m = array-length (rw e at y) in
             let c = inside-filled .count in
             (omega (arith, room-left w, opened-length, same-length opened (k + 1) (inside-filled .wrote)), omega (arith, room-left w))
 
+        -- an array is passed with its closing bracket
         pub tags-array-gone : Going Any writeTags writeTags t lo hi o₀ (set (putMid (k + 1) (length opened - (k + 1)) opened p) (k + 1 + n) 93)
             end (k + 1 + n + 1)
         tags-array-gone =

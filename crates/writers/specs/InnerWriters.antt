@@ -1,4 +1,4 @@
--- What the writers are given, and what they leave: document 01, "written from the current position of the output onward".
+-- Inside the code, and no part of the document: what the writers are given, and what they leave in the output.
 use mathlib.Core.Path.{_≡_}
 use mathlib.Core.Bool.{true}
 use mathlib.Core.List.{List, _∷_}

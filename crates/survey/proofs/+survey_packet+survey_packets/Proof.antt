@@ -6,7 +6,7 @@ use native.Mathlib.Omega.{arith}
 use borrow.Author.Needs.{needs}
 use borrow.Author.Tests.{not-false}
 use Rattle.node.proofs.Keys.{by-keys}
-use Rattle.survey.proofs.Surveyed.{Ahead, placed-is, element-message, element-bundle, ahead-none, ahead-more, ahead-all}
+use Rattle.survey.proofs.Surveyed.{Ahead, placed-is, surveyed-message, surveyed-bundle, ahead-none, ahead-more, ahead-all}
 use Prim.Native.Nat.{ℕ, _+_, _-_, _*_, _<_}
 use borrow.Fn.Kinds.{In}
 use borrow.Fn.PlainCycle.{Measures, is, falls, and}
@@ -102,14 +102,14 @@ pub +survey-packet+survey-packets-spec : {M : Type 1} → statement M
     (λ c. omega (arith, c .survey-packets .ensures .1))
     -- returns-2
     (λ c. (
-      (λ h. element-message
+      (λ h. surveyed-message
           (sym (c .before .before .kind-at .ensures) ∙ sym (by-keys (λ (k : ℕ). k) 47 (47 ∷ []) (refl, tt) _ (c .before .match .keys1)))
           (c .survey-message .ensures .0 (omega (arith, h)))),
       omega (arith, c .survey-message .ensures .1),
     ))
     -- returns-3
     (λ c. let p2 = c .before .before in let p3 = p2 .before in let p4 = p3 .before in (
-      (λ h. element-bundle (sym (p4 .kind-at .ensures) ∙ sym (by-keys (λ (k : ℕ). k) 35 (35 ∷ []) (refl, tt) _ (p3 .match .keys2)))
+      (λ h. surveyed-bundle (sym (p4 .kind-at .ensures) ∙ sym (by-keys (λ (k : ℕ). k) 35 (35 ∷ []) (refl, tt) _ (p3 .match .keys2)))
           (p2 .if1 .left) (rw (c .before .end-at .ensures) at (c .survey-packets .ensures .0 (omega (arith, h))))),
       omega (arith, c .survey-packets .ensures .1),
     ))
