@@ -177,11 +177,11 @@ module _ (t : List ℕ) (count : ℕ) (source : List ℕ) {b : Bool} (d : Decide
     abbrev inside : Forest
     inside = formed-tree t count source well .0
 
-    tree : IsTree t count source (kindAt t 0) (aAt t 0) (bAt t 0) inside
+    tree : IsTree t count source (itemAt t 0) inside
     tree = formed-tree t count source well .1
 
     abbrev root : Forest
-    root = node (kindAt t 0) (aAt t 0) (bAt t 0) inside nil
+    root = node (itemAt t 0) inside nil
 
     -- a well-formed table is one row
     pub rooted : Row t 0 count
@@ -198,7 +198,7 @@ module _ (t : List ℕ) (count : ℕ) (source : List ℕ) {b : Bool} (d : Decide
 
       module _ {m : ℕ} (g : LengthOrOver m (sumTo (elementLength t) count)) where
         total : sumTo (elementLength t) count ≡ 4 + length (packetAt source t 0 inside)
-        total = packet-sum source t count (kindAt t 0) (aAt t 0) (bAt t 0) inside (tree .spans) (tree .obeys)
+        total = packet-sum source t count (itemAt t 0) inside (tree .spans) (tree .obeys)
 
         -- the sum counts the four bytes of a size
         pub some-length : 4 ≤ m
@@ -230,14 +230,14 @@ module _ (frame : ℕ → List ℕ → List ℕ) (t : List ℕ) (count : ℕ) (s
   refused {r} {x} (prepare.malformed n e) q = let y : x ≡ BadTable = cc in malformed n (rw y)
   refused {r} {x} (prepare.deep inside tree h e) q =
       let y : x ≡ TooDeep = cc in
-      formed (kindAt t 0) (aAt t 0) (bAt t 0) inside tree (rw (y, lt-leb (depth (node (kindAt t 0) (aAt t 0) (bAt t 0) inside nil)) 64 h))
+      formed (itemAt t 0) inside tree (rw (y, lt-leb (depth (node (itemAt t 0) inside nil)) 64 h))
   refused {r} {x} (prepare.ready inside tree h n e z) q = let y : _≡_ {A = ℕ} 0 1 = cc in absurd (omega arith)
 
 -- a packet that is to be written
 pub record Planned (t : List ℕ) (count : ℕ) (source : List ℕ) (n : ℕ) : Type 0 where
   pub inside : Forest
-  pub tree : IsTree t count source (kindAt t 0) (aAt t 0) (bAt t 0) inside
-  pub shallow : depth (node (kindAt t 0) (aAt t 0) (bAt t 0) inside nil) ≤ 64
+  pub tree : IsTree t count source (itemAt t 0) inside
+  pub shallow : depth (node (itemAt t 0) inside nil) ≤ 64
   pub sized : Writable source t n
 
 -- where a length is known, the packet is to be written
@@ -256,7 +256,7 @@ module _ {t : List ℕ} {count : ℕ} {source : List ℕ} {n : ℕ} (out : List 
   framed : (frame : ℕ → List ℕ → List ℕ) {x : Outcome} → x ≡ bytesOutcome (frame (kindAt t 0) (packetAt source t 0 (w .inside))) out
       → Encodes frame t count source out x
   unfolding treeOutcome
-  framed frame e = formed (kindAt t 0) (aAt t 0) (bAt t 0) (w .inside) (w .tree) (rw (le-leb _ 64 (w .shallow)) e)
+  framed frame e = formed (itemAt t 0) (w .inside) (w .tree) (rw (le-leb _ 64 (w .shallow)) e)
 
   -- `encode` writes the packet as it is
   pub encoded-unframed : {x : Outcome} → ((F : Forest) → Spans t 1 (endAt t 0) F → x ≡ bytesOutcome (packetAt source t 0 F) out)

@@ -52,7 +52,7 @@ unfolding treeOutcome
 encodes-even frame h t count source out r (malformed n e) = rw e (refuse-even BadTable out)
 encodes-even frame h t count source out r (formed k a b inside tree e) =
     rw e
-    (cond-even (leb (depth (node k a b inside nil)) 64) (bytesOutcome (frame k (writePacket source k a b inside)) out) (refuse TooDeep out)
+    (cond-even (leb (depth (node item inside nil)) 64) (bytesOutcome (frame k (writePacket source k a b inside)) out) (refuse TooDeep out)
     (write-even (frame k (writePacket source k a b inside)) out (h source k a b inside))
     (refuse-even TooDeep out))
 

@@ -14,7 +14,7 @@ encodes-only frame t count source out r s (malformed n e) (malformed m f) = one-
 encodes-only frame t count source out r s (malformed n e) (formed k a b inside tree f) = absurd (n (tree-formed tree))
 encodes-only frame t count source out r s (formed k a b inside tree e) (malformed n f) = absurd (n (tree-formed tree))
 encodes-only frame t count source out r s (formed k a b inside tree e) (formed k′ a′ b′ inside′ tree′ f) =
-    let u : node k a b inside nil ≡ node k′ a′ b′ inside′ nil = tree-unique t 0 count _ _ (tree .spans) (tree′ .spans) in
+    let u : node item inside nil ≡ node item′ inside′ nil = tree-unique t 0 count _ _ (tree .spans) (tree′ .spans) in
     let v : treeOutcome frame source out k a b inside ≡ treeOutcome frame source out k′ a′ b′ inside′ = cc in
     e ∙ v ∙ sym f
 

@@ -19,7 +19,7 @@ pub record Writable (source t : List ℕ) (n : ℕ) : Type 0 where
   pub inside : Forest
   pub spans : Spans t 1 (endAt t 0) inside
   pub sound : Sound source inside
-  pub range : rangeOk source (kindAt t 0) (aAt t 0) (bAt t 0) ≡ true
+  pub range : rangeOk source (itemAt t 0) ≡ true
   pub table : recordSize * endAt t 0 ≤ length t
   pub exact : n ≤ 65535 → n ≡ length (packetAt source t 0 inside)
   pub over : 65535 < n → 65535 < length (packetAt source t 0 inside)
@@ -31,9 +31,9 @@ Writes frame source t out r = (F : Forest) → Spans t 1 (endAt t 0) F → r ≡
 -- 11 for a table that is not well formed, then 9 for a tree that is deeper than 64, then the length
 pub data Prepares (t : List ℕ) (count : ℕ) (source : List ℕ) (r : Prepared) : Type 0 where
   malformed : (WellFormed t count source → ⊥) → r ≡ Refused BadTable → Prepares t count source r
-  deep : (inside : Forest) → IsTree t count source (kindAt t 0) (aAt t 0) (bAt t 0) inside
-      → 64 < depth (node (kindAt t 0) (aAt t 0) (bAt t 0) inside nil)
+  deep : (inside : Forest) → IsTree t count source (itemAt t 0) inside
+      → 64 < depth (node (itemAt t 0) inside nil)
       → r ≡ Refused TooDeep → Prepares t count source r
-  ready : (inside : Forest) → IsTree t count source (kindAt t 0) (aAt t 0) (bAt t 0) inside
-      → depth (node (kindAt t 0) (aAt t 0) (bAt t 0) inside nil) ≤ 64
+  ready : (inside : Forest) → IsTree t count source (itemAt t 0) inside
+      → depth (node (itemAt t 0) inside nil) ≤ 64
       → (n : ℕ) → r ≡ Length n → Writable source t n → Prepares t count source r

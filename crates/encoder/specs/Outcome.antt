@@ -45,7 +45,7 @@ prefixed kind bs = cond (eqb kind 47) (writeElement bs) bs
 -- what the encoder gives for a tree: 9 (limit 64) before 1 and 12
 unfoldable pub treeOutcome : (ℕ → List ℕ → List ℕ) → List ℕ → List ℕ → ℕ → ℕ → ℕ → Forest → Outcome
 treeOutcome frame source out kind a b inside =
-    cond (leb (depth (node kind a b inside nil)) 64) (bytesOutcome (frame kind (writePacket source kind a b inside)) out) (refuse TooDeep out)
+    cond (leb (depth (node item inside nil)) 64) (bytesOutcome (frame kind (writePacket source kind a b inside)) out) (refuse TooDeep out)
 
 -- the outcome of an encoder: 11 for a table that is not well formed; else what its tree gives
 pub data Encodes (frame : ℕ → List ℕ → List ℕ) (t : List ℕ) (count : ℕ) (source out : List ℕ) (r : Outcome) : Type 0 where

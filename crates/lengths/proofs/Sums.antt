@@ -72,7 +72,7 @@ other-bundle k n a = ⊎-elim (λ e. e) (λ m. absurd (false≢true (rw (ne-eqb 
 leaf-empty : (source : List ℕ) (k : ℕ) (inside : Forest) → (k ≡ 35 → ⊥) → (k ≡ 47 → ⊥) → (k ≡ 91 → ⊥) → Obeys source k inside → inside ≡ nil
 unfolding Obeys allowed
 leaf-empty source k nil n₁ n₂ n₃ o = refl
-leaf-empty source k (node k′ a b inside rest) n₁ n₂ n₃ o =
+leaf-empty source k (node item′ inside rest) n₁ n₂ n₃ o =
     absurd (false≢true (rw (ne-eqb k 35 n₁, ne-eqb k 47 n₂, ne-eqb k 91 n₃) at (o .2)))
 
 -- ---- the tags and the data of one record
@@ -115,13 +115,13 @@ module _ (source : List ℕ) (container k a b : ℕ) (inside rest : Forest) (n :
       leaf-empty source k inside (no-bundle container k n (p .may)) (no-message container k n (p .may)) (λ e. m (opens k e)) (p .in-obeys)
 
   -- the tags of a row are those of its first record, of what that contains and of the rest
-  pub tags-one : length (writeTags (node k a b inside rest)) ≡ tagLength (sortOf k) + length (writeTags inside) + length (writeTags rest)
+  pub tags-one : length (writeTags (node item inside rest)) ≡ tagLength (sortOf k) + length (writeTags inside) + length (writeTags rest)
   tags-one =
       let e = tags-by (sortOf k) k (writeTags inside) (λ m. ap writeTags (only-arrays m) ∙ tags-none) in
       omega (arith, simp length-append at (ap length (tags-is k a b inside rest)))
 
   -- and so is its data
-  pub data-one : length (writeData source (node k a b inside rest)) ≡ dataLength (sortOf k) b + length (writeData source inside) + length
+  pub data-one : length (writeData source (node item inside rest)) ≡ dataLength (sortOf k) b + length (writeData source inside) + length
       (writeData source rest)
   data-one =
       let e = data-by (sortOf k) source a b (writeData source inside) (λ class. leaf-range source k a b class (p .range))
@@ -133,17 +133,17 @@ module _ (source : List ℕ) (container k a b : ℕ) (inside rest : Forest) (n :
 -- a number of forests that is the sum of a number of each record
 module _ (source t : List ℕ) (g : ℕ → ℕ) (f : Forest → ℕ) (none : f nil ≡ 0)
     (one : (container lo : ℕ) (inside rest : Forest) → (container ≡ 35 → ⊥)
-    → Parts source container (kindAt t lo) (aAt t lo) (bAt t lo) inside rest
-    → f (node (kindAt t lo) (aAt t lo) (bAt t lo) inside rest) ≡ g lo + f inside + f rest) where
+    → Parts source container (itemAt t lo) inside rest
+    → f (node (itemAt t lo) inside rest) ≡ g lo + f inside + f rest) where
   sum-args : (container lo hi : ℕ) (F : Forest) → (container ≡ 35 → ⊥) → Spans t lo hi F → Obeys source container F
       → sumTo g hi ≡ sumTo g lo + f F
   unfolding Spans
   sum-args container lo hi nil n s o = rw s (omega (arith, none))
-  sum-args container lo hi (node k a b inside rest) n s o =
+  sum-args container lo hi (node item inside rest) n s o =
       let p = parts source container k a b inside rest o in
       let i = sum-args k (lo + 1) (endAt t lo) inside (no-bundle container k n (p .may)) (s .3) (p .in-obeys) in
       let r = sum-args container (endAt t lo) hi rest n (s .4) (p .rest-obeys) in
-      let e : f (node k a b inside rest) ≡ g lo + f inside + f rest
+      let e : f (node item inside rest) ≡ g lo + f inside + f rest
       = rw (s .0, s .1, s .2) at (one container lo inside rest n (rw (s .0, s .1, s .2) p)) in
       omega (arith, sum-more g lo)
 
@@ -188,29 +188,29 @@ message-sum source t at F s o h =
 -- ---- the elements of a bundle
 
 message-adds : (source t : List ℕ) (at : ℕ) (F : Forest) → kindAt t at ≡ 47 → Spans t (at + 1) (endAt t at) F → Obeys source (kindAt t at) F
-    → rangeOk source (kindAt t at) (aAt t at) (bAt t at) ≡ true
-    → elementLength t at ≡ 4 + length (writePacket source (kindAt t at) (aAt t at) (bAt t at) F)
+    → rangeOk source (itemAt t at) ≡ true
+    → elementLength t at ≡ 4 + length (writePacket source (itemAt t at) F)
 unfolding elementLength
 message-adds source t at F y s o r =
-    let m = message-sum source t at F s (rw y at o) (address-range source (kindAt t at) (aAt t at) (bAt t at) r y) in
-    rw (message-is source (kindAt t at) (aAt t at) (bAt t at) F y, y, m)
+    let m = message-sum source t at F s (rw y at o) (address-range source (itemAt t at) r y) in
+    rw (message-is source (itemAt t at) F y, y, m)
 
 bundle-adds : (source t : List ℕ) (at : ℕ) (F : Forest) → kindAt t at ≡ 35
-    → elementLength t at + length (writeElements source F) ≡ 4 + length (writePacket source (kindAt t at) (aAt t at) (bAt t at) F)
+    → elementLength t at + length (writeElements source F) ≡ 4 + length (writePacket source (itemAt t at) F)
 unfolding elementLength
 bundle-adds source t at F y =
     let n : kindAt t at ≡ 47 → ⊥ = λ q. omega (arith, y, q) in
-    rw (bundle-is source (kindAt t at) (aAt t at) (bAt t at) F n, y) (simp (length-append, length-bundle) (omega arith))
+    rw (bundle-is source (itemAt t at) F n, y) (simp (length-append, length-bundle) (omega arith))
 
 elements-sum : (source t : List ℕ) (lo hi : ℕ) (F : Forest) → Spans t lo hi F → Obeys source 35 F
     → sumTo (elementLength t) hi ≡ sumTo (elementLength t) lo + length (writeElements source F)
 unfolding Spans
 elements-sum source t lo hi nil s o = rw s (omega (arith, ap length (elements-none source)))
-elements-sum source t lo hi (node k a b inside rest) s o =
-    let p : Parts source 35 (kindAt t lo) (aAt t lo) (bAt t lo) inside rest = rw (s .0, s .1, s .2) (parts source 35 k a b inside rest o) in
+elements-sum source t lo hi (node item inside rest) s o =
+    let p : Parts source 35 (itemAt t lo) inside rest = rw (s .0, s .1, s .2) (parts source 35 k a b inside rest o) in
     let r = elements-sum source t (endAt t lo) hi rest (s .4) (p .rest-obeys) in
     let deeper = elements-sum source t (lo + 1) (endAt t lo) inside (s .3) in
-    let l : length (writeElements source (node k a b inside rest)) ≡ 4 + length (writePacket source (kindAt t lo) (aAt t lo) (bAt t lo) inside) + length (writeElements source rest)
+    let l : length (writeElements source (node item inside rest)) ≡ 4 + length (writePacket source (itemAt t lo) inside) + length (writeElements source rest)
     = ap length (elements-is k a b inside rest source) ∙ rw (s .0, s .1, s .2) (simp (length-append, length-bytes)) in
     ⊎-elim
     (λ y.
@@ -230,13 +230,13 @@ unfolding sumTo
 sum-none g = refl
 
 -- the sum over all records is the length of the packet as an element
-pub packet-sum : (source t : List ℕ) (count k a b : ℕ) (inside : Forest) → Spans t 0 count (node k a b inside nil)
-    → Obeys source 35 (node k a b inside nil)
+pub packet-sum : (source t : List ℕ) (count k a b : ℕ) (inside : Forest) → Spans t 0 count (node item inside nil)
+    → Obeys source 35 (node item inside nil)
     → sumTo (elementLength t) count ≡ 4 + length (writePacket source k a b inside)
 packet-sum source t count k a b inside s o =
-    let l : length (writeElements source (node k a b inside nil)) ≡ 4 + length (writePacket source k a b inside) + 0
+    let l : length (writeElements source (node item inside nil)) ≡ 4 + length (writePacket source k a b inside) + 0
     = ap length (elements-is k a b inside nil source) ∙ simp (length-append, length-bytes, elements-none) in
-    omega (arith, elements-sum source t 0 count (node k a b inside nil) s o, sum-none (elementLength t))
+    omega (arith, elements-sum source t 0 count (node item inside nil) s o, sum-none (elementLength t))
 
 -- ---- what the measuring functions answer
 

@@ -106,7 +106,7 @@ found-none t source container at = record { spans = refl; obeys = tt; zeros = λ
 
 -- a record that may stand before a row makes it longer
 pub found-more : {t source : List ℕ} {container at hi : ℕ} {inside rest : Forest} → Placed t at hi → SurveyedNode t source container at inside
-    → SurveyedRow t source container (endAt t at) hi rest → SurveyedRow t source container at hi (node (kindAt t at) (aAt t at) (bAt t at) inside rest)
+    → SurveyedRow t source container (endAt t at) hi rest → SurveyedRow t source container at hi (node (itemAt t at) inside rest)
 unfolding Spans Obeys
 found-more {t} {source} {container} {at} {hi} {inside} {rest} p s f =
     record {
@@ -123,7 +123,7 @@ found-more {t} {source} {container} {at} {hi} {inside} {rest} p s f =
 in-array : (source : List ℕ) (F : Forest) → Obeys source 47 F → Obeys source 91 F
 unfolding Obeys allowed
 in-array source nil o = tt
-in-array source (node k a b inside rest) o = (o .0, o .1, o .2, o .3, in-array source rest (o .4))
+in-array source (node item inside rest) o = (o .0, o .1, o .2, o .3, in-array source rest (o .4))
 
 -- ---- arguments
 
@@ -143,9 +143,9 @@ module _ (t source : List ℕ) (at : ℕ) {k e a b : ℕ} {sort : Sort} (ke : k 
       record {
         inside = nil;
         stands = record {
-          rules = leaf-rules source (kindAt t at) (aAt t at) (bAt t at) class s o;
-          range = leaf-range-ok source (kindAt t at) (aAt t at) (bAt t at) class s o;
-          may = leaf-may source (kindAt t at) (aAt t at) (bAt t at) class s o;
+          rules = leaf-rules source (itemAt t at) class s o;
+          range = leaf-range-ok source (itemAt t at) class s o;
+          may = leaf-may source (itemAt t at) class s o;
           found = rw (← ee, l) (found-none t source (kindAt t at) (at + 1));
         };
         tagged = rw (s, tags-none) (omega arith);
@@ -178,7 +178,7 @@ pub arguments-more : {t source : List ℕ} {at hi n m tags content : ℕ} → Pl
     → SurveyedArguments t source (endAt t at) hi tags content → SurveyedArguments t source at hi (n + tags) (m + content)
 arguments-more {t} {source} {at} p x w =
     let f = found-more p (x .stands) (w .found) in
-    let q : Parts source 47 (kindAt t at) (aAt t at) (bAt t at) (x .inside) (w .forest)
+    let q : Parts source 47 (itemAt t at) (x .inside) (w .forest)
     = record {
       rules = x .stands .rules;
       range = x .stands .range;
@@ -187,7 +187,7 @@ arguments-more {t} {source} {at} p x w =
       rest-obeys = w .found .obeys;
     } in
     record {
-      forest = node (kindAt t at) (aAt t at) (bAt t at) (x .inside) (w .forest);
+      forest = node (itemAt t at) (x .inside) (w .forest);
       found = f;
       tagged = omega (arith, tags-one source 47 _ _ _ (x .inside) (w .forest) (λ e. omega (arith, e)) q, x .tagged, w .tagged);
       sized = omega (arith, data-one source 47 _ _ _ (x .inside) (w .forest) (λ e. omega (arith, e)) q, x .sized, w .sized);
@@ -267,7 +267,7 @@ module _ {t source : List ℕ} {at levels : ℕ} where
         inside = w .forest;
         stands = record { rules = rw k; range = rw k (w .range); may = rw k; found = rw k (w .found) };
         shallow = rw k (omega arith);
-        sized = omega (arith, ap length (message-is source (kindAt t at) (aAt t at) (bAt t at) (w .forest) k), w .sized);
+        sized = omega (arith, ap length (message-is source (itemAt t at) (w .forest) k), w .sized);
       }
 
   -- a bundle is an element, with its size and its head; its elements have one level less
@@ -276,7 +276,7 @@ module _ {t source : List ℕ} {at levels : ℕ} where
   unfolding ownRules rangeOk allowed
   surveyed-bundle k z w =
       let no-message : kindAt t at ≡ 47 → ⊥ = λ e. omega (arith, e, k) in
-      let l = ap length (bundle-is source (kindAt t at) (aAt t at) (bAt t at) (w .forest) no-message) in
+      let l = ap length (bundle-is source (itemAt t at) (w .forest) no-message) in
       record {
         inside = w .forest;
         stands = record { rules = rw k; range = rw k; may = rw k; found = rw k (w .found) };
@@ -290,13 +290,13 @@ pub elements-more : {t source : List ℕ} {at hi levels n m : ℕ} → Placed t 
 unfolding depth
 elements-more {t} {source} {at} p x w =
     record {
-      forest = node (kindAt t at) (aAt t at) (bAt t at) (x .inside) (w .forest);
+      forest = node (itemAt t at) (x .inside) (w .forest);
       found = found-more p (x .stands) (w .found);
       shallow = omega (arith, x .shallow, w .shallow);
       sized = omega (
         arith,
         simp (length-append, length-bytes) at
-            (ap length (elements-is (kindAt t at) (aAt t at) (bAt t at) (x .inside) (w .forest) source)),
+            (ap length (elements-is (itemAt t at) (x .inside) (w .forest) source)),
         x .sized,
         w .sized,
       );
@@ -348,7 +348,7 @@ unfolding Spans Obeys
 tree-surveyed {t} {source} {count} {n} some few fits e w =
     let u = cut t 0 count (w .forest) (omega arith) (w .found .spans) in
     let r : u .rest ≡ nil = no-more t (endAt t 0) count (u .rest) (omega (arith, e)) (u .rest-spans) in
-    let is : w .forest ≡ node (kindAt t 0) (aAt t 0) (bAt t 0) (u .inside) nil = u .is ∙ rw r in
+    let is : w .forest ≡ node (itemAt t 0) (u .inside) nil = u .is ∙ rw r in
     record {
       inside = u .inside;
       tree = record {
@@ -363,7 +363,7 @@ tree-surveyed {t} {source} {count} {n} some few fits e w =
       sized = omega (
         arith,
         simp (length-append, length-bytes) at
-            (ap length (ap (writeElements source) is ∙ elements-is (kindAt t 0) (aAt t 0) (bAt t 0) (u .inside) nil source)),
+            (ap length (ap (writeElements source) is ∙ elements-is (itemAt t 0) (u .inside) nil source)),
         ap length
             (no-elements source),
         w .sized,

@@ -44,8 +44,8 @@ pub record SurveyedRow (t source : List ℕ) (container lo hi : ℕ) (F : Forest
 
 -- record `at` and what it contains may stand in a container: what `Obeys` says of a forest's first node
 pub record SurveyedNode (t source : List ℕ) (container at : ℕ) (inside : Forest) : Type 0 where
-  pub rules : ownRules (kindAt t at) (aAt t at) (bAt t at) ≡ true
-  pub range : rangeOk source (kindAt t at) (aAt t at) (bAt t at) ≡ true
+  pub rules : ownRules (itemAt t at) ≡ true
+  pub range : rangeOk source (itemAt t at) ≡ true
   pub may : allowed container (kindAt t at) ≡ true
   pub found : SurveyedRow t source (kindAt t at) (at + 1) (endAt t at) inside
 
@@ -87,6 +87,6 @@ pub record SurveyedPackets (t source : List ℕ) (lo hi levels n : ℕ) : Type 0
 -- the table has a tree, which is not too deep (refusal 9), and n bytes long as an element, its size counted
 pub record Surveyed (t : List ℕ) (count : ℕ) (source : List ℕ) (n : ℕ) : Type 0 where
   pub inside : Forest
-  pub tree : IsTree t count source (kindAt t 0) (aAt t 0) (bAt t 0) inside
-  pub shallow : depth (node (kindAt t 0) (aAt t 0) (bAt t 0) inside nil) ≤ 64
+  pub tree : IsTree t count source (itemAt t 0) inside
+  pub shallow : depth (node (itemAt t 0) inside nil) ≤ 64
   pub sized : 4 + length (packetAt source t 0 inside) ≡ n

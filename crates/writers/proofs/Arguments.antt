@@ -31,7 +31,7 @@ module _ {source t : List ℕ} {lo hi : ℕ} {o₀ o : List ℕ} {at k : ℕ}
   data-left : writeData source (w .rest) ≡ datum sort ++ writeData source (next w h .rest)
   data-left =
       ap (writeData source) (next w h .is)
-      ∙ data-is (kindAt t at) (aAt t at) (bAt t at) (next w h .inside) (next w h .rest) source sort (s ∙ ap sortOf e′)
+      ∙ data-is (itemAt t at) (next w h .inside) (next w h .rest) source sort (s ∙ ap sortOf e′)
 
   data-room : (k + length (datum sort) ≤ length o₀) × (k + length (datum sort) ≤ 65535)
   data-room =
@@ -85,7 +85,7 @@ module _ {source t : List ℕ} {lo hi : ℕ} {o₀ o : List ℕ} {at k : ℕ}
     pub leaf-asked : (hasRange class ≡ true → a + b ≤ length source) ×
         (length (writeArgument class source a b) ≤ length (midOf k (length o - k) o))
     leaf-asked = (
-      rw (u, v) (leaf-range source (kindAt t at) (aAt t at) (bAt t at) class (obeyed w h .range) (sym (s ∙ ap sortOf e′) ∙ q)),
+      rw (u, v) (leaf-range source (itemAt t at) class (obeyed w h .range) (sym (s ∙ ap sortOf e′) ∙ q)),
       rw (u, v) (datum-fits q),
     )
 

@@ -125,34 +125,34 @@ elements-none source = refl
 
 module _ (k a b : ℕ) (inside rest : Forest) where
   -- an argument has a tag
-  pub tags-some : 1 ≤ length (writeTags (node k a b inside rest))
+  pub tags-some : 1 ≤ length (writeTags (node item inside rest))
   unfolding writeTags
   tags-some = simp length-append (omega (arith, tags-by-some (sortOf k) k (writeTags inside)))
 
   -- an array's tags stand in brackets, before those of the arguments after it
-  pub tags-array : k ≡ 91 → writeTags (node k a b inside rest) ≡ (k ∷ (writeTags inside ++ (93 ∷ []))) ++ writeTags rest
+  pub tags-array : k ≡ 91 → writeTags (node item inside rest) ≡ (k ∷ (writeTags inside ++ (93 ∷ []))) ++ writeTags rest
   unfolding writeTags
   tags-array e = rw (opens k e)
 
   -- any other argument has its kind as its tag
-  pub tags-leaf : (k ≡ 91 → ⊥) → writeTags (node k a b inside rest) ≡ (k ∷ []) ++ writeTags rest
+  pub tags-leaf : (k ≡ 91 → ⊥) → writeTags (node item inside rest) ≡ (k ∷ []) ++ writeTags rest
   unfolding writeTags
   tags-leaf n = rw (tags-by-leaf (sortOf k) k (writeTags inside) (λ e. n (opens-only k e)))
 
   -- the tags of the first argument stand before those of the rest
-  pub tags-is : writeTags (node k a b inside rest) ≡ tagsBy (sortOf k) k (writeTags inside) ++ writeTags rest
+  pub tags-is : writeTags (node item inside rest) ≡ tagsBy (sortOf k) k (writeTags inside) ++ writeTags rest
   unfolding writeTags
   tags-is = refl
 
   -- the data of the first argument stands before that of the rest
   pub data-is : (source : List ℕ) (sort : Sort) → sort ≡ sortOf k
-      → writeData source (node k a b inside rest) ≡ dataBy sort source a b (writeData source inside) ++ writeData source rest
+      → writeData source (node item inside rest) ≡ dataBy sort source a b (writeData source inside) ++ writeData source rest
   unfolding writeData
   data-is source sort e = rw e
 
   -- the first element stands before the rest
   pub elements-is : (source : List ℕ)
-      → writeElements source (node k a b inside rest) ≡ writeElement (writePacket source k a b inside) ++ writeElements source rest
+      → writeElements source (node item inside rest) ≡ writeElement (writePacket source k a b inside) ++ writeElements source rest
   unfolding writeElements writePacket
   elements-is source = refl
 

@@ -42,7 +42,7 @@ data-by-even (Leaf class) source a b within h = argument-even class source a b
 data-even : (source : List ℕ) (inside : Forest) → length (writeData source inside) % 4 ≡ 0
 unfolding writeData
 data-even source nil = refl
-data-even source (node kind a b inside rest) =
+data-even source (node item inside rest) =
     both (dataBy (sortOf kind) source a b (writeData source inside)) (writeData source rest)
     (data-by-even (sortOf kind) source a b (writeData source inside) (data-even source inside)) (data-even source rest)
 
@@ -66,7 +66,7 @@ element-even content h = simp (length-append, length-bytes) (omega arith)
 elements-even : (source : List ℕ) (inside : Forest) → length (writeElements source inside) % 4 ≡ 0
 unfolding writeElements
 elements-even source nil = refl
-elements-even source (node kind a b inside rest) =
+elements-even source (node item inside rest) =
     let c = cond (eqb kind 47) (writeMessage source a b inside) (writeBundle a b (writeElements source inside)) in
     both (writeElement c) (writeElements source rest)
     (element-even c (cond-even (eqb kind 47) _ _ (message-even source a b inside) (bundle-even a b _ (elements-even source inside))))

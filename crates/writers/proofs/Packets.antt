@@ -86,7 +86,7 @@ module _ {source t : List ℕ} {at : ℕ} (o : List ℕ) (y : kindAt t at ≡ 47
     {end a b : ℕ} (e : end ≡ endAt t at) (u : a ≡ aAt t at) (v : b ≡ bAt t at) where
   message-bytes : (F : Forest) → packetAt source t at F ≡ oscString (part source a b) ++ (tagText F ++ writeData source F)
   unfolding writeMessage
-  message-bytes F = rw (u, v) (message-is source (kindAt t at) (aAt t at) (bAt t at) F y)
+  message-bytes F = rw (u, v) (message-is source (itemAt t at) F y)
 
   message-room : (length (oscString (part source a b)) + length (tagText (q .room .forest)) + length (writeData source (q .room .forest)) ≤
       length o)
@@ -103,7 +103,7 @@ module _ {source t : List ℕ} {at : ℕ} (o : List ℕ) (y : kindAt t at ≡ 47
 
   -- the address's range lies in the source
   pub address-asked : a + b ≤ length source
-  address-asked = rw (u, v) (address-range source (kindAt t at) (aAt t at) (bAt t at) (q .range) y)
+  address-asked = rw (u, v) (address-range source (itemAt t at) (q .range) y)
 
   -- there is room for the address
   pub address-fits : length (oscString (part source a b)) ≤ length o
@@ -169,7 +169,7 @@ module _ {source t : List ℕ} {at : ℕ} (o : List ℕ) (y : kindAt t at ≡ 47
 module _ {source t : List ℕ} {at : ℕ} (o : List ℕ) (n : kindAt t at ≡ 47 → ⊥) (q : Ready source t at (length o))
     {end a b : ℕ} (e : end ≡ endAt t at) (u : a ≡ aAt t at) (v : b ≡ bAt t at) where
   bundle-bytes : (F : Forest) → packetAt source t at F ≡ writeBundle a b [] ++ writeElements source F
-  bundle-bytes F = rw (u, v) (bundle-is source (kindAt t at) (aAt t at) (bAt t at) F n)
+  bundle-bytes F = rw (u, v) (bundle-is source (itemAt t at) F n)
 
   -- there is room for the bundle's head
   pub head-asked : 16 ≤ length o
@@ -197,7 +197,7 @@ module _ {source t : List ℕ} {g : Forest → List ℕ} {lo hi : ℕ} {o₀ o :
     (w : Going (Sound source) g (writeElements source) t lo hi o₀ o at k) (h : at < hi) where
   element-left : writeElements source (w .rest) ≡ writeElement (packetAt source t at (next w h .inside)) ++ writeElements source (next w h .rest)
   element-left = ap (writeElements source) (next w h .is)
-      ∙ elements-is (kindAt t at) (aAt t at) (bAt t at) (next w h .inside) (next w h .rest) source
+      ∙ elements-is (itemAt t at) (next w h .inside) (next w h .rest) source
 
   -- there is room for the next element
   pub element-room : (k + 4 + length (packetAt source t at (next w h .inside)) ≤ length o) ×

@@ -102,23 +102,23 @@ module _ {P : Forest → Type 0} {g f : Forest → List ℕ} {t : List ℕ} {lo 
 -- the first record that is left obeys its rules, and so do what it contains and what is left after it
 pub obeyed : {source t : List ℕ} {g f : Forest → List ℕ} {lo hi : ℕ} {o₀ o : List ℕ} {at k : ℕ}
     (w : Going (Sound source) g f t lo hi o₀ o at k) (h : at < hi)
-    → Parts source (w .holds .container) (kindAt t at) (aAt t at) (bAt t at) (next w h .inside) (next w h .rest)
+    → Parts source (w .holds .container) (itemAt t at) (next w h .inside) (next w h .rest)
 obeyed {source} w h = cut-parts (next w h) source (w .holds .container) (w .holds .obeys)
 
 -- ---- a turn of the tags' loop
 
 module _ {t : List ℕ} {lo hi : ℕ} {o₀ o : List ℕ} {at k : ℕ} (w : Going Any writeTags writeTags t lo hi o₀ o at k) (h : at < hi) where
   leaf-is : (kindAt t at ≡ 91 → ⊥) → writeTags (w .rest) ≡ (kindAt t at ∷ []) ++ writeTags (next w h .rest)
-  leaf-is n = ap writeTags (next w h .is) ∙ tags-leaf (kindAt t at) (aAt t at) (bAt t at) (next w h .inside) (next w h .rest) n
+  leaf-is n = ap writeTags (next w h .is) ∙ tags-leaf (itemAt t at) (next w h .inside) (next w h .rest) n
 
   array-is : kindAt t at ≡ 91 → writeTags (w .rest) ≡ (kindAt t at ∷ (writeTags (next w h .inside) ++ (93 ∷ []))) ++ writeTags (next w h .rest)
-  array-is y = ap writeTags (next w h .is) ∙ tags-array (kindAt t at) (aAt t at) (bAt t at) (next w h .inside) (next w h .rest) y
+  array-is y = ap writeTags (next w h .is) ∙ tags-array (itemAt t at) (next w h .inside) (next w h .rest) y
 
   -- there is room for a tag
   pub tag-room : (k + 1 ≤ length o₀) × (k + 1 ≤ 65535)
   tag-room =
       let l : 1 ≤ length (writeTags (w .rest)) = rw (next w h .is)
-      (tags-some (kindAt t at) (aAt t at) (bAt t at) (next w h .inside) (next w h .rest)) in
+      (tags-some (itemAt t at) (next w h .inside) (next w h .rest)) in
       (omega (arith, room-left w), omega (arith, room-left w))
 
   array-length : kindAt t at ≡ 91 → 2 + length (writeTags (next w h .inside)) ≤ length (writeTags (w .rest))

@@ -40,9 +40,9 @@ tagText F = oscString (44 ∷ writeTags F)
 
 -- the packet of record `at`, by what it contains
 abbrev pub packetAt : List ℕ → List ℕ → ℕ → Forest → List ℕ
-packetAt source t at inside = writePacket source (kindAt t at) (aAt t at) (bAt t at) inside
+packetAt source t at inside = writePacket source (itemAt t at) inside
 
 -- n bytes have room for the packet of record `at`, and its own range lies in the source
 pub record Ready (source t : List ℕ) (at n : ℕ) : Type 0 where
   pub room : OutputRoom (Sound source) (packetAt source t at) t (at + 1) (endAt t at) n
-  pub range : rangeOk source (kindAt t at) (aAt t at) (bAt t at) ≡ true
+  pub range : rangeOk source (itemAt t at) ≡ true

@@ -23,7 +23,7 @@ dataBy (Leaf class) source a b within = writeArgument class source a b
 -- the data of arguments, one after another
 unfoldable pub writeData : List ℕ → Forest → List ℕ
 writeData source nil = []
-writeData source (node kind a b inside rest) = dataBy (sortOf kind) source a b (writeData source inside) ++ writeData source rest
+writeData source (node item inside rest) = dataBy (sortOf kind) source a b (writeData source inside) ++ writeData source rest
 
 -- an array's tags stand in brackets, and any other argument is one tag
 abbrev pub tagsBy : Sort → ℕ → List ℕ → List ℕ
@@ -34,7 +34,7 @@ tagsBy (Leaf class) kind within = kind ∷ []
 -- the type tags of arguments, without the comma
 unfoldable pub writeTags : Forest → List ℕ
 writeTags nil = []
-writeTags (node kind a b inside rest) = tagsBy (sortOf kind) kind (writeTags inside) ++ writeTags rest
+writeTags (node item inside rest) = tagsBy (sortOf kind) kind (writeTags inside) ++ writeTags rest
 
 -- ---- packets
 
@@ -53,7 +53,7 @@ writeElement content = int32 (length content) ++ content
 -- the elements of a bundle, one after another
 unfoldable pub writeElements : List ℕ → Forest → List ℕ
 writeElements source nil = []
-writeElements source (node kind a b inside rest) =
+writeElements source (node item inside rest) =
     writeElement (cond (eqb kind 47) (writeMessage source a b inside) (writeBundle a b (writeElements source inside))) ++ writeElements source rest
 
 -- OSC Packet: a message or a bundle
