@@ -1,8 +1,8 @@
 // The data of one argument, one function to each class of data. Bytes that are missing are `RunsOut`.
-use wire::be_u32;
+use node::tags::Class;
 use refusal::Fault;
 use text::Text;
-use node::tags::Class;
+use wire::be_u32;
 ghost use mathlib.Core.Path.{_≡_};
 ghost use Prim.Native.Nat.{ℕ, _+_, _≤_};
 ghost use lib.ListN.{length};

@@ -2,12 +2,12 @@
 // record holds in place of its end the link to the open array around it.
 use argument::Arg;
 use argument::read_osc_arg;
-use wire::be_u32;
-use wire::put_u32;
 use node::record::RECORD_SIZE;
 use node::record::put_record;
 use node::tags::Sort;
 use node::tags::sort_of;
+use wire::be_u32;
+use wire::put_u32;
 ghost use mathlib.Core.Path.{_≡_};
 ghost use mathlib.Core.List.{_++_};
 ghost use Prim.Native.Nat.{_+_, _*_, _≤_, _<_};

@@ -20,7 +20,7 @@ use Rattle.wire.proofs.Writers.{filled-lent}
 use Rattle.utf8.specs.Utf8.{Octets, Decides}
 use Rattle.utf8.proofs.Grammar.{octets, same-answer}
 use Rattle.node.specs.Forest.{Forest, nil, node, depth}
-use Rattle.node.specs.Records.{recordSize, recordAt, kindAt, endAt, aAt, bAt}
+use Rattle.node.specs.Records.{recordSize, recordAt, kindAt, endAt}
 use Rattle.node.specs.declared.record.Record.{Record}
 use Rattle.table.specs.Formed.{WellFormed}
 use Rattle.table.specs.Tree.{Spans, Obeys, IsTree, Row}
@@ -30,11 +30,11 @@ use Rattle.table.proofs.Theorem.{formed-tree}
 use Rattle.strings.specs.Atomic.{oscString}
 use Rattle.writers.specs.Osc.{writeElement}
 use Rattle.encoder.specs.Outcome.{Outcome, refuse, bytesOutcome, unframed, prefixed, treeOutcome, Encodes, malformed, formed, stringOutcome}
-use Rattle.writers.specs.InnerWriters.{WritesRow, packetAt, Ready}
-use Rattle.lengths.specs.InnerLengths.{sumTo, elementLength, LengthOrOver}
-use Rattle.survey.specs.InnerSurvey.{Surveyed}
-use Rattle.encoder.specs.InnerPrepare.{Writable, Prepares}
-use Rattle.encoder.specs.InnerPrepare as prepare
+use Rattle.writers.specs.CodeWriters.{WritesRow, packetAt, Ready}
+use Rattle.lengths.specs.CodeLengths.{sumTo, elementLength, LengthOrOver}
+use Rattle.survey.specs.CodeSurvey.{Surveyed}
+use Rattle.encoder.specs.CodePrepare.{Writable, Prepares}
+use Rattle.encoder.specs.CodePrepare as prepare
 use Rattle.encoder.specs.declared.Encoded.the-variants.{Written}
 use Rattle.encoder.specs.declared.Prepared.{Prepared}
 use Rattle.encoder.specs.declared.Prepared.the-variants.{Length, Refused}

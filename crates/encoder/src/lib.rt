@@ -13,7 +13,7 @@ use writers::encode_packet;
 ghost use mathlib.Core.Path.{_≡_};
 ghost use Rattle.writers.specs.Osc.{writeElement};
 ghost use Rattle.encoder.specs.Outcome.{Outcome, unframed, prefixed, Encodes, stringOutcome};
-ghost use Rattle.encoder.specs.InnerPrepare.{Writable, Writes, Prepares};
+ghost use Rattle.encoder.specs.CodePrepare.{Writable, Writes, Prepares};
 
 // The longest result, prefix included.
 const MOST: usize = 65_535;

@@ -19,14 +19,14 @@ use Rattle.node.specs.declared.tags.Class.{Class}
 use Rattle.node.specs.declared.tags.Class.the-variants.{Four, Eight, Bare, Text, Blob, Scalar, Unknown}
 use Rattle.node.specs.declared.tags.Sort.{Sort}
 use Rattle.node.specs.declared.tags.Sort.the-variants.{Opens, Closes, Leaf}
-use Rattle.table.proofs.Choices.{is-or}
+use Rattle.wire.proofs.Choices.{is-or}
 use Rattle.table.specs.Formed.{part, rangeOk, isPacket, allowed}
 use Rattle.table.specs.Tree.{Spans, Obeys}
 use Rattle.table.proofs.Spanned.{Parts, parts}
 use Rattle.strings.specs.Atomic.{oscString, writeArgument}
-use Rattle.strings.specs.InnerStrings.{stringLength, hasRange}
+use Rattle.strings.specs.CodeStrings.{stringLength, hasRange}
 use Rattle.writers.specs.Osc.{dataBy, writeData, tagsBy, writeTags, writeMessage, writeElements, writePacket}
-use Rattle.lengths.specs.InnerLengths.{argumentLength, dataLength, tagLength, sumTo, tagsTo, dataTo, messageLength, elementLength}
+use Rattle.lengths.specs.CodeLengths.{argumentLength, dataLength, tagLength, sumTo, tagsTo, dataTo, messageLength, elementLength}
 use Rattle.strings.proofs.Lengths.{length-string, length-blob}
 use Rattle.writers.proofs.Lengths.{length-bundle, length-message}
 use Rattle.writers.proofs.Classed.{opens, leaf-range, address-range, tags-none, data-none, elements-none, tags-is, data-is}

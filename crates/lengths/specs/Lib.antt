@@ -1,1 +1,1 @@
-pub mod InnerLengths
+pub mod CodeLengths

@@ -7,8 +7,8 @@ ghost use mathlib.Core.Path.{_≡_};
 ghost use Prim.Native.Nat.{ℕ, _+_, _*_, _^_, _≤_, _<_};
 ghost use lib.ListN.{length};
 ghost use Rattle.node.specs.Records.{recordSize, endAt};
-ghost use Rattle.strings.specs.InnerStrings.{stringLength, blobLength};
-ghost use Rattle.lengths.specs.InnerLengths.{argumentLength, dataLength, tagLength, sumTo, messageLength, elementLength, LengthOrOver};
+ghost use Rattle.strings.specs.CodeStrings.{stringLength, blobLength};
+ghost use Rattle.lengths.specs.CodeLengths.{argumentLength, dataLength, tagLength, sumTo, messageLength, elementLength, LengthOrOver};
 
 // The longest packet that is measured exactly, with the size before it.
 const MOST: usize = 65_539;

@@ -1,10 +1,10 @@
 // The tags and their data without records: what the first reading finds out. Linear, with no stack for arrays.
 use argument::Arg;
 use argument::read_rare;
-use refusal::Fault;
 use node::tags::Class;
 use node::tags::Sort;
 use node::tags::sort_of;
+use refusal::Fault;
 ghost use mathlib.Core.Path.{_≡_};
 ghost use Prim.Native.Nat.{ℕ, _+_, _≤_};
 ghost use lib.ListN.{length};

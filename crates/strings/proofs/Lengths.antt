@@ -9,7 +9,7 @@ use Rattle.node.specs.declared.tags.Class.{Class}
 use Rattle.node.specs.declared.tags.Class.the-variants.{Four, Eight, Bare, Text, Blob, Scalar, Unknown}
 use Rattle.table.specs.Formed.{part}
 use Rattle.strings.specs.Atomic.{int32, oscString, oscBlob, writeArgument}
-use Rattle.strings.specs.InnerStrings.{stringLength, blobLength}
+use Rattle.strings.specs.CodeStrings.{stringLength, blobLength}
 
 -- how long an OSC-string is
 pub length-string : (text : List ℕ) → length (oscString text) ≡ stringLength (length text)

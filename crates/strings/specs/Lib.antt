@@ -1,2 +1,2 @@
 pub mod Atomic
-pub mod InnerStrings
+pub mod CodeStrings

@@ -10,7 +10,7 @@ ghost use lib.ListN.{length, replicate};
 ghost use Rattle.wire.specs.Wrote.{Wrote, Filled};
 ghost use Rattle.table.specs.Formed.{part};
 ghost use Rattle.strings.specs.Atomic.{int32, oscString, oscBlob, writeArgument};
-ghost use Rattle.strings.specs.InnerStrings.{stringLength, blobLength, hasRange};
+ghost use Rattle.strings.specs.CodeStrings.{stringLength, blobLength, hasRange};
 
 // Writes `bytes`.
 pub fn write(bytes: &[u8], out: &mut [u8])

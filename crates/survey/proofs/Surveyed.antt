@@ -19,15 +19,15 @@ use Rattle.node.specs.declared.tags.Class.{Class}
 use Rattle.node.specs.declared.tags.Class.the-variants.{Text, Blob, Unknown}
 use Rattle.node.specs.declared.tags.Sort.{Sort}
 use Rattle.node.specs.declared.tags.Sort.the-variants.{Opens, Leaf}
-use Rattle.table.proofs.Choices.{then-only, is-or}
+use Rattle.wire.proofs.Choices.{then-only, is-or}
 use Rattle.table.specs.Formed.{part, inside, textOk, rangeOk, isPacket, allowed}
 use Rattle.table.specs.Tree.{Spans, Obeys}
 use Rattle.table.proofs.Spanned.{Parts, cut, no-more}
 use Rattle.strings.specs.Atomic.{oscString}
-use Rattle.strings.specs.InnerStrings.{stringLength}
+use Rattle.strings.specs.CodeStrings.{stringLength}
 use Rattle.writers.specs.Osc.{writeElements}
-use Rattle.lengths.specs.InnerLengths.{argumentLength}
-use Rattle.survey.specs.InnerSurvey.{placed, leafRange, leafOk, SurveyedRow, SurveyedNode, SurveyedArgument, SurveyedArguments, SurveyedMessage, SurveyedPacket, SurveyedPackets, Surveyed}
+use Rattle.lengths.specs.CodeLengths.{argumentLength}
+use Rattle.survey.specs.CodeSurvey.{placed, leafRange, leafOk, SurveyedRow, SurveyedNode, SurveyedArgument, SurveyedArguments, SurveyedMessage, SurveyedPacket, SurveyedPackets, Surveyed}
 use Rattle.strings.proofs.Lengths.{length-string}
 use Rattle.writers.proofs.Lengths.{length-message, length-bundle}
 use Rattle.writers.proofs.Classed.{opens-only, tags-none, data-none, elements-is, message-is, bundle-is}

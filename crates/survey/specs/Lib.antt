@@ -1,1 +1,1 @@
-pub mod InnerSurvey
+pub mod CodeSurvey

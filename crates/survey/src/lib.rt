@@ -19,8 +19,8 @@ ghost use mathlib.Core.Bool.{true};
 ghost use Prim.Native.Nat.{_+_, _-_, _*_, _/_, _^_, _≤_, _<_};
 ghost use lib.ListN.{length};
 ghost use Rattle.node.specs.Records.{recordSize, endAt};
-ghost use Rattle.lengths.specs.InnerLengths.{argumentLength};
-ghost use Rattle.survey.specs.InnerSurvey.{placed, leafOk, leafRange, SurveyedArgument, SurveyedArguments, SurveyedMessage, SurveyedPacket, SurveyedPackets, Surveyed};
+ghost use Rattle.lengths.specs.CodeLengths.{argumentLength};
+ghost use Rattle.survey.specs.CodeSurvey.{placed, leafOk, leafRange, SurveyedArgument, SurveyedArguments, SurveyedMessage, SurveyedPacket, SurveyedPackets, Surveyed};
 
 // The longest result, with the size before it.
 const MOST: usize = 65_539;

@@ -1,4 +1,3 @@
-pub mod Choices
 pub mod Only
 pub mod Spanned
 pub mod Depths

@@ -15,9 +15,9 @@ use Rattle.node.specs.declared.tags.Class.{Class}
 use Rattle.node.specs.declared.tags.Sort.{Sort}
 use Rattle.node.specs.declared.tags.Sort.the-variants.{Opens, Closes, Leaf}
 use Rattle.strings.specs.Atomic.{writeArgument}
-use Rattle.strings.specs.InnerStrings.{hasRange}
+use Rattle.strings.specs.CodeStrings.{hasRange}
 use Rattle.writers.specs.Osc.{dataBy, writeData}
-use Rattle.writers.specs.InnerWriters.{Sound, OutputRoom, WritesRow}
+use Rattle.writers.specs.CodeWriters.{Sound, OutputRoom, WritesRow}
 use Rattle.writers.proofs.Classed.{leaf-range, data-is}
 use Rattle.writers.proofs.Rows.{Going, room-left, next, gone, ends, obeyed}
 

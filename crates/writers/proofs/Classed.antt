@@ -15,10 +15,10 @@ use Rattle.node.specs.declared.tags.Class.{Class}
 use Rattle.node.specs.declared.tags.Class.the-variants.{Four, Eight, Bare, Text, Blob, Scalar, Unknown}
 use Rattle.node.specs.declared.tags.Sort.{Sort}
 use Rattle.node.specs.declared.tags.Sort.the-variants.{Opens, Closes, Leaf}
-use Rattle.table.proofs.Choices.{then-only, else-only}
+use Rattle.wire.proofs.Choices.{then-only, else-only}
 use Rattle.table.specs.Formed.{part, inside, rangeOk}
 use Rattle.writers.specs.Osc.{dataBy, writeData, tagsBy, writeTags, writeMessage, writeBundle, writeElement, writeElements, writePacket}
-use Rattle.strings.specs.InnerStrings.{hasRange}
+use Rattle.strings.specs.CodeStrings.{hasRange}
 
 -- two sorts, or two classes, that a test tells apart
 apart : {A : Type 0} (f : A → Bool) (x y : A) → f x ≡ false → f y ≡ true → x ≡ y → ⊥

@@ -13,7 +13,7 @@ use Rattle.node.specs.declared.tags.Sort.{Sort}
 use Rattle.node.specs.declared.tags.Sort.the-variants.{Opens, Closes, Leaf}
 use Rattle.table.specs.Formed.{part}
 use Rattle.strings.specs.Atomic.{oscString}
-use Rattle.strings.specs.InnerStrings.{stringLength}
+use Rattle.strings.specs.CodeStrings.{stringLength}
 use Rattle.writers.specs.Osc.{dataBy, writeData, writeTags, writeMessage, writeBundle, writeElement, writeElements, writePacket}
 use Rattle.strings.proofs.Lengths.{length-string, string-even, both, argument-even}
 

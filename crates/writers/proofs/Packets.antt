@@ -17,9 +17,9 @@ use Rattle.table.specs.Formed.{part}
 use Rattle.table.specs.Tree.{Spans}
 use Rattle.table.proofs.Spanned.{spans-size}
 use Rattle.strings.specs.Atomic.{oscString}
-use Rattle.strings.specs.InnerStrings.{stringLength}
+use Rattle.strings.specs.CodeStrings.{stringLength}
 use Rattle.writers.specs.Osc.{writeTags, writeData, writeMessage, writeBundle, writeElement, writeElements}
-use Rattle.writers.specs.InnerWriters.{tagText, Any, Sound, OutputRoom, WritesRow, packetAt, Ready}
+use Rattle.writers.specs.CodeWriters.{tagText, Any, Sound, OutputRoom, WritesRow, packetAt, Ready}
 use Rattle.strings.proofs.Lengths.{length-string}
 use Rattle.writers.proofs.Lengths.{length-bundle}
 use Rattle.writers.proofs.Classed.{address-range, message-is, bundle-is, elements-is, elements-none}

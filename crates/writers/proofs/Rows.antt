@@ -9,11 +9,11 @@ use Rattle.wire.specs.Wrote.{Filled}
 use Rattle.wire.proofs.Parts.{length-lent}
 use Rattle.wire.proofs.Writers.{wrote-none, filled-length, filled-set, filled-lent, same-length}
 use Rattle.node.specs.Forest.{Forest, nil}
-use Rattle.node.specs.Records.{recordSize, kindAt, endAt, aAt, bAt}
+use Rattle.node.specs.Records.{recordSize, kindAt, endAt}
 use Rattle.table.specs.Tree.{Spans}
 use Rattle.table.proofs.Spanned.{Cut, Parts, cut, cut-parts, no-more, spans-unique}
 use Rattle.writers.specs.Osc.{writeTags}
-use Rattle.writers.specs.InnerWriters.{Any, Sound, OutputRoom, WritesRow}
+use Rattle.writers.specs.CodeWriters.{Any, Sound, OutputRoom, WritesRow}
 use Rattle.writers.proofs.Classed.{tags-array, tags-leaf, tags-some}
 
 -- of a row that is P, and of which g is to be written, k bytes stand in the output, and f of the records from `at` on is left

@@ -1,2 +1,2 @@
 pub mod Osc
-pub mod InnerWriters
+pub mod CodeWriters

@@ -19,7 +19,7 @@ ghost use lib.ListN.{length};
 ghost use Rattle.wire.specs.Wrote.{Filled};
 ghost use Rattle.node.specs.Records.{kindAt, endAt};
 ghost use Rattle.writers.specs.Osc.{writeBundle, writeTags, writeData};
-ghost use Rattle.writers.specs.InnerWriters.{tagText, Any, Sound, OutputRoom, WritesRow, Ready, packetAt};
+ghost use Rattle.writers.specs.CodeWriters.{tagText, Any, Sound, OutputRoom, WritesRow, Ready, packetAt};
 
 // Writes the type tags of the records lo to hi - 1: an array's stand in brackets.
 fn encode_arg_types(table: &[u8], lo: usize, hi: usize, out: &mut [u8]) -> usize

@@ -4,8 +4,8 @@ use Prim.Native.Nat.{_+_, _*_, _-_, _≤_}
 use native.Mathlib.Omega.{arith}
 use borrow.Author.Needs.{needs}
 use Rattle.node.specs.declared.record.Record.{Record}
-use Rattle.strings.specs.InnerStrings.{stringLength}
-use Rattle.lengths.specs.InnerLengths.{tagsTo, dataTo}
+use Rattle.strings.specs.CodeStrings.{stringLength}
+use Rattle.lengths.specs.CodeLengths.{tagsTo, dataTo}
 use Rattle.lengths.proofs.Sums.{argument-passed, message-measured}
 use Rattle.lengths.proofs.message_length.Statement.{statement}
 use Rattle.lengths.proofs.message_length.Tie as tie

@@ -2,7 +2,7 @@
 use mathlib.Core.Path.{_≡_, sym, ap, _∙_}
 use Prim.Native.Nat.{_+_, _-_, _≤_}
 use native.Mathlib.Omega.{arith}
-use Rattle.lengths.specs.InnerLengths.{sumTo, elementLength}
+use Rattle.lengths.specs.CodeLengths.{sumTo, elementLength}
 use Rattle.lengths.proofs.Sums.{sum-none, sum-more, sum-up}
 use Rattle.lengths.proofs.packet_length.Statement.{statement}
 use Rattle.lengths.proofs.packet_length.Tie as tie

@@ -4,7 +4,7 @@ use native.Mathlib.Omega.{arith}
 use lib.ListN.{length-append, length-take}
 use Rattle.wire.proofs.Numbers.{length-bytes}
 use Rattle.wire.proofs.Writers.{wrote-none}
-use Rattle.strings.specs.InnerStrings.{hasRange}
+use Rattle.strings.specs.CodeStrings.{hasRange}
 use Rattle.strings.proofs.Lengths.{length-string, length-blob}
 use borrow.Author.Needs.{needs}
 use Rattle.strings.proofs.encode_leaf_data.Statement.{statement}

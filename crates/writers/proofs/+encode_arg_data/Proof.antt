@@ -4,7 +4,7 @@ use native.Mathlib.Omega.{arith}
 use borrow.Author.Needs.{needs}
 use Rattle.wire.proofs.Writers.{filled-length}
 use Rattle.writers.specs.Osc.{writeData}
-use Rattle.writers.specs.InnerWriters.{Sound}
+use Rattle.writers.specs.CodeWriters.{Sound}
 use Rattle.writers.proofs.Classed.{data-none}
 use Rattle.writers.proofs.Rows.{Going, begun-empty, ended, ends, room-left}
 use Rattle.writers.proofs.Arguments.{data-inside, array-after, array-gone, closes-gone, leaf-asked, leaf-after, leaf-gone}

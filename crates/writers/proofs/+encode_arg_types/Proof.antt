@@ -4,7 +4,7 @@ use native.Mathlib.Omega.{arith}
 use lib.ListN.{length-set}
 use Rattle.wire.proofs.Writers.{filled-length}
 use Rattle.writers.specs.Osc.{writeTags}
-use Rattle.writers.specs.InnerWriters.{Any}
+use Rattle.writers.specs.CodeWriters.{Any}
 use Rattle.writers.proofs.Classed.{tags-none}
 use Rattle.writers.proofs.Rows.{Going, begun-empty, ended, ends, tag-room, tags-inside, close-room, tags-array-gone, tags-leaf-gone}
 use Rattle.node.proofs.record.kind_at.Reads as kind-at-reads

@@ -8,7 +8,7 @@ use Rattle.wire.proofs.Parts.{length-lent}
 use Rattle.wire.proofs.Writers.{filled-length}
 use Rattle.node.specs.Records.{endAt}
 use Rattle.writers.specs.Osc.{writeElements}
-use Rattle.writers.specs.InnerWriters.{Sound, packetAt}
+use Rattle.writers.specs.CodeWriters.{Sound, packetAt}
 use Rattle.writers.proofs.Rows.{Going, next, ends}
 use Rattle.writers.proofs.Packets.{before-end, head-asked, bundle-begun, bundle-ended, element-room, packet-asked, packet-after}
 use Rattle.writers.proofs.Packets.{element-gone}

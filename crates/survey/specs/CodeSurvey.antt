@@ -1,4 +1,4 @@
--- Inside the code, and no part of the document: what one reading of a table finds, where it is sure. The words are those of
+-- Describes code, and no part of the document: what one reading of a table finds, where it is sure. The words are those of
 -- Formed.antt and Tree.antt of `table`, and of Osc.antt of `writers`.
 use mathlib.Core.Path.{_≡_}
 use mathlib.Core.Bool.{Bool, true, false, cond}
@@ -15,8 +15,8 @@ use Rattle.node.specs.declared.tags.Class.the-variants.{Four, Eight, Bare, Text
 use Rattle.table.specs.Formed.{inside, textOk, rangeOk, allowed}
 use Rattle.table.specs.Tree.{Spans, Obeys, IsTree}
 use Rattle.writers.specs.Osc.{writeTags, writeData, writeMessage, writeElements}
-use Rattle.writers.specs.InnerWriters.{packetAt}
-use Rattle.lengths.specs.InnerLengths.{tagLength, dataLength}
+use Rattle.writers.specs.CodeWriters.{packetAt}
+use Rattle.lengths.specs.CodeLengths.{tagLength, dataLength}
 
 -- record `at` has its three zeros, and ends after itself and no later than hi ("The node table")
 abbrev pub placed : List ℕ → ℕ → ℕ → Bool

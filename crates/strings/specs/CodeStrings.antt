@@ -1,4 +1,4 @@
--- Inside the code, and no part of the document: how long texts and blobs are as they are written, and which arguments have a range.
+-- Describes code, and no part of the document: how long texts and blobs are as they are written, and which arguments have a range.
 use mathlib.Core.Bool.{Bool, true, false}
 use Prim.Native.Nat.{ℕ, _+_, _-_, _%_}
 use Rattle.node.specs.declared.tags.Class.{Class}

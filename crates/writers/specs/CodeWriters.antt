@@ -1,4 +1,4 @@
--- Inside the code, and no part of the document: what the writers are given, and what they leave in the output.
+-- Describes code, and no part of the document: what the writers are given, and what they leave in the output.
 use mathlib.Core.Path.{_≡_}
 use mathlib.Core.Bool.{true}
 use mathlib.Core.List.{List, _∷_}
@@ -6,7 +6,7 @@ use Prim.Native.Nat.{ℕ, _+_, _*_, _≤_}
 use lib.ListN.{length}
 use Rattle.wire.specs.Wrote.{Filled}
 use Rattle.node.specs.Forest.{Forest}
-use Rattle.node.specs.Records.{recordSize, kindAt, endAt, aAt, bAt}
+use Rattle.node.specs.Records.{recordSize, endAt}
 use Rattle.table.specs.Formed.{rangeOk}
 use Rattle.table.specs.Tree.{Spans, Obeys}
 use Rattle.strings.specs.Atomic.{oscString}

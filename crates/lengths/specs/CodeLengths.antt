@@ -1,4 +1,4 @@
--- Inside the code, and no part of the document: how long a packet will be, by the records of its table and without writing it.
+-- Describes code, and no part of the document: how long a packet will be, by the records of its table and without writing it.
 use mathlib.Core.Path.{_≡_}
 use mathlib.Core.Bool.{cond}
 use mathlib.Core.List.{List}
@@ -10,7 +10,7 @@ use Rattle.node.specs.declared.tags.Class.{Class}
 use Rattle.node.specs.declared.tags.Class.the-variants.{Four, Eight, Bare, Text, Blob, Scalar, Unknown}
 use Rattle.node.specs.declared.tags.Sort.{Sort}
 use Rattle.node.specs.declared.tags.Sort.the-variants.{Opens, Closes, Leaf}
-use Rattle.strings.specs.InnerStrings.{stringLength, blobLength}
+use Rattle.strings.specs.CodeStrings.{stringLength, blobLength}
 
 -- how many bytes the data of an argument takes whose second number is b
 abbrev pub argumentLength : Class → ℕ → ℕ

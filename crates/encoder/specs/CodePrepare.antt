@@ -1,4 +1,4 @@
--- Inside the code, and no part of the document: what is known before a byte is written, the refusals 11 and 9 and the length of the packet.
+-- Describes code, and no part of the document: what is known before a byte is written, the refusals 11 and 9 and the length of the packet.
 use mathlib.Core.Path.{_≡_}
 use mathlib.Core.Bool.{true}
 use mathlib.Core.List.{List}
@@ -6,11 +6,11 @@ use Prim.Native.Nat.{ℕ, _*_, _≤_, _<_}
 use lib.ListN.{length}
 use Rattle.refusal.specs.declared.Refusal.the-variants.{TooDeep, BadTable}
 use Rattle.node.specs.Forest.{Forest, nil, node, depth}
-use Rattle.node.specs.Records.{recordSize, kindAt, endAt, aAt, bAt}
+use Rattle.node.specs.Records.{recordSize, endAt}
 use Rattle.table.specs.Formed.{WellFormed, rangeOk}
 use Rattle.table.specs.Tree.{Spans, IsTree}
 use Rattle.encoder.specs.Outcome.{Outcome, bytesOutcome}
-use Rattle.writers.specs.InnerWriters.{Sound, packetAt}
+use Rattle.writers.specs.CodeWriters.{Sound, packetAt}
 use Rattle.encoder.specs.declared.Prepared.{Prepared}
 use Rattle.encoder.specs.declared.Prepared.the-variants.{Length, Refused}
 
