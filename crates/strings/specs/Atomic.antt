@@ -3,9 +3,10 @@ use mathlib.Core.List.{List, [], _++_}
 use Prim.Native.Nat.{ℕ, _-_, _%_}
 use lib.ListN.{length, replicate}
 use Rattle.wire.specs.Number.{bytes}
+use Rattle.wire.specs.Part.{part}
+use Rattle.node.specs.declared.record.Item.{Item}
 use Rattle.node.specs.declared.tags.Class.{Class}
 use Rattle.node.specs.declared.tags.Class.the-variants.{Four, Eight, Bare, Text, Blob, Scalar, Unknown}
-use Rattle.table.specs.Formed.{part}
 
 -- int32, and every other number of 32 bits: big-endian
 abbrev pub int32 : ℕ → List ℕ
@@ -20,11 +21,11 @@ unfoldable pub oscBlob : List ℕ → List ℕ
 oscBlob content = int32 (length content) ++ (content ++ replicate ((4 - length content % 4) % 4) 0)
 
 -- the data of one argument that is no array, by the class of its type tag
-abbrev pub writeArgument : Class → List ℕ → ℕ → ℕ → List ℕ
-writeArgument Four source a b = int32 a
-writeArgument Eight source a b = int32 a ++ int32 b
-writeArgument Bare source a b = []
-writeArgument Text source a b = oscString (part source a b)
-writeArgument Blob source a b = oscBlob (part source a b)
-writeArgument Scalar source a b = int32 a
-writeArgument Unknown source a b = []
+abbrev pub writeArgument : Class → List ℕ → Item → List ℕ
+writeArgument Four source item = int32 (item .a)
+writeArgument Eight source item = int32 (item .a) ++ int32 (item .b)
+writeArgument Bare source item = []
+writeArgument Text source item = oscString (part source (item .a) (item .b))
+writeArgument Blob source item = oscBlob (part source (item .a) (item .b))
+writeArgument Scalar source item = int32 (item .a)
+writeArgument Unknown source item = []
