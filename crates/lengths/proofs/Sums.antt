@@ -8,19 +8,18 @@ use native.Mathlib.Omega.{arith}
 use native.Mathlib.Numerals.{add-one}
 use lib.Dec.{eqb}
 use lib.ListN.{length, length-append}
-use borrow.Author.Tests.{ne-eqb, not-true}
+use borrow.Author.Tests.{eq-eqb, ne-eqb, not-true}
 use Rattle.wire.proofs.Numbers.{length-bytes}
 use Rattle.wire.proofs.Parts.{length-part}
 use Rattle.node.specs.Forest.{Forest, nil, node}
-use Rattle.node.specs.Tags.{sortOf, among}
-use Rattle.node.specs.Records.{kindAt, endAt, aAt, bAt, recordAt}
-use Rattle.node.specs.declared.record.Record.{Record}
+use Rattle.node.specs.Tags.{sortOf, among, messageKind, bundleKind, arrayKind}
+use Rattle.node.specs.Records.{kindAt, endAt, aAt, bAt, itemAt}
 use Rattle.node.specs.declared.tags.Class.{Class}
 use Rattle.node.specs.declared.tags.Class.the-variants.{Four, Eight, Bare, Text, Blob, Scalar, Unknown}
 use Rattle.node.specs.declared.tags.Sort.{Sort}
 use Rattle.node.specs.declared.tags.Sort.the-variants.{Opens, Closes, Leaf}
 use Rattle.wire.proofs.Choices.{is-or}
-use Rattle.table.specs.Formed.{part, rangeOk, isPacket, allowed}
+use Rattle.table.specs.Formed.{rangeOk, allowed}
 use Rattle.table.specs.Tree.{Spans, Obeys}
 use Rattle.table.proofs.Spanned.{Parts, parts}
 use Rattle.strings.specs.Atomic.{oscString, writeArgument}
@@ -30,6 +29,10 @@ use Rattle.lengths.specs.CodeLengths.{argumentLength, dataLength, tagLen
 use Rattle.strings.proofs.Lengths.{length-string, length-blob}
 use Rattle.writers.proofs.Lengths.{length-bundle, length-message}
 use Rattle.writers.proofs.Classed.{opens, leaf-range, address-range, tags-none, data-none, elements-none, tags-is, data-is}
+use Rattle.node.specs.Rules.{isPacket}
+use Rattle.wire.specs.Part.{part}
+use Rattle.node.specs.declared.record.Item.{Item}
+use Rattle.writers.specs.CodeWriters.{bundleHead}
 use Rattle.writers.proofs.Classed.{elements-is, message-is, bundle-is}
 
 -- ---- sums
@@ -50,30 +53,31 @@ sum-up g i n h = let e : i + (n - i) ≡ n = omega arith in rw e at (sum-on g i 
 -- ---- which kinds stand in a message, and which contain nothing
 
 -- what stands in no bundle is no packet
-no-packet : (container k : ℕ) → (container ≡ 35 → ⊥) → allowed container k ≡ true → isPacket k ≡ false
+no-packet : (container k : ℕ) → (container ≡ bundleKind → ⊥) → allowed container k ≡ true → isPacket k ≡ false
 unfolding allowed
-no-packet container k n a = not-true (isPacket k) (go (among container (47 ∷ 91 ∷ [])) (rw (ne-eqb container 35 n) at a))
+no-packet container k n a = not-true (isPacket k) (go (among container (messageKind ∷ arrayKind ∷ [])) (rw (ne-eqb container bundleKind n) at a))
   where
     go : (x : Bool) → cond x (not (isPacket k)) false ≡ true → not (isPacket k) ≡ true
     go true e = e
     go false e = absurd (false≢true e)
 
-no-bundle : (container k : ℕ) → (container ≡ 35 → ⊥) → allowed container k ≡ true → k ≡ 35 → ⊥
+no-bundle : (container k : ℕ) → (container ≡ bundleKind → ⊥) → allowed container k ≡ true → k ≡ bundleKind → ⊥
 no-bundle container k n a e = true≢false (sym (ap isPacket e) ∙ no-packet container k n a)
 
-no-message : (container k : ℕ) → (container ≡ 35 → ⊥) → allowed container k ≡ true → k ≡ 47 → ⊥
+no-message : (container k : ℕ) → (container ≡ bundleKind → ⊥) → allowed container k ≡ true → k ≡ messageKind → ⊥
 no-message container k n a e = true≢false (sym (ap isPacket e) ∙ no-packet container k n a)
 
 -- in a bundle, what is no message is a bundle
-other-bundle : (k : ℕ) → (k ≡ 47 → ⊥) → allowed 35 k ≡ true → k ≡ 35
+other-bundle : (k : ℕ) → (k ≡ messageKind → ⊥) → allowed bundleKind k ≡ true → k ≡ 35
 unfolding allowed
-other-bundle k n a = ⊎-elim (λ e. e) (λ m. absurd (false≢true (rw (ne-eqb k 35 m, ne-eqb k 47 n) at a))) (is-or k 35)
+other-bundle k n a = ⊎-elim (λ e. e) (λ m. absurd (false≢true (rw (ne-eqb k bundleKind m, ne-eqb k messageKind n) at a))) (is-or k bundleKind)
 
-leaf-empty : (source : List ℕ) (k : ℕ) (inside : Forest) → (k ≡ 35 → ⊥) → (k ≡ 47 → ⊥) → (k ≡ 91 → ⊥) → Obeys source k inside → inside ≡ nil
+leaf-empty : (source : List ℕ) (k : ℕ) (inside : Forest)
+    → (k ≡ bundleKind → ⊥) → (k ≡ messageKind → ⊥) → (k ≡ arrayKind → ⊥) → Obeys source k inside → inside ≡ nil
 unfolding Obeys allowed
 leaf-empty source k nil n₁ n₂ n₃ o = refl
 leaf-empty source k (node item′ inside rest) n₁ n₂ n₃ o =
-    absurd (false≢true (rw (ne-eqb k 35 n₁, ne-eqb k 47 n₂, ne-eqb k 91 n₃) at (o .2)))
+    absurd (false≢true (rw (ne-eqb k bundleKind n₁, ne-eqb k messageKind n₂, ne-eqb k arrayKind n₃) at (o .2)))
 
 -- ---- the tags and the data of one record
 
@@ -83,23 +87,23 @@ closes-apart e = let z : _≡_ {A = ℕ} 0 1 = cc in omega arith
 leaf-apart : (class : Class) → Leaf class ≡ Opens → ⊥
 leaf-apart class e = let z : _≡_ {A = ℕ} 0 1 = cc in omega arith
 
-length-argument : (class : Class) (source : List ℕ) (a b : ℕ) → (hasRange class ≡ true → a + b ≤ length source)
-    → length (writeArgument class source a b) ≡ argumentLength class b
-length-argument Four source a b h = length-bytes 4 a
-length-argument Eight source a b h = simp (length-append, length-bytes)
-length-argument Bare source a b h = refl
-length-argument Text source a b h = length-string (part source a b) ∙ rw (length-part source a b (h refl))
-length-argument Blob source a b h = length-blob (part source a b) ∙ rw (length-part source a b (h refl))
-length-argument Scalar source a b h = length-bytes 4 a
-length-argument Unknown source a b h = refl
+length-argument : (class : Class) (source : List ℕ) (item : Item) → (hasRange class ≡ true → item .a + item .b ≤ length source)
+    → length (writeArgument class source item) ≡ argumentLength class (item .b)
+length-argument Four source item h = length-bytes 4 (item .a)
+length-argument Eight source item h = simp (length-append, length-bytes)
+length-argument Bare source item h = refl
+length-argument Text source item h = length-string _ ∙ rw (length-part source (item .a) (item .b) (h refl))
+length-argument Blob source item h = length-blob _ ∙ rw (length-part source (item .a) (item .b) (h refl))
+length-argument Scalar source item h = length-bytes 4 (item .a)
+length-argument Unknown source item h = refl
 
-data-by : (sort : Sort) (source : List ℕ) (a b : ℕ) (within : List ℕ)
-    → ((class : Class) → sort ≡ Leaf class → hasRange class ≡ true → a + b ≤ length source)
-    → ((sort ≡ Opens → ⊥) → within ≡ []) → length (dataBy sort source a b within) ≡ dataLength sort b + length within
-data-by Opens source a b within h m = omega arith
-data-by Closes source a b within h m = omega (arith, ap length (m closes-apart))
-data-by (Leaf class) source a b within h m =
-    omega (arith, length-argument class source a b (h class refl), ap length (m (leaf-apart class)))
+data-by : (sort : Sort) (source : List ℕ) (item : Item) (within : List ℕ)
+    → ((class : Class) → sort ≡ Leaf class → hasRange class ≡ true → item .a + item .b ≤ length source)
+    → ((sort ≡ Opens → ⊥) → within ≡ []) → length (dataBy sort source item within) ≡ dataLength sort (item .b) + length within
+data-by Opens source item within h m = omega arith
+data-by Closes source item within h m = omega (arith, ap length (m closes-apart))
+data-by (Leaf class) source item within h m =
+    omega (arith, length-argument class source item (h class refl), ap length (m (leaf-apart class)))
 
 tags-by : (sort : Sort) (k : ℕ) (within : List ℕ) → ((sort ≡ Opens → ⊥) → within ≡ [])
     → length (tagsBy sort k within) ≡ tagLength sort + length within
@@ -107,75 +111,77 @@ tags-by Opens k within m = simp length-append (omega arith)
 tags-by Closes k within m = omega (arith, ap length (m closes-apart))
 tags-by (Leaf class) k within m = omega (arith, ap length (m (leaf-apart class)))
 
-module _ (source : List ℕ) (container k a b : ℕ) (inside rest : Forest) (n : container ≡ 35 → ⊥)
-    (p : Parts source container k a b inside rest) where
+module _ (source : List ℕ) (container : ℕ) (item : Item) (inside rest : Forest) (n : container ≡ bundleKind → ⊥)
+    (p : Parts source container item inside rest) where
   -- only an array among the arguments contains anything
-  only-arrays : (sortOf k ≡ Opens → ⊥) → inside ≡ nil
+  only-arrays : (sortOf (item .kind) ≡ Opens → ⊥) → inside ≡ nil
   only-arrays m =
-      leaf-empty source k inside (no-bundle container k n (p .may)) (no-message container k n (p .may)) (λ e. m (opens k e)) (p .in-obeys)
+      leaf-empty source (item .kind) inside (no-bundle container (item .kind) n (p .may)) (no-message container (item .kind) n (p .may))
+      (λ e. m (opens (item .kind) e)) (p .in-obeys)
 
   -- the tags of a row are those of its first record, of what that contains and of the rest
-  pub tags-one : length (writeTags (node item inside rest)) ≡ tagLength (sortOf k) + length (writeTags inside) + length (writeTags rest)
+  pub tags-one : length (writeTags (node item inside rest))
+      ≡ tagLength (sortOf (item .kind)) + length (writeTags inside) + length (writeTags rest)
   tags-one =
-      let e = tags-by (sortOf k) k (writeTags inside) (λ m. ap writeTags (only-arrays m) ∙ tags-none) in
-      omega (arith, simp length-append at (ap length (tags-is k a b inside rest)))
+      let e = tags-by (sortOf (item .kind)) (item .kind) (writeTags inside) (λ m. ap writeTags (only-arrays m) ∙ tags-none) in
+      omega (arith, simp length-append at (ap length (tags-is item inside rest)))
 
   -- and so is its data
-  pub data-one : length (writeData source (node item inside rest)) ≡ dataLength (sortOf k) b + length (writeData source inside) + length
-      (writeData source rest)
+  pub data-one : length (writeData source (node item inside rest))
+      ≡ dataLength (sortOf (item .kind)) (item .b) + length (writeData source inside) + length (writeData source rest)
   data-one =
-      let e = data-by (sortOf k) source a b (writeData source inside) (λ class. leaf-range source k a b class (p .range))
+      let e = data-by (sortOf (item .kind)) source item (writeData source inside) (λ class. leaf-range source item class (p .range))
       (λ m. ap (writeData source) (only-arrays m) ∙ data-none source) in
-      omega (arith, simp length-append at (ap length (data-is k a b inside rest source (sortOf k) refl)))
+      omega (arith, simp length-append at (ap length (data-is item inside rest source (sortOf (item .kind)) refl)))
 
 -- ---- the records of a message
 
 -- a number of forests that is the sum of a number of each record
 module _ (source t : List ℕ) (g : ℕ → ℕ) (f : Forest → ℕ) (none : f nil ≡ 0)
-    (one : (container lo : ℕ) (inside rest : Forest) → (container ≡ 35 → ⊥)
+    (one : (container lo : ℕ) (inside rest : Forest) → (container ≡ bundleKind → ⊥)
     → Parts source container (itemAt t lo) inside rest
     → f (node (itemAt t lo) inside rest) ≡ g lo + f inside + f rest) where
-  sum-args : (container lo hi : ℕ) (F : Forest) → (container ≡ 35 → ⊥) → Spans t lo hi F → Obeys source container F
+  sum-args : (container lo hi : ℕ) (F : Forest) → (container ≡ bundleKind → ⊥) → Spans t lo hi F → Obeys source container F
       → sumTo g hi ≡ sumTo g lo + f F
   unfolding Spans
   sum-args container lo hi nil n s o = rw s (omega (arith, none))
   sum-args container lo hi (node item inside rest) n s o =
-      let p = parts source container k a b inside rest o in
-      let i = sum-args k (lo + 1) (endAt t lo) inside (no-bundle container k n (p .may)) (s .3) (p .in-obeys) in
-      let r = sum-args container (endAt t lo) hi rest n (s .4) (p .rest-obeys) in
+      let p = parts source container item inside rest o in
+      let i = sum-args (item .kind) (lo + 1) (endAt t lo) inside (no-bundle container (item .kind) n (p .may)) (s .1) (p .in-obeys) in
+      let r = sum-args container (endAt t lo) hi rest n (s .2) (p .rest-obeys) in
       let e : f (node item inside rest) ≡ g lo + f inside + f rest
-      = rw (s .0, s .1, s .2) at (one container lo inside rest n (rw (s .0, s .1, s .2) p)) in
+      = rw (s .0) at (one container lo inside rest n (rw (← s .0) at p)) in
       omega (arith, sum-more g lo)
 
-module _ (source t : List ℕ) (lo hi : ℕ) (F : Forest) (s : Spans t lo hi F) (o : Obeys source 47 F) where
-  no-bundle-here : _≡_ {A = ℕ} 47 35 → ⊥
+module _ (source t : List ℕ) (lo hi : ℕ) (F : Forest) (s : Spans t lo hi F) (o : Obeys source messageKind F) where
+  no-bundle-here : _≡_ {A = ℕ} messageKind bundleKind → ⊥
   no-bundle-here e = omega (arith, e)
 
   tags-sum : tagsTo t hi ≡ tagsTo t lo + length (writeTags F)
   tags-sum =
       sum-args source t (λ i. tagLength (sortOf (kindAt t i))) (λ G. length (writeTags G)) (ap length tags-none)
-      (λ c i inside rest n p. tags-one source c _ _ _ inside rest n p) 47 lo hi F no-bundle-here s o
+      (λ c i inside rest n p. tags-one source c _ inside rest n p) messageKind lo hi F no-bundle-here s o
 
   data-sum : dataTo t hi ≡ dataTo t lo + length (writeData source F)
   data-sum =
       sum-args source t (λ i. dataLength (sortOf (kindAt t i)) (bAt t i)) (λ G. length (writeData source G)) (ap length (data-none source))
-      (λ c i inside rest n p. data-one source c _ _ _ inside rest n p) 47 lo hi F no-bundle-here s o
+      (λ c i inside rest n p. data-one source c _ inside rest n p) messageKind lo hi F no-bundle-here s o
 
   -- an argument adds nothing of its own to a packet
-  argument-adds : (i : ℕ) → (kindAt t i ≡ 35 → ⊥) → (kindAt t i ≡ 47 → ⊥) → elementLength t i ≡ 0
+  argument-adds : (i : ℕ) → (kindAt t i ≡ bundleKind → ⊥) → (kindAt t i ≡ messageKind → ⊥) → elementLength t i ≡ 0
   unfolding elementLength
-  argument-adds i n₁ n₂ = rw (ne-eqb (kindAt t i) 47 n₂, ne-eqb (kindAt t i) 35 n₁)
+  argument-adds i n₁ n₂ = rw (ne-eqb (kindAt t i) messageKind n₂, ne-eqb (kindAt t i) bundleKind n₁)
 
   arguments-sum : sumTo (elementLength t) hi ≡ sumTo (elementLength t) lo + 0
   arguments-sum =
       sum-args source t (elementLength t) (λ G. 0) refl
       (λ c i inside rest n p. omega (arith, argument-adds i (no-bundle c (kindAt t i) n (p .may)) (no-message c (kindAt t i) n (p .may))))
-      47 lo hi F no-bundle-here s o
+      messageKind lo hi F no-bundle-here s o
 
 -- a message's length by its records is that of its bytes
-message-sum : (source t : List ℕ) (at : ℕ) (F : Forest) → Spans t (at + 1) (endAt t at) F → Obeys source 47 F
+message-sum : (source t : List ℕ) (at : ℕ) (F : Forest) → Spans t (at + 1) (endAt t at) F → Obeys source messageKind F
     → aAt t at + bAt t at ≤ length source
-    → messageLength t at ≡ length (writeMessage source (aAt t at) (bAt t at) F)
+    → messageLength t at ≡ length (writeMessage source (itemAt t at) F)
 unfolding messageLength
 message-sum source t at F s o h =
     let x : tagsTo t (endAt t at) - tagsTo t (at + 1) ≡ length (writeTags F) = omega (arith, tags-sum source t (at + 1) (endAt t at) F s o) in
@@ -187,42 +193,44 @@ message-sum source t at F s o h =
 
 -- ---- the elements of a bundle
 
-message-adds : (source t : List ℕ) (at : ℕ) (F : Forest) → kindAt t at ≡ 47 → Spans t (at + 1) (endAt t at) F → Obeys source (kindAt t at) F
+message-adds : (source t : List ℕ) (at : ℕ) (F : Forest) → kindAt t at ≡ messageKind → Spans t (at + 1) (endAt t at) F
+    → Obeys source (kindAt t at) F
     → rangeOk source (itemAt t at) ≡ true
     → elementLength t at ≡ 4 + length (writePacket source (itemAt t at) F)
 unfolding elementLength
 message-adds source t at F y s o r =
     let m = message-sum source t at F s (rw y at o) (address-range source (itemAt t at) r y) in
-    rw (message-is source (itemAt t at) F y, y, m)
+    rw (eq-eqb (kindAt t at) messageKind y) (omega (arith, ap length (message-is source (itemAt t at) F y)))
 
 bundle-adds : (source t : List ℕ) (at : ℕ) (F : Forest) → kindAt t at ≡ 35
     → elementLength t at + length (writeElements source F) ≡ 4 + length (writePacket source (itemAt t at) F)
 unfolding elementLength
 bundle-adds source t at F y =
-    let n : kindAt t at ≡ 47 → ⊥ = λ q. omega (arith, y, q) in
+    let n : kindAt t at ≡ messageKind → ⊥ = λ q. omega (arith, y, q) in
     rw (bundle-is source (itemAt t at) F n, y) (simp (length-append, length-bundle) (omega arith))
 
-elements-sum : (source t : List ℕ) (lo hi : ℕ) (F : Forest) → Spans t lo hi F → Obeys source 35 F
+elements-sum : (source t : List ℕ) (lo hi : ℕ) (F : Forest) → Spans t lo hi F → Obeys source bundleKind F
     → sumTo (elementLength t) hi ≡ sumTo (elementLength t) lo + length (writeElements source F)
 unfolding Spans
 elements-sum source t lo hi nil s o = rw s (omega (arith, ap length (elements-none source)))
 elements-sum source t lo hi (node item inside rest) s o =
-    let p : Parts source 35 (itemAt t lo) inside rest = rw (s .0, s .1, s .2) (parts source 35 k a b inside rest o) in
-    let r = elements-sum source t (endAt t lo) hi rest (s .4) (p .rest-obeys) in
-    let deeper = elements-sum source t (lo + 1) (endAt t lo) inside (s .3) in
-    let l : length (writeElements source (node item inside rest)) ≡ 4 + length (writePacket source (itemAt t lo) inside) + length (writeElements source rest)
-    = ap length (elements-is k a b inside rest source) ∙ rw (s .0, s .1, s .2) (simp (length-append, length-bytes)) in
+    let p : Parts source bundleKind (itemAt t lo) inside rest = rw (← s .0) at (parts source bundleKind item inside rest o) in
+    let r = elements-sum source t (endAt t lo) hi rest (s .2) (p .rest-obeys) in
+    let deeper = elements-sum source t (lo + 1) (endAt t lo) inside (s .1) in
+    let l : length (writeElements source (node item inside rest))
+    ≡ 4 + length (writePacket source (itemAt t lo) inside) + length (writeElements source rest)
+    = ap length (elements-is item inside rest source) ∙ rw (← s .0) (simp (length-append, length-bytes)) in
     ⊎-elim
     (λ y.
-    let c = message-adds source t lo inside y (s .3) (p .in-obeys) (p .range) in
-    let i = arguments-sum source t (lo + 1) (endAt t lo) inside (s .3) (rw y at (p .in-obeys)) in
+    let c = message-adds source t lo inside y (s .1) (p .in-obeys) (p .range) in
+    let i = arguments-sum source t (lo + 1) (endAt t lo) inside (s .1) (rw y at (p .in-obeys)) in
     omega (arith, sum-more (elementLength t) lo))
     (λ n.
-    let y : kindAt t lo ≡ 35 = other-bundle (kindAt t lo) n (p .may) in
+    let y : kindAt t lo ≡ bundleKind = other-bundle (kindAt t lo) n (p .may) in
     let c = bundle-adds source t lo inside y in
     let i = deeper (rw y at (p .in-obeys)) in
     omega (arith, sum-more (elementLength t) lo))
-    (is-or (kindAt t lo) 47)
+    (is-or (kindAt t lo) messageKind)
 
 -- the sum over no record is 0
 pub sum-none : (g : ℕ → ℕ) → sumTo g 0 ≡ 0
@@ -230,50 +238,48 @@ unfolding sumTo
 sum-none g = refl
 
 -- the sum over all records is the length of the packet as an element
-pub packet-sum : (source t : List ℕ) (count k a b : ℕ) (inside : Forest) → Spans t 0 count (node item inside nil)
-    → Obeys source 35 (node item inside nil)
-    → sumTo (elementLength t) count ≡ 4 + length (writePacket source k a b inside)
-packet-sum source t count k a b inside s o =
-    let l : length (writeElements source (node item inside nil)) ≡ 4 + length (writePacket source k a b inside) + 0
-    = ap length (elements-is k a b inside nil source) ∙ simp (length-append, length-bytes, elements-none) in
+pub packet-sum : (source t : List ℕ) (count : ℕ) (item : Item) (inside : Forest) → Spans t 0 count (node item inside nil)
+    → Obeys source bundleKind (node item inside nil)
+    → sumTo (elementLength t) count ≡ 4 + length (writePacket source item inside)
+packet-sum source t count item inside s o =
+    let l : length (writeElements source (node item inside nil)) ≡ 4 + length (writePacket source item inside) + 0
+    = ap length (elements-is item inside nil source) ∙ simp (length-append, length-bytes, elements-none) in
     omega (arith, elements-sum source t 0 count (node item inside nil) s o, sum-none (elementLength t))
 
 -- ---- what the measuring functions answer
 
 -- one argument further
-pub argument-passed : (t : List ℕ) (i : ℕ) {r : Record} {sort : Sort} {x y : ℕ} → r ≡ recordAt t i → sort ≡ sortOf (r .kind)
-    → x ≡ tagLength sort → y ≡ dataLength sort (r .b)
+pub argument-passed : (t : List ℕ) (i : ℕ) {kind b : ℕ} {sort : Sort} {x y : ℕ} → kind ≡ kindAt t i → b ≡ bAt t i → sort ≡ sortOf kind
+    → x ≡ tagLength sort → y ≡ dataLength sort b
     → (tagsTo t (i + 1) ≡ tagsTo t i + x) × (dataTo t (i + 1) ≡ dataTo t i + y)
-argument-passed t i {r} {sort} {x} {y} e s p q =
-    let u : x ≡ tagLength (sortOf (kindAt t i)) = p ∙ ap tagLength s ∙ ap (λ (z : Record). tagLength (sortOf (z .kind))) e in
-    let v : y ≡ dataLength (sortOf (kindAt t i)) (bAt t i) = q ∙ ap (λ (z : Sort). dataLength z (r .b)) s
-    ∙ ap (λ (z : Record). dataLength (sortOf (z .kind)) (z .b)) e in
+argument-passed t i {kind} {b} {sort} {x} {y} ke be s p q =
+    let u : x ≡ tagLength (sortOf (kindAt t i)) = p ∙ rw (s, ke) in
+    let v : y ≡ dataLength (sortOf (kindAt t i)) (bAt t i) = q ∙ rw (s, ke, be) in
     (rw u (sum-more (λ j. tagLength (sortOf (kindAt t j))) i), rw v (sum-more (λ j. dataLength (sortOf (kindAt t j)) (bAt t j)) i))
 
 -- a message's numbers, once its records are passed
-pub message-measured : (t : List ℕ) (at i tags content : ℕ) {r : Record} → r ≡ recordAt t at → at + 1 ≤ i → i ≡ r .end
+pub message-measured : (t : List ℕ) (at i tags content : ℕ) {b : ℕ} → b ≡ bAt t at → at + 1 ≤ i → i ≡ endAt t at
     → tagsTo t i + 1 ≡ tagsTo t (at + 1) + tags
-    → dataTo t i ≡ dataTo t (at + 1) + content → stringLength (r .b) + stringLength tags + content ≡ messageLength t at
+    → dataTo t i ≡ dataTo t (at + 1) + content → stringLength b + stringLength tags + content ≡ messageLength t at
 unfolding messageLength
-message-measured t at i tags content {r} e h ei x y =
-    let q : i ≡ endAt t at = ei ∙ ap (λ (z : Record). z .end) e in
+message-measured t at i tags content e h q x y =
     let m = sum-up (λ j. tagLength (sortOf (kindAt t j))) (at + 1) i h in
     let u : 1 + (tagsTo t (endAt t at) - tagsTo t (at + 1)) ≡ tags = omega (arith, ap (tagsTo t) q) in
     let v : dataTo t (endAt t at) - dataTo t (at + 1) ≡ content = omega (arith, ap (dataTo t) q) in
     rw (u, v, e)
 
-module _ (t : List ℕ) (at : ℕ) {r : Record} (e : r ≡ recordAt t at) where
+module _ (t : List ℕ) (at : ℕ) {kind : ℕ} (e : kind ≡ kindAt t at) where
   -- a message's record adds the message and its size
-  pub element-message : r .kind ≡ 47 → elementLength t at ≡ 4 + messageLength t at
+  pub element-message : kind ≡ messageKind → elementLength t at ≡ 4 + messageLength t at
   unfolding elementLength
-  element-message y = let k : kindAt t at ≡ 47 = rw e at y in rw k
+  element-message y = let k : kindAt t at ≡ messageKind = sym e ∙ y in rw k
 
   -- a bundle's record adds its size and its head
-  pub element-bundle : (r .kind ≡ 47 → ⊥) → r .kind ≡ 35 → elementLength t at ≡ 20
+  pub element-bundle : kind ≡ bundleKind → elementLength t at ≡ 4 + bundleHead
   unfolding elementLength
-  element-bundle n y = let k : kindAt t at ≡ 35 = rw e at y in rw k
+  element-bundle y = let k : kindAt t at ≡ bundleKind = sym e ∙ y in rw k
 
   -- any other record adds nothing of its own
-  pub element-other : (r .kind ≡ 47 → ⊥) → (r .kind ≡ 35 → ⊥) → elementLength t at ≡ 0
+  pub element-other : (kind ≡ messageKind → ⊥) → (kind ≡ bundleKind → ⊥) → elementLength t at ≡ 0
   unfolding elementLength
-  element-other n m = rw (ne-eqb (kindAt t at) 47 (rw e at n), ne-eqb (kindAt t at) 35 (rw e at m))
+  element-other n m = rw (ne-eqb (kindAt t at) messageKind (rw e at n), ne-eqb (kindAt t at) bundleKind (rw e at m))

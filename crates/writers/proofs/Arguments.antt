@@ -6,11 +6,13 @@ use Prim.Native.Nat.{ℕ, _+_, _-_, _≤_, _<_}
 use native.Mathlib.Omega.{arith}
 use lib.ListN.{length, length-append}
 use borrow.Rule.Slice.PartMut.{midOf, putMid}
+use Rattle.wire.specs.Limits.{longest}
 use Rattle.wire.specs.Wrote.{Filled}
 use Rattle.wire.proofs.Parts.{length-lent}
 use Rattle.wire.proofs.Writers.{filled-length, filled-lent}
 use Rattle.node.specs.Tags.{sortOf}
-use Rattle.node.specs.Records.{kindAt, endAt, aAt, bAt}
+use Rattle.node.specs.Records.{kindAt, endAt, itemAt}
+use Rattle.node.specs.declared.record.Item.{Item}
 use Rattle.node.specs.declared.tags.Class.{Class}
 use Rattle.node.specs.declared.tags.Sort.{Sort}
 use Rattle.node.specs.declared.tags.Sort.the-variants.{Opens, Closes, Leaf}
@@ -26,14 +28,14 @@ module _ {source t : List ℕ} {lo hi : ℕ} {o₀ o : List ℕ} {at k : ℕ}
     {end kind : ℕ} (e : end ≡ endAt t at) (e′ : kind ≡ kindAt t at) {sort : Sort} (s : sort ≡ sortOf kind) where
   -- the bytes of the record
   abbrev datum : Sort → List ℕ
-  datum x = dataBy x source (aAt t at) (bAt t at) (writeData source (next w h .inside))
+  datum x = dataBy x source (itemAt t at) (writeData source (next w h .inside))
 
   data-left : writeData source (w .rest) ≡ datum sort ++ writeData source (next w h .rest)
   data-left =
       ap (writeData source) (next w h .is)
       ∙ data-is (itemAt t at) (next w h .inside) (next w h .rest) source sort (s ∙ ap sortOf e′)
 
-  data-room : (k + length (datum sort) ≤ length o₀) × (k + length (datum sort) ≤ 65535)
+  data-room : (k + length (datum sort) ≤ length o₀) × (k + length (datum sort) ≤ longest)
   data-room =
       let l = simp length-append at (ap length data-left) in
       (omega (arith, room-left w), omega (arith, room-left w))
@@ -72,7 +74,7 @@ module _ {source t : List ℕ} {lo hi : ℕ} {o₀ o : List ℕ} {at k : ℕ}
       within = f (next w h .inside) (rw e (next w h .in-spans))
 
       -- with it the output is no longer than a packet may be
-      pub array-after : k + n ≤ 65535
+      pub array-after : k + n ≤ longest
       array-after = omega (arith, within .count, rw q at data-room)
 
       -- the array is passed
@@ -80,20 +82,20 @@ module _ {source t : List ℕ} {lo hi : ℕ} {o₀ o : List ℕ} {at k : ℕ}
       array-gone = datum-gone q within
 
   -- an argument that is no array
-  module _ {class : Class} (q : sort ≡ Leaf class) {a b : ℕ} (u : a ≡ aAt t at) (v : b ≡ bAt t at) where
+  module _ {class : Class} (q : sort ≡ Leaf class) {item : Item} (u : item ≡ itemAt t at) where
     -- its range lies in the source, and there is room for its data
-    pub leaf-asked : (hasRange class ≡ true → a + b ≤ length source) ×
-        (length (writeArgument class source a b) ≤ length (midOf k (length o - k) o))
+    pub leaf-asked : (hasRange class ≡ true → item .a + item .b ≤ length source) ×
+        (length (writeArgument class source item) ≤ length (midOf k (length o - k) o))
     leaf-asked = (
-      rw (u, v) (leaf-range source (itemAt t at) class (obeyed w h .range) (sym (s ∙ ap sortOf e′) ∙ q)),
-      rw (u, v) (datum-fits q),
+      rw u (leaf-range source (itemAt t at) class (obeyed w h .range) (sym (s ∙ ap sortOf e′) ∙ q)),
+      rw u (datum-fits q),
     )
 
-    module _ {p : List ℕ} {n : ℕ} (f : Filled (writeArgument class source a b) (midOf k (length o - k) o) p n) where
+    module _ {p : List ℕ} {n : ℕ} (f : Filled (writeArgument class source item) (midOf k (length o - k) o) p n) where
       -- with it the output is no longer than a packet may be
-      pub leaf-after : k + n ≤ 65535
-      leaf-after = omega (arith, rw (u, v) at (f .count), rw q at data-room)
+      pub leaf-after : k + n ≤ longest
+      leaf-after = omega (arith, rw u at (f .count), rw q at data-room)
 
       -- the argument is passed
       pub leaf-gone : Going (Sound source) (writeData source) (writeData source) t lo hi o₀ (putMid k (length o - k) o p) end (k + n)
-      leaf-gone = datum-gone q (rw (u, v) at f)
+      leaf-gone = datum-gone q (rw u at f)

@@ -10,14 +10,17 @@ use lib.ListN.{length, length-append}
 use borrow.Author.Tests.{eqb-true, ne-eqb, leb-true}
 use Rattle.utf8.specs.Derive.{utf8}
 use Rattle.node.specs.Forest.{Forest, nil, node}
-use Rattle.node.specs.Tags.{sortOf, classOf, among}
+use Rattle.node.specs.Tags.{messageKind, arrayKind, sortOf, classOf, among}
+use Rattle.node.specs.declared.record.Item.{Item}
 use Rattle.node.specs.declared.tags.Class.{Class}
 use Rattle.node.specs.declared.tags.Class.the-variants.{Four, Eight, Bare, Text, Blob, Scalar, Unknown}
 use Rattle.node.specs.declared.tags.Sort.{Sort}
 use Rattle.node.specs.declared.tags.Sort.the-variants.{Opens, Closes, Leaf}
 use Rattle.wire.proofs.Choices.{then-only, else-only}
-use Rattle.table.specs.Formed.{part, inside, rangeOk}
-use Rattle.writers.specs.Osc.{dataBy, writeData, tagsBy, writeTags, writeMessage, writeBundle, writeElement, writeElements, writePacket}
+use Rattle.wire.specs.Part.{part, inside}
+use Rattle.table.specs.Formed.{textOk, rangeOk}
+use Rattle.writers.specs.Osc.{dataBy, writeData, tagsBy, writeTags, writeMessage, writeBundle, writeElement, writeElements}
+use Rattle.writers.specs.Osc.{writePacket}
 use Rattle.strings.specs.CodeStrings.{hasRange}
 
 -- two sorts, or two classes, that a test tells apart
@@ -37,22 +40,22 @@ leafy Closes = false
 leafy (Leaf class) = true
 
 -- [ opens an array
-pub opens : (k : ℕ) → k ≡ 91 → sortOf k ≡ Opens
+pub opens : (k : ℕ) → k ≡ arrayKind → sortOf k ≡ Opens
 unfolding sortOf
 opens k e = rw e
 
 -- no other kind does
-pub opens-only : (k : ℕ) → sortOf k ≡ Opens → k ≡ 91
+pub opens-only : (k : ℕ) → sortOf k ≡ Opens → k ≡ arrayKind
 unfolding sortOf
 opens-only k e =
-    eqb-true k 91 (then-only (eqb k 91) Opens e
+    eqb-true k arrayKind (then-only (eqb k arrayKind) Opens e
     (λ f. apart opening (Leaf (classOf k)) Opens refl refl (else-only (eqb k 93) f (apart opening Closes Opens refl refl))))
 
 class-of : (k : ℕ) (class : Class) → sortOf k ≡ Leaf class → classOf k ≡ class
 unfolding sortOf
 class-of k class e =
     let f : Leaf (classOf k) ≡ Leaf class
-    = else-only (eqb k 93) (else-only (eqb k 91) e (apart leafy Opens (Leaf class) refl refl))
+    = else-only (eqb k 93) (else-only (eqb k arrayKind) e (apart leafy Opens (Leaf class) refl refl))
     (apart leafy Closes (Leaf class) refl refl) in
     cc
 
@@ -81,20 +84,26 @@ ranged-kind k e =
     text true q e = inl (eqb-true k 115 q)
     text false q e = inr (eqb-true k 98 (blob (eqb k 98) e))
 
+-- a range that is UTF-8 lies in the source
+text-range : (source : List ℕ) (item : Item) → textOk source (item .a) (item .b) ≡ true → item .a + item .b ≤ length source
+text-range source item r =
+    leb-true _ _ (then-only (inside source (item .a) (item .b)) (utf8 (part source (item .a) (item .b))) r false≢true)
+
 -- the range of a text or a blob lies in the source
-pub leaf-range : (source : List ℕ) (k a b : ℕ) (class : Class) → rangeOk source k a b ≡ true → sortOf k ≡ Leaf class → hasRange class ≡ true
-    → a + b ≤ length source
+pub leaf-range : (source : List ℕ) (item : Item) (class : Class) → rangeOk source item ≡ true → sortOf (item .kind) ≡ Leaf class
+    → hasRange class ≡ true → item .a + item .b ≤ length source
 unfolding rangeOk
-leaf-range source k a b class r s e =
+leaf-range source item class r s e =
     ⊎-elim
-    (λ q. leb-true _ _ (then-only (inside source a b) (utf8 (part source a b)) (rw q at r) false≢true))
+    (λ q. text-range source item (rw q at r))
     (λ q. leb-true _ _ (rw q at r))
-    (ranged-kind k (rw (class-of k class s) e))
+    (ranged-kind (item .kind) (rw (class-of (item .kind) class s) e))
 
 -- and so does an address
-pub address-range : (source : List ℕ) (k a b : ℕ) → rangeOk source k a b ≡ true → k ≡ 47 → a + b ≤ length source
+pub address-range : (source : List ℕ) (item : Item) → rangeOk source item ≡ true → item .kind ≡ messageKind
+    → item .a + item .b ≤ length source
 unfolding rangeOk
-address-range source k a b r q = leb-true _ _ (then-only (inside source a b) (utf8 (part source a b)) (rw q at r) false≢true)
+address-range source item r q = text-range source item (rw q at r)
 
 -- ---- the first node's tags and data
 
@@ -123,48 +132,49 @@ pub elements-none : (source : List ℕ) → writeElements source nil ≡ []
 unfolding writeElements
 elements-none source = refl
 
-module _ (k a b : ℕ) (inside rest : Forest) where
+module _ (item : Item) (inside rest : Forest) where
   -- an argument has a tag
   pub tags-some : 1 ≤ length (writeTags (node item inside rest))
   unfolding writeTags
-  tags-some = simp length-append (omega (arith, tags-by-some (sortOf k) k (writeTags inside)))
+  tags-some = simp length-append (omega (arith, tags-by-some (sortOf (item .kind)) (item .kind) (writeTags inside)))
 
   -- an array's tags stand in brackets, before those of the arguments after it
-  pub tags-array : k ≡ 91 → writeTags (node item inside rest) ≡ (k ∷ (writeTags inside ++ (93 ∷ []))) ++ writeTags rest
+  pub tags-array : item .kind ≡ arrayKind
+      → writeTags (node item inside rest) ≡ (item .kind ∷ (writeTags inside ++ (93 ∷ []))) ++ writeTags rest
   unfolding writeTags
-  tags-array e = rw (opens k e)
+  tags-array e = rw (opens (item .kind) e)
 
   -- any other argument has its kind as its tag
-  pub tags-leaf : (k ≡ 91 → ⊥) → writeTags (node item inside rest) ≡ (k ∷ []) ++ writeTags rest
+  pub tags-leaf : (item .kind ≡ arrayKind → ⊥) → writeTags (node item inside rest) ≡ (item .kind ∷ []) ++ writeTags rest
   unfolding writeTags
-  tags-leaf n = rw (tags-by-leaf (sortOf k) k (writeTags inside) (λ e. n (opens-only k e)))
+  tags-leaf n = rw (tags-by-leaf (sortOf (item .kind)) (item .kind) (writeTags inside) (λ e. n (opens-only (item .kind) e)))
 
   -- the tags of the first argument stand before those of the rest
-  pub tags-is : writeTags (node item inside rest) ≡ tagsBy (sortOf k) k (writeTags inside) ++ writeTags rest
+  pub tags-is : writeTags (node item inside rest) ≡ tagsBy (sortOf (item .kind)) (item .kind) (writeTags inside) ++ writeTags rest
   unfolding writeTags
   tags-is = refl
 
   -- the data of the first argument stands before that of the rest
-  pub data-is : (source : List ℕ) (sort : Sort) → sort ≡ sortOf k
-      → writeData source (node item inside rest) ≡ dataBy sort source a b (writeData source inside) ++ writeData source rest
+  pub data-is : (source : List ℕ) (sort : Sort) → sort ≡ sortOf (item .kind)
+      → writeData source (node item inside rest) ≡ dataBy sort source item (writeData source inside) ++ writeData source rest
   unfolding writeData
   data-is source sort e = rw e
 
   -- the first element stands before the rest
   pub elements-is : (source : List ℕ)
-      → writeElements source (node item inside rest) ≡ writeElement (writePacket source k a b inside) ++ writeElements source rest
+      → writeElements source (node item inside rest) ≡ writeElement (writePacket source item inside) ++ writeElements source rest
   unfolding writeElements writePacket
   elements-is source = refl
 
 -- ---- a packet by its kind
 
-module _ (source : List ℕ) (k a b : ℕ) (inside : Forest) where
+module _ (source : List ℕ) (item : Item) (inside : Forest) where
   -- a packet whose kind is / is a message
-  pub message-is : k ≡ 47 → writePacket source k a b inside ≡ writeMessage source a b inside
+  pub message-is : item .kind ≡ messageKind → writePacket source item inside ≡ writeMessage source item inside
   unfolding writePacket
   message-is e = rw e
 
   -- any other packet is a bundle: its head, and its elements
-  pub bundle-is : (k ≡ 47 → ⊥) → writePacket source k a b inside ≡ writeBundle a b [] ++ writeElements source inside
+  pub bundle-is : (item .kind ≡ messageKind → ⊥) → writePacket source item inside ≡ writeBundle item [] ++ writeElements source inside
   unfolding writePacket writeBundle
-  bundle-is n = rw (ne-eqb k 47 n) (simp (append-assoc, append-nil))
+  bundle-is n = rw (ne-eqb (item .kind) messageKind n) (simp (append-assoc, append-nil))

@@ -1,25 +1,28 @@
 -- The type tag text, the message, the bundle and its elements: what each step of their writers has room for, and what it leaves.
 use mathlib.Core.Path.{_≡_, refl, ap, _∙_}
 use mathlib.Core.List.{List, [], _++_, append-assoc}
-use Prim.Native.Nat.{ℕ, suc, _+_, _-_, _*_, _/_, _%_, _≤_, _<_}
+use Prim.Native.Nat.{ℕ, suc, _+_, _-_, _*_, _%_, _≤_, _<_}
 use native.Mathlib.Omega.{arith}
 use lib.ListN.{length, set, replicate, length-append, length-set}
 use borrow.Rule.Slice.PartMut.{midOf, putMid}
 use Rattle.wire.specs.Number.{bytes}
+use Rattle.wire.specs.Limits.{longest}
 use Rattle.wire.specs.Wrote.{Wrote, Filled}
 use Rattle.wire.proofs.Numbers.{length-bytes}
 use Rattle.wire.proofs.Parts.{length-lent}
 use Rattle.wire.proofs.Writers.{wrote-none, filled-set, filled-length, filled-lent, same-length}
 use Rattle.wire.proofs.Gaps.{gap-filled, written-again, written-from}
 use Rattle.node.specs.Forest.{Forest}
-use Rattle.node.specs.Records.{recordSize, kindAt, endAt, aAt, bAt}
-use Rattle.table.specs.Formed.{part}
+use Rattle.node.specs.Records.{recordSize, kindAt, endAt, itemAt, capacity}
+use Rattle.node.specs.Tags.{messageKind}
+use Rattle.node.specs.declared.record.Item.{Item}
+use Rattle.wire.specs.Part.{part}
 use Rattle.table.specs.Tree.{Spans}
 use Rattle.table.proofs.Spanned.{spans-size}
 use Rattle.strings.specs.Atomic.{oscString}
 use Rattle.strings.specs.CodeStrings.{stringLength}
 use Rattle.writers.specs.Osc.{writeTags, writeData, writeMessage, writeBundle, writeElement, writeElements}
-use Rattle.writers.specs.CodeWriters.{tagText, Any, Sound, OutputRoom, WritesRow, packetAt, Ready}
+use Rattle.writers.specs.CodeWriters.{tagText, bundleHead, Any, Sound, OutputRoom, WritesRow, WritesPacket, packetAt, Ready}
 use Rattle.strings.proofs.Lengths.{length-string}
 use Rattle.writers.proofs.Lengths.{length-bundle}
 use Rattle.writers.proofs.Classed.{address-range, message-is, bundle-is, elements-is, elements-none}
@@ -33,7 +36,8 @@ module _ {t : List ℕ} {lo hi : ℕ} (o : List ℕ) (r : OutputRoom Any tagText
   comma = set o 0 44
 
   -- there is room for the type tag text
-  pub text-room : (stringLength (1 + length (writeTags (r .forest))) ≤ length o) × (stringLength (1 + length (writeTags (r .forest))) ≤ 65535)
+  pub text-room : (stringLength (1 + length (writeTags (r .forest))) ≤ length o) ×
+      (stringLength (1 + length (writeTags (r .forest))) ≤ longest)
   text-room =
       let e : 1 + length (writeTags (r .forest)) ≡ suc (length (writeTags (r .forest))) = omega arith in
       rw e (rw length-string at (r .fits), rw length-string at (r .few))
@@ -56,7 +60,7 @@ module _ {t : List ℕ} {lo hi : ℕ} (o : List ℕ) (r : OutputRoom Any tagText
     tagged = putMid 1 (length comma - 1) comma p
 
     -- after the tags there is room for the NULs
-    pub tagged-room : (stringLength (1 + n) ≤ length o) × (stringLength (1 + n) ≤ 65535) × (length tagged ≡ length o)
+    pub tagged-room : (stringLength (1 + n) ≤ length o) × (stringLength (1 + n) ≤ longest) × (length tagged ≡ length o)
     tagged-room =
         let c = f (r .forest) (r .spans) in
         rw (c .count) (text-room .0, text-room .1, same-length comma 1 (c .wrote) ∙ simp length-set)
@@ -75,22 +79,25 @@ module _ {t : List ℕ} {lo hi : ℕ} (o : List ℕ) (r : OutputRoom Any tagText
 
 module _ {source t : List ℕ} {at : ℕ} (o : List ℕ) (q : Ready source t at (length o)) where
   -- its record stands before what it contains, and in the table
-  pub before-end : (at < endAt t at) × (at < length t / recordSize)
+  pub before-end : (at < endAt t at) × (at < capacity t)
   before-end =
       let s = spans-size t (at + 1) (endAt t at) (q .room .forest) (q .room .spans) in
       (omega arith, omega (arith, q .room .table))
 
 -- ---- a message
 
-module _ {source t : List ℕ} {at : ℕ} (o : List ℕ) (y : kindAt t at ≡ 47) (q : Ready source t at (length o))
-    {end a b : ℕ} (e : end ≡ endAt t at) (u : a ≡ aAt t at) (v : b ≡ bAt t at) where
-  message-bytes : (F : Forest) → packetAt source t at F ≡ oscString (part source a b) ++ (tagText F ++ writeData source F)
+module _ {source t : List ℕ} {at : ℕ} (o : List ℕ) (y : kindAt t at ≡ messageKind) (q : Ready source t at (length o))
+    {end : ℕ} {item : Item} (e : end ≡ endAt t at) (u : item ≡ itemAt t at) where
+  message-bytes : (F : Forest) → packetAt source t at F ≡ oscString (part source (item .a) (item .b)) ++ (tagText F ++ writeData source F)
   unfolding writeMessage
-  message-bytes F = rw (u, v) (message-is source (itemAt t at) F y)
+  message-bytes F = rw u (message-is source (itemAt t at) F y)
 
-  message-room : (length (oscString (part source a b)) + length (tagText (q .room .forest)) + length (writeData source (q .room .forest)) ≤
-      length o)
-      × (length (oscString (part source a b)) + length (tagText (q .room .forest)) + length (writeData source (q .room .forest)) ≤ 65535)
+  -- how long the message is
+  abbrev message-length : ℕ
+  message-length =
+      length (oscString (part source (item .a) (item .b))) + length (tagText (q .room .forest)) + length (writeData source (q .room .forest))
+
+  message-room : (message-length ≤ length o) × (message-length ≤ longest)
   message-room =
       let l = simp length-append at (ap length (message-bytes (q .room .forest))) in
       (omega (arith, q .room .fits), omega (arith, q .room .few))
@@ -102,14 +109,14 @@ module _ {source t : List ℕ} {at : ℕ} (o : List ℕ) (y : kindAt t at ≡ 47
   table-room = rw e (q .room .table)
 
   -- the address's range lies in the source
-  pub address-asked : a + b ≤ length source
-  address-asked = rw (u, v) (address-range source (itemAt t at) (q .range) y)
+  pub address-asked : item .a + item .b ≤ length source
+  address-asked = rw u (address-range source (itemAt t at) (q .range) y)
 
   -- there is room for the address
-  pub address-fits : length (oscString (part source a b)) ≤ length o
+  pub address-fits : length (oscString (part source (item .a) (item .b))) ≤ length o
   address-fits = omega (arith, message-room)
 
-  module _ {o₁ : List ℕ} {k : ℕ} (f₁ : Filled (oscString (part source a b)) o o₁ k) where
+  module _ {o₁ : List ℕ} {k : ℕ} (f₁ : Filled (oscString (part source (item .a) (item .b))) o o₁ k) where
     -- after the address there is room for the type tag text
     pub text-asked : OutputRoom Any tagText t (at + 1) end (length (midOf k (length o₁ - k) o₁))
     text-asked =
@@ -127,11 +134,11 @@ module _ {source t : List ℕ} {at : ℕ} (o : List ℕ) (y : kindAt t at ≡ 47
       abbrev headed : List ℕ
       headed = putMid k (length o₁ - k) o₁ p
 
-      headed-filled : Filled (oscString (part source a b) ++ tagText (q .room .forest)) o headed (k + m)
+      headed-filled : Filled (oscString (part source (item .a) (item .b)) ++ tagText (q .room .forest)) o headed (k + m)
       headed-filled = filled-lent f₁ (f₂ (q .room .forest) inside-spans)
 
       -- address and type tag text fit the output
-      pub head-room : (k + m ≤ length headed) × (k + m ≤ 65535)
+      pub head-room : (k + m ≤ length headed) × (k + m ≤ longest)
       head-room =
           let l = simp length-append at (headed-filled .count) in
           (omega (arith, message-room, filled-length headed-filled), omega (arith, message-room))
@@ -149,44 +156,44 @@ module _ {source t : List ℕ} {at : ℕ} (o : List ℕ) (y : kindAt t at ≡ 47
             table = table-room;
           }
 
-      module _ {p′ : List ℕ} {d : ℕ} (f₃ : WritesRow (writeData source) t (at + 1) end (midOf (k + m) (length headed - (k + m)) headed) p′ d) where
+      module _ {p′ : List ℕ} {d : ℕ}
+          (f₃ : WritesRow (writeData source) t (at + 1) end (midOf (k + m) (length headed - (k + m)) headed) p′ d) where
         -- with the data the message is no longer than a packet may be
-        pub message-end : k + m + d ≤ 65535
+        pub message-end : k + m + d ≤ longest
         message-end =
             let l = simp length-append at (headed-filled .count) in
             let c = f₃ (q .room .forest) inside-spans .count in
             omega (arith, message-room)
 
         -- address, type tag text and data are the message
-        pub message-filled : WritesRow (packetAt source t at) t (at + 1) (endAt t at) o (putMid (k + m) (length headed - (k + m)) headed p′)
-            (k + m + d)
+        pub message-filled : WritesPacket source t at o (putMid (k + m) (length headed - (k + m)) headed p′) (k + m + d)
         message-filled F s =
             let s′ : Spans t (at + 1) end F = rw e s in
             rw (message-bytes F) (simp append-assoc at (filled-lent (filled-lent f₁ (f₂ F s′)) (f₃ F s′)))
 
 -- ---- a bundle
 
-module _ {source t : List ℕ} {at : ℕ} (o : List ℕ) (n : kindAt t at ≡ 47 → ⊥) (q : Ready source t at (length o))
-    {end a b : ℕ} (e : end ≡ endAt t at) (u : a ≡ aAt t at) (v : b ≡ bAt t at) where
-  bundle-bytes : (F : Forest) → packetAt source t at F ≡ writeBundle a b [] ++ writeElements source F
-  bundle-bytes F = rw (u, v) (bundle-is source (itemAt t at) F n)
+module _ {source t : List ℕ} {at : ℕ} (o : List ℕ) (n : kindAt t at ≡ messageKind → ⊥) (q : Ready source t at (length o))
+    {end : ℕ} {item : Item} (e : end ≡ endAt t at) (u : item ≡ itemAt t at) where
+  bundle-bytes : (F : Forest) → packetAt source t at F ≡ writeBundle item [] ++ writeElements source F
+  bundle-bytes F = rw u (bundle-is source (itemAt t at) F n)
 
   -- there is room for the bundle's head
-  pub head-asked : 16 ≤ length o
+  pub head-asked : bundleHead ≤ length o
   head-asked =
       omega (arith, q .room .fits, simp (length-append, length-bundle) at (ap length (bundle-bytes (q .room .forest))))
 
-  module _ {o₁ : List ℕ} {k : ℕ} (f : Filled (writeBundle a b []) o o₁ k) where
+  module _ {o₁ : List ℕ} {k : ℕ} (f : Filled (writeBundle item []) o o₁ k) where
     -- after the head all elements are left to write
     pub bundle-begun : Going (Sound source) (packetAt source t at) (writeElements source) t (at + 1) end o₁ o₁ (at + 1) k
     bundle-begun =
         let room : OutputRoom (Sound source) (packetAt source t at) t (at + 1) end (length o₁) = rw (e, filled-length f) (q .room) in
-        begun room (writeBundle a b []) (bundle-bytes (room .forest)) (written-again f)
+        begun room (writeBundle item []) (bundle-bytes (room .forest)) (written-again f)
 
     -- where no element is left, the bundle is written
     pub bundle-ended : {o₂ : List ℕ} {next n : ℕ}
         → Going (Sound source) (packetAt source t at) (writeElements source) t (at + 1) end o₁ o₂ next n
-        → end ≤ next → WritesRow (packetAt source t at) t (at + 1) (endAt t at) o o₂ n
+        → end ≤ next → WritesPacket source t at o o₂ n
     bundle-ended w h F s =
         let b = ended w (elements-none source) h F (rw e s) in
         rw (bundle-bytes F) (written-from (writeElements source F) f (rw (bundle-bytes F) at b))
@@ -195,13 +202,14 @@ module _ {source t : List ℕ} {at : ℕ} (o : List ℕ) (n : kindAt t at ≡ 47
 
 module _ {source t : List ℕ} {g : Forest → List ℕ} {lo hi : ℕ} {o₀ o : List ℕ} {at k : ℕ}
     (w : Going (Sound source) g (writeElements source) t lo hi o₀ o at k) (h : at < hi) where
-  element-left : writeElements source (w .rest) ≡ writeElement (packetAt source t at (next w h .inside)) ++ writeElements source (next w h .rest)
+  element-left : writeElements source (w .rest)
+      ≡ writeElement (packetAt source t at (next w h .inside)) ++ writeElements source (next w h .rest)
   element-left = ap (writeElements source) (next w h .is)
       ∙ elements-is (itemAt t at) (next w h .inside) (next w h .rest) source
 
   -- there is room for the next element
   pub element-room : (k + 4 + length (packetAt source t at (next w h .inside)) ≤ length o) ×
-      (k + 4 + length (packetAt source t at (next w h .inside)) ≤ 65535)
+      (k + 4 + length (packetAt source t at (next w h .inside)) ≤ longest)
   element-room =
       let l = simp (length-append, length-bytes) at (ap length element-left) in
       (omega (arith, room-left w, filled-length (w .filled)), omega (arith, room-left w))
@@ -221,7 +229,7 @@ module _ {source t : List ℕ} {g : Forest → List ℕ} {lo hi : ℕ} {o₀ o :
         range = obeyed w h .range;
       }
 
-  module _ {p : List ℕ} {n : ℕ} (f : WritesRow (packetAt source t at) t (at + 1) (endAt t at) (midOf (k + 4) (length o - (k + 4)) o) p n) where
+  module _ {p : List ℕ} {n : ℕ} (f : WritesPacket source t at (midOf (k + 4) (length o - (k + 4)) o) p n) where
     -- the output with the packet behind the gap for its size
     abbrev placed : List ℕ
     placed = putMid (k + 4) (length o - (k + 4)) o p
@@ -230,7 +238,7 @@ module _ {source t : List ℕ} {g : Forest → List ℕ} {lo hi : ℕ} {o₀ o :
     inside-filled = f (next w h .inside) (next w h .in-spans)
 
     -- with its packet the output is no longer than a packet may be
-    pub packet-after : (k + 4 + n ≤ length placed) × (k + 4 + n ≤ 65535)
+    pub packet-after : (k + 4 + n ≤ length placed) × (k + 4 + n ≤ longest)
     packet-after = (
       omega (arith, element-room, inside-filled .count, same-length o (k + 4) (inside-filled .wrote)),
       omega

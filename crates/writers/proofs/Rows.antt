@@ -5,11 +5,13 @@ use Prim.Native.Nat.{ℕ, _+_, _-_, _*_, _≤_, _<_}
 use native.Mathlib.Omega.{arith}
 use lib.ListN.{length, set, length-append, length-set}
 use borrow.Rule.Slice.PartMut.{midOf, putMid}
+use Rattle.wire.specs.Limits.{longest}
 use Rattle.wire.specs.Wrote.{Filled}
 use Rattle.wire.proofs.Parts.{length-lent}
 use Rattle.wire.proofs.Writers.{wrote-none, filled-length, filled-set, filled-lent, same-length}
 use Rattle.node.specs.Forest.{Forest, nil}
-use Rattle.node.specs.Records.{recordSize, kindAt, endAt}
+use Rattle.node.specs.Tags.{arrayKind}
+use Rattle.node.specs.Records.{recordSize, kindAt, endAt, itemAt}
 use Rattle.table.specs.Tree.{Spans}
 use Rattle.table.proofs.Spanned.{Cut, Parts, cut, cut-parts, no-more, spans-unique}
 use Rattle.writers.specs.Osc.{writeTags}
@@ -27,7 +29,7 @@ pub record Going (P : Forest → Type 0) (g f : Forest → List ℕ) (t : List �
   pub splits : g whole ≡ done ++ f rest
   pub filled : Filled done o₀ o k
   pub fits : length (g whole) ≤ length o₀
-  pub few : length (g whole) ≤ 65535
+  pub few : length (g whole) ≤ longest
   pub table : recordSize * hi ≤ length t
   pub passed : lo ≤ at
 
@@ -67,7 +69,7 @@ module _ {P : Forest → Type 0} {g f : Forest → List ℕ} {t : List ℕ} {lo 
       rw d (w .filled)
 
   -- what is left has room
-  pub room-left : (k + length (f (w .rest)) ≤ length o₀) × (k + length (f (w .rest)) ≤ 65535)
+  pub room-left : (k + length (f (w .rest)) ≤ length o₀) × (k + length (f (w .rest)) ≤ longest)
   room-left =
       let l : length (g (w .whole)) ≡ length (w .done) + length (f (w .rest)) = ap length (w .splits) ∙ simp length-append in
       (omega (arith, w .filled .count, w .fits), omega (arith, w .filled .count, w .few))
@@ -108,25 +110,26 @@ obeyed {source} w h = cut-parts (next w h) source (w .holds .container) (w .hold
 -- ---- a turn of the tags' loop
 
 module _ {t : List ℕ} {lo hi : ℕ} {o₀ o : List ℕ} {at k : ℕ} (w : Going Any writeTags writeTags t lo hi o₀ o at k) (h : at < hi) where
-  leaf-is : (kindAt t at ≡ 91 → ⊥) → writeTags (w .rest) ≡ (kindAt t at ∷ []) ++ writeTags (next w h .rest)
+  leaf-is : (kindAt t at ≡ arrayKind → ⊥) → writeTags (w .rest) ≡ (kindAt t at ∷ []) ++ writeTags (next w h .rest)
   leaf-is n = ap writeTags (next w h .is) ∙ tags-leaf (itemAt t at) (next w h .inside) (next w h .rest) n
 
-  array-is : kindAt t at ≡ 91 → writeTags (w .rest) ≡ (kindAt t at ∷ (writeTags (next w h .inside) ++ (93 ∷ []))) ++ writeTags (next w h .rest)
+  array-is : kindAt t at ≡ arrayKind
+      → writeTags (w .rest) ≡ (kindAt t at ∷ (writeTags (next w h .inside) ++ (93 ∷ []))) ++ writeTags (next w h .rest)
   array-is y = ap writeTags (next w h .is) ∙ tags-array (itemAt t at) (next w h .inside) (next w h .rest) y
 
   -- there is room for a tag
-  pub tag-room : (k + 1 ≤ length o₀) × (k + 1 ≤ 65535)
+  pub tag-room : (k + 1 ≤ length o₀) × (k + 1 ≤ longest)
   tag-room =
       let l : 1 ≤ length (writeTags (w .rest)) = rw (next w h .is)
       (tags-some (itemAt t at) (next w h .inside) (next w h .rest)) in
       (omega (arith, room-left w), omega (arith, room-left w))
 
-  array-length : kindAt t at ≡ 91 → 2 + length (writeTags (next w h .inside)) ≤ length (writeTags (w .rest))
+  array-length : kindAt t at ≡ arrayKind → 2 + length (writeTags (next w h .inside)) ≤ length (writeTags (w .rest))
   array-length y = omega (arith, simp length-append at (ap length (array-is y)))
 
   module _ {kind end : ℕ} (e : kind ≡ kindAt t at) (e′ : end ≡ endAt t at) where
     -- an argument that is no array is passed with its tag
-    pub tags-leaf-gone : (kind ≡ 91 → ⊥) → Going Any writeTags writeTags t lo hi o₀ (set o k kind) end (k + 1)
+    pub tags-leaf-gone : (kind ≡ arrayKind → ⊥) → Going Any writeTags writeTags t lo hi o₀ (set o k kind) end (k + 1)
     tags-leaf-gone n = rw (e, e′)
         (gone w h (kindAt t at ∷ []) (leaf-is (rw e at n)) tt (filled-set (kindAt t at) (w .filled) (omega (arith, tag-room))))
 
@@ -138,7 +141,8 @@ module _ {t : List ℕ} {lo hi : ℕ} {o₀ o : List ℕ} {at k : ℕ} (w : Goin
     opened-length = simp length-set (filled-length (w .filled))
 
     -- what an array contains has room after it
-    pub tags-inside : kind ≡ 91 → OutputRoom Any writeTags t (at + 1) end (length (midOf (k + 1) (length opened - (k + 1)) opened))
+    pub tags-inside : kind ≡ arrayKind
+        → OutputRoom Any writeTags t (at + 1) end (length (midOf (k + 1) (length opened - (k + 1)) opened))
     tags-inside y =
         let m = array-length (rw e at y) in
         record {
@@ -151,21 +155,21 @@ module _ {t : List ℕ} {lo hi : ℕ} {o₀ o : List ℕ} {at k : ℕ} (w : Goin
         }
 
     -- and then there is room for the closing bracket
-    module _ (y : kind ≡ 91) {p : List ℕ} {n : ℕ} (f : WritesRow writeTags t (at + 1) end (midOf (k + 1) (length opened - (k + 1)) opened) p n)
-      where
+    module _ (y : kind ≡ arrayKind) {p : List ℕ} {n : ℕ}
+      (f : WritesRow writeTags t (at + 1) end (midOf (k + 1) (length opened - (k + 1)) opened) p n) where
         inside-filled : Filled (writeTags (next w h .inside)) (midOf (k + 1) (length opened - (k + 1)) opened) p n
         inside-filled = f (next w h .inside) (rw e′ (next w h .in-spans))
 
         -- it fits the output
-        pub close-room : (k + 1 + n + 1 ≤ length (putMid (k + 1) (length opened - (k + 1)) opened p)) × (k + 1 + n + 1 ≤ 65535)
+        pub close-room : (k + 1 + n + 1 ≤ length (putMid (k + 1) (length opened - (k + 1)) opened p)) × (k + 1 + n + 1 ≤ longest)
         close-room =
             let m = array-length (rw e at y) in
             let c = inside-filled .count in
             (omega (arith, room-left w, opened-length, same-length opened (k + 1) (inside-filled .wrote)), omega (arith, room-left w))
 
         -- an array is passed with its closing bracket
-        pub tags-array-gone : Going Any writeTags writeTags t lo hi o₀ (set (putMid (k + 1) (length opened - (k + 1)) opened p) (k + 1 + n) 93)
-            end (k + 1 + n + 1)
+        pub tags-array-gone : Going Any writeTags writeTags t lo hi o₀
+            (set (putMid (k + 1) (length opened - (k + 1)) opened p) (k + 1 + n) 93) end (k + 1 + n + 1)
         tags-array-gone =
             let l = same-length opened (k + 1) (inside-filled .wrote) in
             let f₁ = filled-set kind (w .filled) (omega (arith, tag-room)) in

@@ -2,13 +2,14 @@
 use mathlib.Core.Path.{_≡_, sym, ap, _∙_}
 use Prim.Native.Nat.{_+_, _-_, _≤_}
 use native.Mathlib.Omega.{arith}
+use Rattle.writers.specs.CodeWriters.{longestElement}
 use Rattle.lengths.specs.CodeLengths.{sumTo, elementLength}
 use Rattle.lengths.proofs.Sums.{sum-none, sum-more, sum-up}
 use Rattle.lengths.proofs.packet_length.Statement.{statement}
 use Rattle.lengths.proofs.packet_length.Tie as tie
 
 abbrev Inv-loop : tie.InvT-loop
-Inv-loop table count total₀ at₀ total at = (at ≤ count) × (total ≡ sumTo (elementLength table) at) × (total ≤ 65539)
+Inv-loop table count total₀ at₀ total at = (at ≤ count) × (total ≡ sumTo (elementLength table) at) × (total ≤ longestElement)
 
 abbrev μ-loop : tie.MeasureT-loop
 μ-loop table count total₀ at₀ total at = count - at
@@ -18,7 +19,7 @@ loop-holds c = (omega arith, sym (sum-none (elementLength (c .before .args .tabl
 
 element-length-requires : tie.Need-element-length-requires Inv-loop μ-loop
 element-length-requires c κs =
-    let q = c .before .before .before .pre .1 (c .before .loop .at) (c .loop-test .taken) in (q .0, omega arith, omega arith)
+    let q = c .before .before .before .pre .1 (c .before .loop .at) (c .loop-test .taken) in record { on = q .0; low = omega arith; table = omega arith }
 
 add-total : tie.Need-add-total Inv-loop μ-loop
 add-total c = omega (arith, c .element-length .ensures .1)

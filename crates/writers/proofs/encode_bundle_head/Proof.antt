@@ -12,7 +12,7 @@ unfolding writeBundle
 returns c =
     let p2 = c .before .before in
     let p6 = p2 .before .before .before .before in
-    rw append-nil (filled-lent (record { count = refl; wrote = p6 .write .ensures }) (p2 .encode-pair-into .ensures))
+    rw append-nil (filled-lent (record { count = refl; wrote = p6 .copy .ensures }) (p2 .encode-pair-into .ensures))
 
 pub encode-bundle-head-spec : {M : Type 1} → statement M
 encode-bundle-head-spec =
