@@ -7,15 +7,18 @@ use Prim.Native.Nat.{ℕ, _+_, _≤_, _<_}
 use lib.Dec.{eqb, leb, ltb}
 use lib.ListN.{length}
 use Rattle.node.specs.Forest.{Forest, nil, node, level, depth}
-use Rattle.node.specs.Tags.{sortOf}
-use Rattle.node.specs.Records.{kindAt, zerosAt, endAt, aAt, bAt}
+use Rattle.node.specs.Tags.{sortOf, messageKind, bundleKind}
+use Rattle.node.specs.Records.{kindAt, zerosAt, endAt, aAt, bAt, itemAt}
 use Rattle.node.specs.Rules.{leafRules, ownRules}
 use Rattle.node.specs.declared.tags.Class.{Class}
 use Rattle.node.specs.declared.tags.Class.the-variants.{Four, Eight, Bare, Text, Blob, Scalar, Unknown}
-use Rattle.table.specs.Formed.{inside, textOk, rangeOk, allowed}
+use Rattle.wire.specs.Part.{inside}
+use Rattle.table.specs.Formed.{textOk, rangeOk, allowed}
 use Rattle.table.specs.Tree.{Spans, Obeys, IsTree}
 use Rattle.writers.specs.Osc.{writeTags, writeData, writeMessage, writeElements}
 use Rattle.writers.specs.CodeWriters.{packetAt}
+use Rattle.wire.specs.Limits.{deepest}
+use Rattle.node.specs.declared.record.Item.{Item}
 use Rattle.lengths.specs.CodeLengths.{tagLength, dataLength}
 
 -- record `at` has its three zeros, and ends after itself and no later than hi ("The node table")
@@ -23,18 +26,18 @@ abbrev pub placed : List ℕ → ℕ → ℕ → Bool
 placed t at hi = cond (eqb (zerosAt t at) 0) (cond (ltb at (endAt t at)) (leb (endAt t at) hi) false) false
 
 -- the range of an argument that is no array is right ("The node table"); a class without a range passes
-abbrev pub leafRange : List ℕ → Class → ℕ → ℕ → Bool
-leafRange source Four a b = true
-leafRange source Eight a b = true
-leafRange source Bare a b = true
-leafRange source Text a b = textOk source a b
-leafRange source Blob a b = inside source a b
-leafRange source Scalar a b = true
-leafRange source Unknown a b = true
+abbrev pub leafRange : List ℕ → Class → Item → Bool
+leafRange source Four item = true
+leafRange source Eight item = true
+leafRange source Bare item = true
+leafRange source Text item = textOk source (item .a) (item .b)
+leafRange source Blob item = inside source (item .a) (item .b)
+leafRange source Scalar item = true
+leafRange source Unknown item = true
 
 -- an argument that is no array obeys its own rules and its range's ("The node table", the rules for a well-formed table)
-abbrev pub leafOk : List ℕ → Class → ℕ → ℕ → Bool
-leafOk source class a b = cond (leafRules class a b) (leafRange source class a b) false
+abbrev pub leafOk : List ℕ → Class → Item → Bool
+leafOk source class item = cond (leafRules class item) (leafRange source class item) false
 
 -- the records lo to hi - 1 are a forest that obeys the rules of a container, and have their zeros ("The node table")
 pub record SurveyedRow (t source : List ℕ) (container lo hi : ℕ) (F : Forest) : Type 0 where
@@ -52,35 +55,35 @@ pub record SurveyedNode (t source : List ℕ) (container at : ℕ) (inside : For
 -- record `at` is an argument, with so many tags and so many bytes of data in it ("How bytes are written": arrays have brackets)
 pub record SurveyedArgument (t source : List ℕ) (at tags content : ℕ) : Type 0 where
   pub inside : Forest
-  pub stands : SurveyedNode t source 47 at inside
+  pub stands : SurveyedNode t source messageKind at inside
   pub tagged : tagLength (sortOf (kindAt t at)) + length (writeTags inside) ≡ tags
   pub sized : dataLength (sortOf (kindAt t at)) (bAt t at) + length (writeData source inside) ≡ content
 
 -- the records lo to hi - 1 are arguments, with so many tags and so many bytes of data
 pub record SurveyedArguments (t source : List ℕ) (lo hi tags content : ℕ) : Type 0 where
   pub forest : Forest
-  pub found : SurveyedRow t source 47 lo hi forest
+  pub found : SurveyedRow t source messageKind lo hi forest
   pub tagged : length (writeTags forest) ≡ tags
   pub sized : length (writeData source forest) ≡ content
 
 -- record `at` is a message's, which is n bytes long as it is written
 pub record SurveyedMessage (t source : List ℕ) (at n : ℕ) : Type 0 where
   pub forest : Forest
-  pub found : SurveyedRow t source 47 (at + 1) (endAt t at) forest
+  pub found : SurveyedRow t source messageKind (at + 1) (endAt t at) forest
   pub range : textOk source (aAt t at) (bAt t at) ≡ true
-  pub sized : length (writeMessage source (aAt t at) (bAt t at) forest) ≡ n
+  pub sized : length (writeMessage source (itemAt t at) forest) ≡ n
 
 -- record `at` is a packet, whose bundles are nested no deeper than `levels`, and n bytes long as an element, its size counted
 pub record SurveyedPacket (t source : List ℕ) (at levels n : ℕ) : Type 0 where
   pub inside : Forest
-  pub stands : SurveyedNode t source 35 at inside
+  pub stands : SurveyedNode t source bundleKind at inside
   pub shallow : level (kindAt t at) (depth inside) ≤ levels
   pub sized : 4 + length (packetAt source t at inside) ≡ n
 
 -- the records lo to hi - 1 are packets, whose bundles are nested no deeper than `levels`, and n bytes long as elements
 pub record SurveyedPackets (t source : List ℕ) (lo hi levels n : ℕ) : Type 0 where
   pub forest : Forest
-  pub found : SurveyedRow t source 35 lo hi forest
+  pub found : SurveyedRow t source bundleKind lo hi forest
   pub shallow : depth forest ≤ levels
   pub sized : length (writeElements source forest) ≡ n
 
@@ -88,5 +91,5 @@ pub record SurveyedPackets (t source : List ℕ) (lo hi levels n : ℕ) : Type 0
 pub record Surveyed (t : List ℕ) (count : ℕ) (source : List ℕ) (n : ℕ) : Type 0 where
   pub inside : Forest
   pub tree : IsTree t count source (itemAt t 0) inside
-  pub shallow : depth (node (itemAt t 0) inside nil) ≤ 64
+  pub shallow : depth (node (itemAt t 0) inside nil) ≤ deepest
   pub sized : 4 + length (packetAt source t 0 inside) ≡ n
