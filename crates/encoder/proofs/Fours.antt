@@ -13,17 +13,21 @@ use Rattle.utf8.specs.Derive.{utf8}
 use Rattle.node.specs.Forest.{Forest, nil, node, depth}
 use Rattle.strings.specs.Atomic.{oscString}
 use Rattle.writers.specs.Osc.{writePacket}
-use Rattle.encoder.specs.Outcome.{Outcome, refuse, bytesOutcome, unframed, prefixed, treeOutcome, Encodes, malformed, formed, stringOutcome}
+use Rattle.encoder.specs.Outcome.{Outcome, refuse, bytesOutcome, unframed, prefixed, treeOutcome, stringOutcome}
+use Rattle.encoder.specs.Outcome.{Encodes, malformed, formed}
 use Rattle.encoder.specs.declared.Encoded.the-variants.{Written}
 use Rattle.strings.proofs.Lengths.{string-even}
 use Rattle.writers.proofs.Lengths.{packet-even, element-even}
+use Rattle.node.specs.Tags.{messageKind}
+use Rattle.wire.specs.Limits.{longest, deepest}
+use Rattle.node.specs.declared.record.Item.{Item}
 use Rattle.wire.proofs.Choices.{by-test}
 
 -- what `encode_tcp` writes is a multiple of four bytes long
-pub prefixed-even : (source : List ℕ) (kind a b : ℕ) (inside : Forest) → length (prefixed kind (writePacket source kind a b inside)) % 4 ≡ 0
-prefixed-even source kind a b inside =
-    let e = packet-even source kind a b inside in
-    by-test (λ (bs : List ℕ). length bs % 4 ≡ 0) (eqb kind 47) (λ _. element-even (writePacket source kind a b inside) e) (λ _. e)
+pub prefixed-even : (source : List ℕ) (item : Item) (inside : Forest) → length (prefixed (item .kind) (writePacket source item inside)) % 4 ≡ 0
+prefixed-even source item inside =
+    let e = packet-even source item inside in
+    by-test (λ (bs : List ℕ). length bs % 4 ≡ 0) (eqb (item .kind) messageKind) (λ _. element-even (writePacket source item inside) e) (λ _. e)
 
 -- an outcome that answers a count answers a multiple of four
 abbrev Even : Outcome → Type 0
@@ -40,20 +44,20 @@ write-even : (bs out : List ℕ) → length bs % 4 ≡ 0 → Even (bytesOutcome 
 unfolding bytesOutcome
 write-even bs out h =
     let done : Outcome = record { answer = Written (length bs); out = bs ++ drop (length bs) out } in
-    cond-even (leb (length bs) 65535) (cond (leb (length bs) (length out)) done (refuse OutputShort out)) (refuse TooLong out)
+    cond-even (leb (length bs) longest) (cond (leb (length bs) (length out)) done (refuse OutputShort out)) (refuse TooLong out)
     (cond-even (leb (length bs) (length out)) done (refuse OutputShort out) (λ n e. let q : length bs ≡ n = cc in rw (← q) h)
     (refuse-even OutputShort out))
     (refuse-even TooLong out)
 
 encodes-even : (frame : ℕ → List ℕ → List ℕ)
-    → ((source : List ℕ) (kind a b : ℕ) (inside : Forest) → length (frame kind (writePacket source kind a b inside)) % 4 ≡ 0)
+    → ((source : List ℕ) (item : Item) (inside : Forest) → length (frame (item .kind) (writePacket source item inside)) % 4 ≡ 0)
     → (t : List ℕ) (count : ℕ) (source out : List ℕ) (r : Outcome) → Encodes frame t count source out r → Even r
 unfolding treeOutcome
 encodes-even frame h t count source out r (malformed n e) = rw e (refuse-even BadTable out)
-encodes-even frame h t count source out r (formed k a b inside tree e) =
+encodes-even frame h t count source out r (formed item inside tree e) =
     rw e
-    (cond-even (leb (depth (node item inside nil)) 64) (bytesOutcome (frame k (writePacket source k a b inside)) out) (refuse TooDeep out)
-    (write-even (frame k (writePacket source k a b inside)) out (h source k a b inside))
+    (cond-even (leb (depth (node item inside nil)) deepest) (bytesOutcome (frame (item .kind) (writePacket source item inside)) out) (refuse TooDeep out)
+    (write-even (frame (item .kind) (writePacket source item inside)) out (h source item inside))
     (refuse-even TooDeep out))
 
 -- `encode` answers a multiple of four

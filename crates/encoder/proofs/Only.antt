@@ -11,11 +11,11 @@ use Rattle.encoder.specs.Outcome.{Outcome, unframed, prefixed, treeOutco
 encodes-only : (frame : ℕ → List ℕ → List ℕ) (t : List ℕ) (count : ℕ) (source out : List ℕ) (r s : Outcome)
     → Encodes frame t count source out r → Encodes frame t count source out s → r ≡ s
 encodes-only frame t count source out r s (malformed n e) (malformed m f) = one-outcome e f
-encodes-only frame t count source out r s (malformed n e) (formed k a b inside tree f) = absurd (n (tree-formed tree))
-encodes-only frame t count source out r s (formed k a b inside tree e) (malformed n f) = absurd (n (tree-formed tree))
-encodes-only frame t count source out r s (formed k a b inside tree e) (formed k′ a′ b′ inside′ tree′ f) =
+encodes-only frame t count source out r s (malformed n e) (formed item inside tree f) = absurd (n (tree-formed tree))
+encodes-only frame t count source out r s (formed item inside tree e) (malformed n f) = absurd (n (tree-formed tree))
+encodes-only frame t count source out r s (formed item inside tree e) (formed item′ inside′ tree′ f) =
     let u : node item inside nil ≡ node item′ inside′ nil = tree-unique t 0 count _ _ (tree .spans) (tree′ .spans) in
-    let v : treeOutcome frame source out k a b inside ≡ treeOutcome frame source out k′ a′ b′ inside′ = cc in
+    let v : treeOutcome frame source out item inside ≡ treeOutcome frame source out item′ inside′ = cc in
     e ∙ v ∙ sym f
 
 -- `encode` has one outcome

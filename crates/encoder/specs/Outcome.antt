@@ -15,6 +15,9 @@ use Rattle.table.specs.Tree.{IsTree}
 use Rattle.strings.specs.Atomic.{oscString}
 use Rattle.writers.specs.Osc.{writeElement, writePacket}
 use Rattle.encoder.specs.declared.Encoded.{Encoded}
+use Rattle.node.specs.Tags.{messageKind}
+use Rattle.wire.specs.Limits.{longest, deepest}
+use Rattle.node.specs.declared.record.Item.{Item}
 use Rattle.encoder.specs.declared.Encoded.the-variants.{Written, Refused}
 
 -- an answer, and what the output then holds
@@ -29,7 +32,7 @@ refuse r out = record { answer = Refused r; out = out }
 -- these bytes over the output's first ones: 1 where they are over 65,535, then 12 where the output is shorter; later bytes are unchanged
 unfoldable pub bytesOutcome : List ℕ → List ℕ → Outcome
 bytesOutcome bs out =
-    cond (leb (length bs) 65535)
+    cond (leb (length bs) longest)
     (cond (leb (length bs) (length out)) (record { answer = Written (length bs); out = bs ++ drop (length bs) out })
     (refuse OutputShort out))
     (refuse TooLong out)
@@ -40,17 +43,19 @@ unframed kind bs = bs
 
 -- as `encode_tcp` frames it: a length before a message and none before a bundle
 abbrev pub prefixed : ℕ → List ℕ → List ℕ
-prefixed kind bs = cond (eqb kind 47) (writeElement bs) bs
+prefixed kind bs = cond (eqb kind messageKind) (writeElement bs) bs
 
 -- what the encoder gives for a tree: 9 (limit 64) before 1 and 12
-unfoldable pub treeOutcome : (ℕ → List ℕ → List ℕ) → List ℕ → List ℕ → ℕ → ℕ → ℕ → Forest → Outcome
-treeOutcome frame source out kind a b inside =
-    cond (leb (depth (node item inside nil)) 64) (bytesOutcome (frame kind (writePacket source kind a b inside)) out) (refuse TooDeep out)
+unfoldable pub treeOutcome : (ℕ → List ℕ → List ℕ) → List ℕ → List ℕ → Item → Forest → Outcome
+treeOutcome frame source out item inside =
+    cond (leb (depth (node item inside nil)) deepest)
+    (bytesOutcome (frame (item .kind) (writePacket source item inside)) out)
+    (refuse TooDeep out)
 
 -- the outcome of an encoder: 11 for a table that is not well formed; else what its tree gives
 pub data Encodes (frame : ℕ → List ℕ → List ℕ) (t : List ℕ) (count : ℕ) (source out : List ℕ) (r : Outcome) : Type 0 where
   malformed : (WellFormed t count source → ⊥) → r ≡ refuse BadTable out → Encodes frame t count source out r
-  formed : (kind a b : ℕ) (inside : Forest) → IsTree t count source kind a b inside → r ≡ treeOutcome frame source out kind a b inside
+  formed : (item : Item) (inside : Forest) → IsTree t count source item inside → r ≡ treeOutcome frame source out item inside
       → Encodes frame t count source out r
 
 -- the outcome of `encode_string`: 4, then 1, then 12

@@ -68,7 +68,7 @@ no-message : (container k : ℕ) → (container ≡ bundleKind → ⊥) → allo
 no-message container k n a e = true≢false (sym (ap isPacket e) ∙ no-packet container k n a)
 
 -- in a bundle, what is no message is a bundle
-other-bundle : (k : ℕ) → (k ≡ messageKind → ⊥) → allowed bundleKind k ≡ true → k ≡ 35
+other-bundle : (k : ℕ) → (k ≡ messageKind → ⊥) → allowed bundleKind k ≡ true → k ≡ bundleKind
 unfolding allowed
 other-bundle k n a = ⊎-elim (λ e. e) (λ m. absurd (false≢true (rw (ne-eqb k bundleKind m, ne-eqb k messageKind n) at a))) (is-or k bundleKind)
 
@@ -202,7 +202,7 @@ message-adds source t at F y s o r =
     let m = message-sum source t at F s (rw y at o) (address-range source (itemAt t at) r y) in
     rw (eq-eqb (kindAt t at) messageKind y) (omega (arith, ap length (message-is source (itemAt t at) F y)))
 
-bundle-adds : (source t : List ℕ) (at : ℕ) (F : Forest) → kindAt t at ≡ 35
+bundle-adds : (source t : List ℕ) (at : ℕ) (F : Forest) → kindAt t at ≡ bundleKind
     → elementLength t at + length (writeElements source F) ≡ 4 + length (writePacket source (itemAt t at) F)
 unfolding elementLength
 bundle-adds source t at F y =

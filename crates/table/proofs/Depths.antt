@@ -67,49 +67,49 @@ next-read t hi at G h s =
 -- the kind and the end that were read at `at`
 module _ {t : List ℕ} {hi limit : ℕ} {F : Forest} {at kind end : ℕ} (p : Passed t hi limit F at) (ke : kind ≡ kindAt t at)
     (ee : end ≡ endAt t at) (h : at < hi) where
-    next : Next t hi at (p .rest) kind end
-    next = rw (ke, ee) (next-read t hi at (p .rest) h (p .spans))
+  next : Next t hi at (p .rest) kind end
+  next = rw (ke, ee) (next-read t hi at (p .rest) h (p .spans))
 
-    -- what the next record contains is a row of the table
-    pub next-row : {lo : ℕ} → Row t lo hi → Row t (at + 1) end
-    next-row w = record { forest = next .inside; spans = next .in-spans; table = omega (arith, w .table, next .within) }
+  -- what the next record contains is a row of the table
+  pub next-row : {lo : ℕ} → Row t lo hi → Row t (at + 1) end
+  next-row w = record { forest = next .inside; spans = next .in-spans; table = omega (arith, w .table, next .within) }
 
-    -- the next record ends after itself, and in the row
-    pub next-on : (at < end) × (end ≤ hi)
-    next-on = (next .on, next .within)
+  -- the next record ends after itself, and in the row
+  pub next-on : (at < end) × (end ≤ hi)
+  next-on = (next .on, next .within)
 
-    is-deep : ltb limit (depth F) ≡ ltb limit (max (level kind (depth (next .inside))) (depth (next .rest)))
-    is-deep = p .same ∙ ap (ltb limit) (next .deep)
+  is-deep : ltb limit (depth F) ≡ ltb limit (max (level kind (depth (next .inside))) (depth (next .rest)))
+  is-deep = p .same ∙ ap (ltb limit) (next .deep)
 
-    -- the node is not too deep
-    passed : ((G : Forest) → Spans t (at + 1) end G → level kind (depth G) ≤ limit) → Passed t hi limit F end
-    passed low =
-        record {
-          rest = next .rest;
-          spans = next .rest-spans;
-          same = is-deep ∙ over-right limit (level kind (depth (next .inside))) (depth (next .rest))
-              (low (next .inside) (next .in-spans));
-        }
+  -- the node is not too deep
+  passed : ((G : Forest) → Spans t (at + 1) end G → level kind (depth G) ≤ limit) → Passed t hi limit F end
+  passed low =
+      record {
+        rest = next .rest;
+        spans = next .rest-spans;
+        same = is-deep ∙ over-right limit (level kind (depth (next .inside))) (depth (next .rest))
+            (low (next .inside) (next .in-spans));
+      }
 
-    found : ((G : Forest) → Spans t (at + 1) end G → limit < level kind (depth G)) → true ≡ ltb limit (depth F)
-    found high =
-        sym (is-deep ∙ over-left limit (level kind (depth (next .inside))) (depth (next .rest)) (high (next .inside) (next .in-spans)))
+  found : ((G : Forest) → Spans t (at + 1) end G → limit < level kind (depth G)) → true ≡ ltb limit (depth F)
+  found high =
+      sym (is-deep ∙ over-left limit (level kind (depth (next .inside))) (depth (next .rest)) (high (next .inside) (next .in-spans)))
 
-    -- no bundle
-    pub passed-other : (kind ≡ bundleKind → ⊥) → Passed t hi limit F end
-    passed-other k = passed (λ G s. rw (ne-eqb kind bundleKind k) (omega arith))
+  -- no bundle
+  pub passed-other : (kind ≡ bundleKind → ⊥) → Passed t hi limit F end
+  passed-other k = passed (λ G s. rw (ne-eqb kind bundleKind k) (omega arith))
 
-    -- a bundle, where none may be
-    pub found-here : kind ≡ bundleKind → limit ≡ 0 → true ≡ ltb limit (depth F)
-    found-here k z = found (λ G s. rw k (omega arith))
+  -- a bundle, where none may be
+  pub found-here : kind ≡ bundleKind → limit ≡ 0 → true ≡ ltb limit (depth F)
+  found-here k z = found (λ G s. rw k (omega arith))
 
-    -- a bundle whose elements are one level nearer to the limit
-    module _ (k : kind ≡ bundleKind) (z : limit ≡ 0 → ⊥) {x : Bool}
-        (d : (G : Forest) → Spans t (at + 1) end G → x ≡ ltb (limit - 1) (depth G)) where
-      -- its elements are too deep, so the whole is
-      pub found-inside : x ≡ true → true ≡ ltb limit (depth F)
-      found-inside y = found (λ G s. let l : limit - 1 < depth G = ltb-true (limit - 1) (depth G) (sym (d G s) ∙ y) in rw k (omega arith))
+  -- a bundle whose elements are one level nearer to the limit
+  module _ (k : kind ≡ bundleKind) (z : limit ≡ 0 → ⊥) {x : Bool}
+      (d : (G : Forest) → Spans t (at + 1) end G → x ≡ ltb (limit - 1) (depth G)) where
+    -- its elements are too deep, so the whole is
+    pub found-inside : x ≡ true → true ≡ ltb limit (depth F)
+    found-inside y = found (λ G s. let l : limit - 1 < depth G = ltb-true (limit - 1) (depth G) (sym (d G s) ∙ y) in rw k (omega arith))
 
-      -- its elements are not too deep, so it is passed
-      pub passed-bundle : x ≡ false → Passed t hi limit F end
-      passed-bundle y = passed (λ G s. let l : depth G ≤ limit - 1 = ltb-false (limit - 1) (depth G) (sym (d G s) ∙ y) in rw k (omega arith))
+    -- its elements are not too deep, so it is passed
+    pub passed-bundle : x ≡ false → Passed t hi limit F end
+    passed-bundle y = passed (λ G s. let l : depth G ≤ limit - 1 = ltb-false (limit - 1) (depth G) (sym (d G s) ∙ y) in rw k (omega arith))

@@ -156,24 +156,24 @@ module _ {t : List ℕ} {lo hi : ℕ} {o₀ o : List ℕ} {at k : ℕ} (w : Goin
 
     -- and then there is room for the closing bracket
     module _ (y : kind ≡ arrayKind) {p : List ℕ} {n : ℕ}
-      (f : WritesRow writeTags t (at + 1) end (midOf (k + 1) (length opened - (k + 1)) opened) p n) where
-        inside-filled : Filled (writeTags (next w h .inside)) (midOf (k + 1) (length opened - (k + 1)) opened) p n
-        inside-filled = f (next w h .inside) (rw e′ (next w h .in-spans))
+        (f : WritesRow writeTags t (at + 1) end (midOf (k + 1) (length opened - (k + 1)) opened) p n) where
+      inside-filled : Filled (writeTags (next w h .inside)) (midOf (k + 1) (length opened - (k + 1)) opened) p n
+      inside-filled = f (next w h .inside) (rw e′ (next w h .in-spans))
 
-        -- it fits the output
-        pub close-room : (k + 1 + n + 1 ≤ length (putMid (k + 1) (length opened - (k + 1)) opened p)) × (k + 1 + n + 1 ≤ longest)
-        close-room =
-            let m = array-length (rw e at y) in
-            let c = inside-filled .count in
-            (omega (arith, room-left w, opened-length, same-length opened (k + 1) (inside-filled .wrote)), omega (arith, room-left w))
+      -- it fits the output
+      pub close-room : (k + 1 + n + 1 ≤ length (putMid (k + 1) (length opened - (k + 1)) opened p)) × (k + 1 + n + 1 ≤ longest)
+      close-room =
+          let m = array-length (rw e at y) in
+          let c = inside-filled .count in
+          (omega (arith, room-left w, opened-length, same-length opened (k + 1) (inside-filled .wrote)), omega (arith, room-left w))
 
-        -- an array is passed with its closing bracket
-        pub tags-array-gone : Going Any writeTags writeTags t lo hi o₀
-            (set (putMid (k + 1) (length opened - (k + 1)) opened p) (k + 1 + n) 93) end (k + 1 + n + 1)
-        tags-array-gone =
-            let l = same-length opened (k + 1) (inside-filled .wrote) in
-            let f₁ = filled-set kind (w .filled) (omega (arith, tag-room)) in
-            let f₂ = filled-set 93 (filled-lent f₁ inside-filled) (omega (arith, close-room, l, opened-length)) in
-            let q : writeTags (w .rest) ≡ (kind ∷ (writeTags (next w h .inside) ++ (93 ∷ []))) ++ writeTags (next w h .rest) = rw e
-            (array-is (rw e at y)) in
-            rw e′ (gone w h (kind ∷ (writeTags (next w h .inside) ++ (93 ∷ []))) q tt (simp append-assoc at f₂))
+      -- an array is passed with its closing bracket
+      pub tags-array-gone : Going Any writeTags writeTags t lo hi o₀
+          (set (putMid (k + 1) (length opened - (k + 1)) opened p) (k + 1 + n) 93) end (k + 1 + n + 1)
+      tags-array-gone =
+          let l = same-length opened (k + 1) (inside-filled .wrote) in
+          let f₁ = filled-set kind (w .filled) (omega (arith, tag-room)) in
+          let f₂ = filled-set 93 (filled-lent f₁ inside-filled) (omega (arith, close-room, l, opened-length)) in
+          let q : writeTags (w .rest) ≡ (kind ∷ (writeTags (next w h .inside) ++ (93 ∷ []))) ++ writeTags (next w h .rest) = rw e
+          (array-is (rw e at y)) in
+          rw e′ (gone w h (kind ∷ (writeTags (next w h .inside) ++ (93 ∷ []))) q tt (simp append-assoc at f₂))
