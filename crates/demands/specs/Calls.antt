@@ -14,7 +14,9 @@ use Rattle.values.specs.Look.{lookAt, textNamed}
 use Rattle.values.specs.declared.value.OscType.{OscType}
 use Rattle.values.specs.declared.look.Looked.{Looked}
 use Rattle.values.specs.declared.look.Looked.the-variants as looked
-use Rattle.decoder.specs.Framing.{Whole, udp, tcp, tcpVec}
+use Rattle.decoder.specs.Framing.{Whole, ruleOf}
+use Rattle.decoder.specs.declared.Framing.{Framing}
+use Rattle.decoder.specs.declared.Framing.the-variants.{Udp, Tcp, TcpVec}
 use Rattle.decoder.specs.Limits.{decoded, forestOf, tabled}
 use Rattle.decoder.specs.declared.Decoded.{Decoded}
 use Rattle.decoder.specs.declared.Decoded.the-variants as decodes
@@ -22,11 +24,9 @@ use Rattle.encoder.specs.Outcome.{Encodes, unframed, prefixed, stringOutcome}
 use Rattle.encoder.specs.declared.Encoded.{Encoded}
 use Rattle.encoder.specs.declared.Encoded.the-variants as encodes
 
--- a call of a public entry point and what it is handed: any bytes, any table, any limits
+-- a call of a public entry point and what it is handed: any bytes, any table, any limits; the three decoders by their framing
 pub data Call : Type 0 where
-  decode-udp : (msg table : List ℕ) (depth : ℕ) → Call
-  decode-tcp : (msg table : List ℕ) (depth : ℕ) → Call
-  decode-tcp-vec : (msg table : List ℕ) (depth : ℕ) → Call
+  decode : (framing : Framing) (msg table : List ℕ) (depth : ℕ) → Call
   encode : (table : List ℕ) (count : ℕ) (source out : List ℕ) → Call
   encode-tcp : (table : List ℕ) (count : ℕ) (source out : List ℕ) → Call
   encode-string : (text out : List ℕ) → Call
@@ -36,9 +36,7 @@ pub data Call : Type 0 where
 
 -- the type of its answer
 abbrev pub Answer : Call → Type 0
-Answer (decode-udp msg table depth) = Decoded
-Answer (decode-tcp msg table depth) = Decoded
-Answer (decode-tcp-vec msg table depth) = Decoded
+Answer (decode framing msg table depth) = Decoded
 Answer (encode table count source out) = Encoded
 Answer (encode-tcp table count source out) = Encoded
 Answer (encode-string text out) = Encoded
@@ -48,9 +46,7 @@ Answer (text-of value packet label) = List ℕ
 
 -- the bytes that it is lent by `&mut`: at most one buffer; what is lent by `&` cannot change
 abbrev pub Lent : Call → Type 0
-Lent (decode-udp msg table depth) = List ℕ
-Lent (decode-tcp msg table depth) = List ℕ
-Lent (decode-tcp-vec msg table depth) = List ℕ
+Lent (decode framing msg table depth) = List ℕ
 Lent (encode table count source out) = List ℕ
 Lent (encode-tcp table count source out) = List ℕ
 Lent (encode-string text out) = List ℕ
@@ -60,9 +56,7 @@ Lent (text-of value packet label) = Unit {0}
 
 -- those bytes before the call
 abbrev pub lentTo : (c : Call) → Lent c
-lentTo (decode-udp msg table depth) = table
-lentTo (decode-tcp msg table depth) = table
-lentTo (decode-tcp-vec msg table depth) = table
+lentTo (decode framing msg table depth) = table
 lentTo (encode table count source out) = out
 lentTo (encode-tcp table count source out) = out
 lentTo (encode-string text out) = out
@@ -82,9 +76,7 @@ pub record Decodes (rule : List ℕ → Whole) (msg table : List ℕ) (depth : �
 
 -- the contract of the entry point
 abbrev pub Meets : (c : Call) → Ending c → Type 0
-Meets (decode-udp msg table depth) e = Decodes udp msg table depth (e .answer) (e .lent)
-Meets (decode-tcp msg table depth) e = Decodes tcp msg table depth (e .answer) (e .lent)
-Meets (decode-tcp-vec msg table depth) e = Decodes tcpVec msg table depth (e .answer) (e .lent)
+Meets (decode framing msg table depth) e = Decodes (ruleOf framing) msg table depth (e .answer) (e .lent)
 Meets (encode table count source out) e = Encodes unframed table count source out (record { answer = e .answer; out = e .lent })
 Meets (encode-tcp table count source out) e = Encodes prefixed table count source out (record { answer = e .answer; out = e .lent })
 Meets (encode-string text out) e = record { answer = e .answer; out = e .lent } ≡ stringOutcome text out
@@ -121,9 +113,7 @@ byLooked (looked.Refused r) = refuses r
 
 -- of any call
 abbrev pub given : (c : Call) → Answer c → Given
-given (decode-udp msg table depth) r = byDecoded r
-given (decode-tcp msg table depth) r = byDecoded r
-given (decode-tcp-vec msg table depth) r = byDecoded r
+given (decode framing msg table depth) r = byDecoded r
 given (encode table count source out) r = byEncoded r
 given (encode-tcp table count source out) r = byEncoded r
 given (encode-string text out) r = byEncoded r
@@ -141,9 +131,7 @@ encodeOrder = 11 ∷ 9 ∷ 1 ∷ 12 ∷ []
 
 -- the refusals that document 01 has for a call, by their numbers
 abbrev pub numbersOf : Call → List ℕ
-numbersOf (decode-udp msg table depth) = decodeOrder
-numbersOf (decode-tcp msg table depth) = decodeOrder
-numbersOf (decode-tcp-vec msg table depth) = decodeOrder
+numbersOf (decode framing msg table depth) = decodeOrder
 numbersOf (encode table count source out) = encodeOrder
 numbersOf (encode-tcp table count source out) = encodeOrder
 numbersOf (encode-string text out) = 4 ∷ 1 ∷ 12 ∷ []
@@ -153,9 +141,9 @@ numbersOf (text-of value packet label) = []
 
 -- "`decode_tcp` may also answer Waiting"
 abbrev pub mayWait : Call → Bool
-mayWait (decode-udp msg table depth) = false
-mayWait (decode-tcp msg table depth) = true
-mayWait (decode-tcp-vec msg table depth) = false
+mayWait (decode Udp msg table depth) = false
+mayWait (decode Tcp msg table depth) = true
+mayWait (decode TcpVec msg table depth) = false
 mayWait (encode table count source out) = false
 mayWait (encode-tcp table count source out) = false
 mayWait (encode-string text out) = false

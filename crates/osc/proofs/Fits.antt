@@ -5,38 +5,28 @@ use mathlib.Core.List.{List}
 use Prim.Native.Nat.{ℕ, _≤_}
 use native.Mathlib.Omega.{arith}
 use lib.ListN.{length}
+use Rattle.wire.specs.Limits.{longest}
 use Rattle.node.specs.Records as node
-use Rattle.decoder.specs.Framing.{Whole, trees, waiting, refusal, udp, tcp, tcpVec}
+use Rattle.decoder.specs.Framing.{Whole, trees, waiting, refusal, ruleOf}
+use Rattle.decoder.specs.declared.Framing.{Framing}
 use Rattle.decoder.specs.Limits.{limited, decoded, forestOf, tabled}
 use Rattle.decoder.specs.declared.Decoded.{Decoded}
 use Rattle.decoder.proofs.Chosen.{by-decoded, by-trees}
-use Rattle.decoder.proofs.Sizes.{WholeIn, udp-in, tcp-in, vec-in}
+use Rattle.decoder.proofs.Sizes.{WholeIn, whole-in}
 use Rattle.osc.specs.Answers.{decodedNumber, Fits, TellsDecoded}
 
 module _ (capacity limit : ℕ) where
-  limited-fits : (n : ℕ) (w : Whole) → n ≤ 65535 → WholeIn n w → Fits n (limited capacity limit w)
+  limited-fits : (n : ℕ) (w : Whole) → n ≤ longest → WholeIn n w → Fits n (limited capacity limit w)
   limited-fits n (trees f left) h w = by-trees (Fits n) capacity limit f left (λ g. tt) (λ g. tt) (λ g k. (omega arith, omega arith))
   limited-fits n waiting h w = h
   limited-fits n (refusal k) h w = tt
 
-  fits : (rule : List ℕ → Whole) → ((msg : List ℕ) → WholeIn (length msg) (rule msg)) → (msg : List ℕ) {r : Decoded}
-      → r ≡ decoded rule capacity limit msg → Fits (length msg) r
-  fits rule counts msg e =
+  -- what a decoder answers to a message fits
+  pub fits : (framing : Framing) (msg : List ℕ) {r : Decoded} → r ≡ decoded (ruleOf framing) capacity limit msg → Fits (length msg) r
+  fits framing msg e =
       subst (Fits (length msg)) (sym e)
-      (by-decoded (Fits (length msg)) rule capacity limit msg (λ g. tt) (λ g. tt)
-      (λ g k. limited-fits (length msg) (rule msg) k (counts msg)))
-
-  -- what `decode_udp` answers to a message fits
-  pub fits-udp : (msg : List ℕ) {r : Decoded} → r ≡ decoded udp capacity limit msg → Fits (length msg) r
-  fits-udp = fits udp udp-in
-
-  -- so does what `decode_tcp` answers
-  pub fits-tcp : (msg : List ℕ) {r : Decoded} → r ≡ decoded tcp capacity limit msg → Fits (length msg) r
-  fits-tcp = fits tcp tcp-in
-
-  -- and what `decode_tcp_vec` answers
-  pub fits-vec : (msg : List ℕ) {r : Decoded} → r ≡ decoded tcpVec capacity limit msg → Fits (length msg) r
-  fits-vec = fits tcpVec vec-in
+      (by-decoded (Fits (length msg)) (ruleOf framing) capacity limit msg (λ g. tt) (λ g. tt)
+      (λ g k. limited-fits (length msg) (ruleOf framing msg) k (whole-in framing msg)))
 
 -- an answer whose number is told meets the contract of the call that gave it
 pub decode-told : {rule : List ℕ → Whole} {msg table : List ℕ} {limit number : ℕ} {r : Decoded} {after : List ℕ}

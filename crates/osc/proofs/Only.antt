@@ -2,7 +2,7 @@
 use mathlib.Core.Path.{_≡_, ap, sym, _∙_}
 use mathlib.Core.List.{List}
 use Prim.Native.Nat.{ℕ}
-use Rattle.encoder.specs.Outcome.{Outcome, plain, prefixed, Encodes, stringOutcome}
+use Rattle.encoder.specs.Outcome.{Outcome, unframed, prefixed, Encodes, stringOutcome}
 use Rattle.encoder.proofs.Only.{encode-only, encode-tcp-only, encode-string-only}
 use Rattle.osc.specs.Answers.{encodedNumber, Tells}
 
@@ -15,7 +15,8 @@ tells-only Outcomes one r s out out′ t u =
 
 -- no second number or output meets the contract of `osc_encode`
 pub encode-told-only : (table : List ℕ) (count : ℕ) (source out₀ : List ℕ) (r s : ℕ) (out out′ : List ℕ)
-    → Tells (Encodes plain table count source out₀) r out → Tells (Encodes plain table count source out₀) s out′ → (r ≡ s) × (out ≡ out′)
+    → Tells (Encodes unframed table count source out₀) r out → Tells (Encodes unframed table count source out₀) s out′
+    → (r ≡ s) × (out ≡ out′)
 encode-told-only table count source out₀ = tells-only _ (encode-only table count source out₀)
 
 -- nor that of `osc_encode_tcp`

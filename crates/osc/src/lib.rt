@@ -1,5 +1,6 @@
 // The C boundary: the public calls, each with its answer as one number of 64 bits. include/osc.h declares them for C and C++.
 use decoder::Decoded;
+use decoder::Framing;
 use encoder::Encoded;
 use node::record;
 use refusal::Refusal;
@@ -8,8 +9,8 @@ use wire::Padded;
 ghost use mathlib.Core.Path.{_≡_};
 ghost use Rattle.wire.specs.Pad.{padOf};
 ghost use Rattle.values.specs.Look.{lookAt};
-ghost use Rattle.decoder.specs.Framing.{udp, tcp, tcpVec};
-ghost use Rattle.encoder.specs.Outcome.{plain, prefixed, Encodes, stringOutcome};
+ghost use Rattle.decoder.specs.Framing.{udp, tcp, tcpVec, ruleOf};
+ghost use Rattle.encoder.specs.Outcome.{unframed, prefixed, Encodes, stringOutcome};
 ghost use Rattle.osc.specs.Answers.{refusalNumber, decodedNumber, Fits, TellsDecoded, encodedNumber, Tells};
 ghost use Rattle.osc.specs.Answers.{paddedNumber, lookedNumber};
 
@@ -42,6 +43,16 @@ fn encoded_number(answer: Encoded) -> u64
     }
 }
 
+// A decoder by its framing, told as a number.
+fn decode(framing: Framing, msg: &[u8], table: &mut [u8], depth: u64) -> u64
+    ensures { λ r. ⌜ TellsDecoded (ruleOf framing) (now (msg .entry)) (now (table .entry)) depth r (now (table .exit)) ⌝ }
+{
+    decoded_number(
+        decoder::decode(framing, msg, table, depth as usize),
+        msg.len(),
+    )
+}
+
 // `decode_udp`: the count in bits 32 to 55 and the bytes left in bits 0 to 31, or the refusal's number in bits 56 to 63.
 //
 // Ruled out: a refusal told in the bits of the bytes left; a byte of the table changed where a refusal is told.
@@ -49,7 +60,7 @@ fn encoded_number(answer: Encoded) -> u64
 pub extern "C" fn osc_decode_udp(msg: &[u8], table: &mut [u8], depth: u64) -> u64
     ensures { λ r. ⌜ TellsDecoded udp (now (msg .entry)) (now (table .entry)) depth r (now (table .exit)) ⌝ }
 {
-    decoded_number(decoder::decode_udp(msg, table, depth as usize), msg.len())
+    decode(Framing::Udp, msg, table, depth)
 }
 
 // `decode_tcp`, told in the same way; Waiting is count 0 with the whole input left.
@@ -59,20 +70,17 @@ pub extern "C" fn osc_decode_udp(msg: &[u8], table: &mut [u8], depth: u64) -> u6
 pub extern "C" fn osc_decode_tcp(msg: &[u8], table: &mut [u8], depth: u64) -> u64
     ensures { λ r. ⌜ TellsDecoded tcp (now (msg .entry)) (now (table .entry)) depth r (now (table .exit)) ⌝ }
 {
-    decoded_number(decoder::decode_tcp(msg, table, depth as usize), msg.len())
+    decode(Framing::Tcp, msg, table, depth)
 }
 
 // `decode_tcp_vec`, told in the same way.
 //
-// Ruled out: the bytes left where the count stands; the depth limit cut to 32 bits, so that 2^32 passes for 0.
+// Ruled out: the first packet of the list alone; the depth limit cut to 32 bits, so that 2^32 passes for 0.
 #[no_mangle]
 pub extern "C" fn osc_decode_tcp_vec(msg: &[u8], table: &mut [u8], depth: u64) -> u64
     ensures { λ r. ⌜ TellsDecoded tcpVec (now (msg .entry)) (now (table .entry)) depth r (now (table .exit)) ⌝ }
 {
-    decoded_number(
-        decoder::decode_tcp_vec(msg, table, depth as usize),
-        msg.len(),
-    )
+    decode(Framing::TcpVec, msg, table, depth)
 }
 
 // `encode`: the bytes written in bits 0 to 31, or the refusal's number in bits 56 to 63.
@@ -80,7 +88,7 @@ pub extern "C" fn osc_decode_tcp_vec(msg: &[u8], table: &mut [u8], depth: u64) -
 // Ruled out: fewer bytes told than were written; the count cut to 32 bits, so that 2^32 + 1 passes for 1.
 #[no_mangle]
 pub extern "C" fn osc_encode(table: &[u8], count: u64, source: &[u8], out: &mut [u8]) -> u64
-    ensures { λ r. ⌜ Tells (Encodes plain (now (table .entry)) count (now (source .entry)) (now (out .entry))) r (now (out .exit)) ⌝ }
+    ensures { λ r. ⌜ Tells (Encodes unframed (now (table .entry)) count (now (source .entry)) (now (out .entry))) r (now (out .exit)) ⌝ }
 {
     encoded_number(encoder::encode(table, count as usize, source, out))
 }

@@ -11,23 +11,24 @@ use Rattle.node.specs.Tags.{classOf, sortOf}
 use Rattle.packet.specs.Heads.{prefixOf}
 use Rattle.packet.specs.Packet.{packetAt, readPacket}
 use Rattle.decoder.specs.Framing.{udp, readFrame, tcp}
+use Rattle.decoder.specs.declared.Framing.the-variants.{Udp, Tcp}
 use Rattle.decoder.specs.Limits.{decoded}
 use Rattle.decoder.specs.declared.Decoded.the-variants as decodes
 use Rattle.strings.specs.Atomic.{oscString}
 use Rattle.writers.specs.Osc as osc
 use Rattle.encoder.specs.Outcome.{bytesOutcome, treeOutcome, malformed, formed}
 use Rattle.encoder.specs.declared.Encoded.the-variants as encodes
-use Rattle.demands.specs.Calls.{Meets, decode-udp, decode-tcp, encode, pad}
+use Rattle.demands.specs.Calls.{Meets, decode, encode, pad}
 use Rattle.table.proofs.Examples as p3
 
 -- P1: no bytes are refused with 2, and any table is as it was
-p1 : (table : List ℕ) → Meets (decode-udp [] table 64) (record { answer = decodes.Refused (Unreadable Empty); lent = table })
+p1 : (table : List ℕ) → Meets (decode Udp [] table 64) (record { answer = decodes.Refused (Unreadable Empty); lent = table })
 unfolding packetAt readPacket udp decoded
 p1 table = record { answered = refl; left = refl }
 
 -- P14: 00000009 2F610000 is not all there
 p14 : (table : List ℕ)
-    → Meets (decode-tcp (0 ∷ 0 ∷ 0 ∷ 9 ∷ 0x2F ∷ 0x61 ∷ 0 ∷ 0 ∷ []) table 64) (record { answer = decodes.Waiting; lent = table })
+    → Meets (decode Tcp (0 ∷ 0 ∷ 0 ∷ 9 ∷ 0x2F ∷ 0x61 ∷ 0 ∷ 0 ∷ []) table 64) (record { answer = decodes.Waiting; lent = table })
 unfolding number prefixOf readFrame tcp decoded
 p14 table = record { answered = refl; left = refl }
 

@@ -20,11 +20,12 @@ use Rattle.decoder.specs.Framing.{Whole, trees, waiting, refusal, single, udp, 
 use Rattle.decoder.specs.Framing.{framesAt, readFrames, tcpVec}
 use Rattle.decoder.specs.Framing.{Whole, trees, waiting, refusal, single, udp, Frame, wait, read, readFrame, tcp, before, afterFrame}
 use Rattle.decoder.specs.Framing.{framesAt, readFrames, tcpVec}
+use Rattle.decoder.specs.declared.Framing.the-variants.{Udp, Tcp, TcpVec}
 use Rattle.decoder.specs.Limits.{limited, decoded}
 use Rattle.decoder.specs.declared.Decoded.{Decoded}
 use Rattle.strings.specs.Atomic.{oscString}
 use Rattle.encoder.specs.Outcome.{Outcome, write, Encodes, malformed, formed, stringOutcome}
-use Rattle.demands.specs.Calls.{decode-udp, decode-tcp, decode-tcp-vec, encode, encode-tcp, encode-string, pad, look, text-of}
+use Rattle.demands.specs.Calls.{decode, encode, encode-tcp, encode-string, pad, look, text-of}
 use Rattle.demands.specs.Calls.{byDecoded, byEncoded, byPadded, byLooked, decodeOrder, encodeOrder, numbersOf, Listed}
 use Rattle.demands.specs.Calls.{AnswersListed}
 use Rattle.wire.proofs.Choices.{by-test, by-le}
@@ -141,9 +142,9 @@ look-listed t i =
 
 -- every answer is a result, Waiting from `decode_tcp`, or a refusal that document 01 lists for the call
 pub listed : AnswersListed
-listed (decode-udp msg table limit) e m = decoded-listed false udp _ limit msg (m .answered) (udp-never msg)
-listed (decode-tcp msg table limit) e m = decoded-listed true tcp _ limit msg (m .answered) (always (tcp msg))
-listed (decode-tcp-vec msg table limit) e m = decoded-listed false tcpVec _ limit msg (m .answered) (vec-never msg)
+listed (decode Udp msg table limit) e m = decoded-listed false udp _ limit msg (m .answered) (udp-never msg)
+listed (decode Tcp msg table limit) e m = decoded-listed true tcp _ limit msg (m .answered) (always (tcp msg))
+listed (decode TcpVec msg table limit) e m = decoded-listed false tcpVec _ limit msg (m .answered) (vec-never msg)
 listed (encode table count source out) e m = encodes-listed m
 listed (encode-tcp table count source out) e m = encodes-listed m
 listed (encode-string text out) e m = subst (Encoding (numbersOf (encode-string text out))) (sym m) (string-listed text out)

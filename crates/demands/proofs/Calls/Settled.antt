@@ -6,14 +6,15 @@ use lib.ListN.{length}
 use Rattle.utf8.specs.Derive.{utf8}
 use Rattle.wire.specs.Pad.{padOf}
 use Rattle.values.specs.Look.{lookAt, textNamed}
+use Rattle.wire.specs.Limits.{longest, deepest}
 use Rattle.node.specs.Forest.{Forest, nil, node, depth}
-use Rattle.decoder.specs.Framing.{Whole, udp, tcp, tcpVec}
+use Rattle.decoder.specs.Framing.{Whole, ruleOf}
 use Rattle.decoder.specs.Limits.{forestOf, tabled}
 use Rattle.decoder.specs.declared.Decoded.{Decoded}
 use Rattle.decoder.specs.declared.Decoded.the-variants.{Packets, Waiting, Refused}
 use Rattle.encoder.specs.Outcome.{Outcome, write, Encodes, malformed, formed, unframed, prefixed, stringOutcome}
 use Rattle.strings.specs.Atomic.{oscString}
-use Rattle.demands.specs.Calls.{Call, decode-udp, decode-tcp, decode-tcp-vec, encode, encode-tcp, encode-string, pad, look, text-of}
+use Rattle.demands.specs.Calls.{Call, decode, encode, encode-tcp, encode-string, pad, look, text-of}
 use Rattle.demands.specs.Calls.{Ending, Decodes, Answer, Lent, result, byDecoded, byEncoded, Settled, Met, NothingChanged}
 use Rattle.demands.specs.Demands.{answerTo, tableAfter}
 use Rattle.wire.proofs.Choices.{by-test, by-le}
@@ -34,9 +35,7 @@ decodes-one {rule} {msg} {table} m m' =
 
 -- no two endings of a call meet its contract
 pub settled : Settled
-settled (decode-udp msg table limit) e e' m m' = let x = decodes-one m m' in ending (x .0) (x .1)
-settled (decode-tcp msg table limit) e e' m m' = let x = decodes-one m m' in ending (x .0) (x .1)
-settled (decode-tcp-vec msg table limit) e e' m m' = let x = decodes-one m m' in ending (x .0) (x .1)
+settled (decode framing msg table limit) e e' m m' = let x = decodes-one m m' in ending (x .0) (x .1)
 settled (encode table count source out) e e' m m' =
     let x = encode-only _ _ _ _ _ _ m m' in ending (ap (λ (o : Outcome). o .answer) x) (ap (λ (o : Outcome). o .out) x)
 settled (encode-tcp table count source out) e e' m m' =
@@ -54,16 +53,11 @@ encodes-met : (frame : ℕ → List ℕ → List ℕ) (t : List ℕ) (count : �
 encodes-met frame t count source out n =
     n _ (malformed (λ w. let x = formed-tree t count source w in n _ (formed _ (x .0) (x .1) refl)) refl)
 
--- a decoder's own ending
-decodes : (rule : List ℕ → Whole) (msg table : List ℕ) (limit : ℕ)
-    → Decodes rule msg table limit (answerTo rule limit msg table) (tableAfter rule limit msg table)
-decodes rule msg table limit = record { answered = refl; left = refl }
-
 -- no call is without an ending
 pub met : Met
-met (decode-udp msg table limit) n = n _ (decodes udp msg table limit)
-met (decode-tcp msg table limit) n = n _ (decodes tcp msg table limit)
-met (decode-tcp-vec msg table limit) n = n _ (decodes tcpVec msg table limit)
+met (decode framing msg table limit) n =
+    n (record { answer = answerTo (ruleOf framing) limit msg table; lent = tableAfter (ruleOf framing) limit msg table })
+    (record { answered = refl; left = refl })
 met (encode table count source out) n =
     encodes-met unframed table count source out (λ r m. n (record { answer = r .answer; lent = r .out }) m)
 met (encode-tcp table count source out) n =
@@ -106,9 +100,7 @@ string-same text out = by-test (Same out) (utf8 text) (λ h. write-same (oscStri
 
 -- an ending without a result leaves every lent byte as it was
 pub nothing-changed : NothingChanged
-nothing-changed (decode-udp msg table limit) e m n = m .left ∙ decoded-same (e .answer) (forestOf (udp msg)) table n
-nothing-changed (decode-tcp msg table limit) e m n = m .left ∙ decoded-same (e .answer) (forestOf (tcp msg)) table n
-nothing-changed (decode-tcp-vec msg table limit) e m n = m .left ∙ decoded-same (e .answer) (forestOf (tcpVec msg)) table n
+nothing-changed (decode framing msg table limit) e m n = m .left ∙ decoded-same (e .answer) (forestOf (ruleOf framing msg)) table n
 nothing-changed (encode table count source out) e m n = encodes-same m n
 nothing-changed (encode-tcp table count source out) e m n = encodes-same m n
 nothing-changed (encode-string text out) e m n = subst (Same out) (sym m) (string-same text out) n

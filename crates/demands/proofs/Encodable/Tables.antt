@@ -17,7 +17,9 @@ use Rattle.packet.specs.Packet.{Out, fault, one, readPacket}
 use Rattle.packet.specs.declared.Prefix.{Prefix}
 use Rattle.packet.specs.declared.Prefix.the-variants as prefix
 use Rattle.decoder.specs.Framing.{Whole, trees, waiting, refusal, single, udp, Frame, wait, read, prefixed, readFrame, first, tcp, before}
-use Rattle.decoder.specs.Framing.{afterFrame, framesAt, readFrames, tcpVec}
+use Rattle.decoder.specs.Framing.{afterFrame, framesAt, readFrames, tcpVec, ruleOf}
+use Rattle.decoder.specs.declared.Framing.{Framing}
+use Rattle.decoder.specs.declared.Framing.the-variants.{Udp, Tcp, TcpVec}
 use Rattle.decoder.specs.Limits.{decoded, forestOf}
 use Rattle.decoder.specs.declared.Decoded.{Decoded}
 use Rattle.decoder.specs.declared.Decoded.the-variants.{Packets, Refused}
@@ -30,7 +32,7 @@ use Rattle.demands.proofs.Placed.{At, at-all, at-drop}
 use Rattle.decoder.proofs.Chosen.{by-decoded, by-trees}
 use Rattle.decoder.proofs.Answers.{no-packets}
 use Rattle.demands.proofs.Answered.{accepted, after-is}
-use Rattle.demands.proofs.Room.RecordsHold.{records-hold-udp, records-hold-tcp, records-hold-vec}
+use Rattle.demands.proofs.Room.RecordsHold.{records-hold}
 use Rattle.demands.proofs.Encodable.Arguments.{Sound, NodeSound, sound-nil, sound-node}
 use Rattle.demands.proofs.Encodable.Packets.{OutSound, after-sound, packet-sound}
 
@@ -95,6 +97,12 @@ module _ (s : List ℕ) (small : Bytes s) (low : length s < 256 ^ 4) where
   unfolding tcpVec readFrames
   vec-sound = frames-sound (suc (length s)) 0 s (at-all s)
 
+  -- what a decoder reads obeys the rules
+  whole-sound : (framing : Framing) → WholeSound s (ruleOf framing s)
+  whole-sound Udp = udp-sound
+  whole-sound Tcp = tcp-sound
+  whole-sound TcpVec = vec-sound
+
 -- ---- the count is small
 
 -- what an answer with packets shows of the limits
@@ -129,28 +137,17 @@ module _ (rule : List ℕ → Whole) (limit : ℕ) (msg : List ℕ) (F : Forest)
 
 -- ---- the table
 
-encodable : (rule : List ℕ → Whole) → RecordsHold rule → ((s : List ℕ) → Bytes s → length s < 256 ^ 4 → WholeSound s (rule s))
-    → Encodable rule
-encodable rule holds sound msg small limit table item inside left count e q =
+-- a table that a decoder answers for one packet is well formed over the call's input
+pub encodable : (framing : Framing) → Encodable (ruleOf framing)
+encodable framing msg small limit table item inside left count e q =
+    let rule = ruleOf framing in
     let F = node item inside nil in
     let w = within rule limit msg F left e (capacity table) q in
-    let n = few rule limit msg F left e holds w in
-    let s : Sound msg bundleKind F = subst (WholeSound msg) e (sound msg small (omega (arith, w .short))) in
+    let n = few rule limit msg F left e (records-hold framing) w in
+    let s : Sound msg bundleKind F = subst (WholeSound msg) e (whole-sound msg small (omega (arith, w .short)) framing) in
     let is : tableAfter rule limit msg table ≡ recordsOf 0 F ++ drop (recordSize * size F) table
     = after-is rule limit msg table q ∙ ap (λ (w : Whole). recordsOf 0 (forestOf w) ++ drop (recordSize * size (forestOf w)) table) e in
     let c : size F ≡ count = rw e at (accepted rule (capacity table) limit msg q .counts) in
     rw (← c) (tree-formed
     (bytes-tree (tableAfter rule limit msg table) (drop (recordSize * size F) table) msg item inside is (s .fits) (omega (arith, w .short))
     (s .obeys)))
-
--- the table that `decode_udp` answers is well formed
-pub encodable-udp : Encodable udp
-encodable-udp = encodable udp records-hold-udp udp-sound
-
--- so is that of `decode_tcp`
-pub encodable-tcp : Encodable tcp
-encodable-tcp = encodable tcp records-hold-tcp tcp-sound
-
--- and that of `decode_tcp_vec`, where it answers one packet
-pub encodable-vec : Encodable tcpVec
-encodable-vec = encodable tcpVec records-hold-vec vec-sound

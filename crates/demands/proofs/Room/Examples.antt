@@ -15,13 +15,14 @@ use Rattle.arguments.specs.Arguments.{readTags}
 use Rattle.packet.specs.Heads.{startOf, sizeOf}
 use Rattle.packet.specs.Packet.{readMessage, bundleBy, elementBy, elementsBy, packetBy, packetAt, readPacket}
 use Rattle.decoder.specs.Framing.{udp}
+use Rattle.decoder.specs.declared.Framing.the-variants.{Udp}
 use Rattle.decoder.specs.Limits.{decoded}
 use Rattle.decoder.specs.declared.Decoded.{Decoded}
 use Rattle.decoder.specs.declared.Decoded.the-variants.{Packets, Refused}
 use Rattle.demands.specs.Words.{NotFull}
 use Rattle.demands.specs.Demands.{answerTo, Unchanged}
 use Rattle.demands.proofs.Room.MoreRoom.{more-room}
-use Rattle.demands.proofs.Room.RecordsHold.{records-hold-udp}
+use Rattle.demands.proofs.Room.RecordsHold.{records-hold}
 
 -- P12's bundle without the bytes that are left: 2362756E 646C6500 00000000 00000001
 abbrev pub empty : List ℕ
@@ -56,4 +57,4 @@ full = refl
 
 -- 28 bytes, 28 records
 enough : decoded udp 28 64 (empty ++ element) ≡ Refused TableFull → ⊥
-enough = records-hold-udp (empty ++ element) 64 28 (omega arith)
+enough = records-hold Udp (empty ++ element) 64 28 (omega arith)
