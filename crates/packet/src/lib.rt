@@ -7,8 +7,7 @@ ghost use mathlib.Core.Bool.{true};
 ghost use Prim.Native.Nat.{_+_, _≤_};
 ghost use lib.ListN.{length};
 ghost use Rattle.utf8.specs.Derive.{utf8};
-ghost use Rattle.packet.specs.Packet.{same, tagsIn};
-ghost use Rattle.packet.specs.Heads.{startOf, sizeOf, prefixOf};
+ghost use Rattle.packet.specs.Heads.{sameBytes, startOf, tagsIn, sizeOf, prefixOf};
 
 // What a packet starts with; `used` bytes are the first text's.
 pub enum Start {
@@ -20,7 +19,7 @@ pub enum Start {
 }
 
 // The size of an element.
-pub enum Sized {
+pub enum ElementSize {
     // So many bytes follow the size.
     Holds(usize),
     // There are fewer.
@@ -30,7 +29,7 @@ pub enum Sized {
 // The prefix of a frame.
 pub enum Prefix {
     // The length is at most that of the input, prefix included.
-    Whole,
+    Ready,
     // The length is greater.
     Waiting,
     // There are fewer than 4 bytes.
@@ -39,7 +38,7 @@ pub enum Prefix {
 
 // Whether two lists of bytes are the same.
 fn same(a: &[u8], b: &[u8]) -> bool
-    ensures { λ r. ⌜ r ≡ same (now (a .entry)) (now (b .entry)) ⌝ }
+    ensures { λ r. ⌜ r ≡ sameBytes (now (a .entry)) (now (b .entry)) ⌝ }
 {
     if a.len() != b.len() {
         return false;
@@ -89,17 +88,17 @@ pub fn tags_in(types: &[u8]) -> &[u8]
 }
 
 // The size of an element, where that many bytes follow it.
-pub fn read_size(input: &[u8]) -> Sized
+pub fn read_size(input: &[u8]) -> ElementSize
     ensures { λ r. ⌜ r ≡ sizeOf (now (input .entry)) ⌝ }
 {
     if input.len() < 4 {
-        return Sized::RunsOut;
+        return ElementSize::RunsOut;
     }
     let size = be_u32(input, 0) as usize;
     if input.len() - 4 < size {
-        return Sized::RunsOut;
+        return ElementSize::RunsOut;
     }
-    Sized::Holds(size)
+    ElementSize::Holds(size)
 }
 
 // The length of a frame against all of the input, prefix included. It cuts nothing.
@@ -112,5 +111,5 @@ pub fn read_prefix(input: &[u8]) -> Prefix
     if input.len() < be_u32(input, 0) as usize {
         return Prefix::Waiting;
     }
-    Prefix::Whole
+    Prefix::Ready
 }
