@@ -11,7 +11,7 @@ use Rattle.refusal.specs.declared.Refusal.{Refusal}
 use Rattle.refusal.specs.declared.Refusal.the-variants.{TooLong, DepthLimit}
 use Rattle.node.specs.Forest.{Forest, nil, node, size, depth, level}
 use Rattle.node.specs.Records.{recordSize}
-use Rattle.packet.specs.Packet.{Out, fault, one, packet}
+use Rattle.packet.specs.Packet.{Out, fault, one, readPacket}
 use Rattle.decoder.specs.Framing.{Whole, trees, waiting, refusal, single, udp, Frame, tree, wait, stop, frameOf, first, tcp, tcpVec}
 use Rattle.decoder.specs.Limits.{limited, decoded, forestOf}
 use Rattle.fill.specs.Known.{Known}
@@ -75,10 +75,10 @@ total-single n limit (one k a b f u) =
     rw (one-tree k a b f, one-size k a b f, zero-add u)
     (by-both (λ (x : Extent) (y : Total). ofExtent n x ≡ y) (leb (level k (depth f)) limit) refl refl)
 
-pub udp-total : {r : Extent} (limit : ℕ) (msg : List ℕ) → r ≡ extent limit 0 (packet 0 msg 0)
+pub udp-total : {r : Extent} (limit : ℕ) (msg : List ℕ) → r ≡ extent limit 0 (readPacket 0 msg 0)
     → ofExtent (length msg) r ≡ totalOf limit (udp msg)
 unfolding udp
-udp-total limit msg e = ap (ofExtent (length msg)) e ∙ total-single (length msg) limit (packet 0 msg 0)
+udp-total limit msg e = ap (ofExtent (length msg)) e ∙ total-single (length msg) limit (readPacket 0 msg 0)
 
 abbrev pub ofFrame : ℕ → FrameExtent → Total
 ofFrame n (frame.Tree count used) = total.Trees count (n - used)
@@ -150,9 +150,9 @@ first-tree n (tree k a b f u) = refl
 first-tree n wait = refl
 first-tree n (stop k) = refl
 
-pub udp-tree : (msg : List ℕ) → forestOf (udp msg) ≡ treeOf (packet 0 msg 0)
+pub udp-tree : (msg : List ℕ) → forestOf (udp msg) ≡ treeOf (readPacket 0 msg 0)
 unfolding udp
-udp-tree msg = single-tree (length msg) (packet 0 msg 0)
+udp-tree msg = single-tree (length msg) (readPacket 0 msg 0)
 
 pub tcp-tree : (msg : List ℕ) → forestOf (tcp msg) ≡ treeOf (framePacket (frameOf 0 msg))
 unfolding tcp
@@ -164,12 +164,12 @@ unfolding size
 single-known n (fault k) h e = absurd h
 single-known n (one k a b f u) h e = record { some = omega (arith, e); records = e }
 
-pub udp-known : {count : ℕ} (msg : List ℕ) → Accepted (udp msg) → size (forestOf (udp msg)) ≡ count → Known (packet 0 msg 0) count
+pub udp-known : {count : ℕ} (msg : List ℕ) → Accepted (udp msg) → size (forestOf (udp msg)) ≡ count → Known (readPacket 0 msg 0) count
 unfolding udp
-udp-known msg h e = single-known (length msg) (packet 0 msg 0) h e
+udp-known msg h e = single-known (length msg) (readPacket 0 msg 0) h e
 
 module _ (msg T : List ℕ) where
-  pub udp-room : Fitting (udp msg) (length T / recordSize) (length msg) → Room (treeOf (packet 0 msg 0)) 0 T
+  pub udp-room : Fitting (udp msg) (length T / recordSize) (length msg) → Room (treeOf (readPacket 0 msg 0)) 0 T
   udp-room f = subst (λ (g : Forest). Room g 0 T) (udp-tree msg) (room-for (udp msg) (length msg) T f (udp-in msg))
 
   pub tcp-room : Fitting (tcp msg) (length T / recordSize) (length msg) → Room (treeOf (framePacket (frameOf 0 msg))) 0 T

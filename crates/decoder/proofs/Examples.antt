@@ -13,7 +13,7 @@ use Rattle.node.specs.Tags.{classOf, sortOf}
 use Rattle.text.specs.Text.{textOf}
 use Rattle.argument.specs.Argument.{argOf}
 use Rattle.arguments.specs.Arguments.{readArgs}
-use Rattle.packet.specs.Packet.{messageOf, bundleOf, packetOf, elementOf, elementsOf, packetAt, packet}
+use Rattle.packet.specs.Packet.{readMessage, bundleBy, packetBy, elementBy, elementsBy, packetAt, readPacket}
 use Rattle.decoder.specs.Framing.{Whole, udp, frameOf, tcp, framesAt, frames, tcpVec}
 use Rattle.decoder.specs.Limits.{decoded, forestOf, tabled}
 use Rattle.decoder.specs.declared.Decoded.{Decoded}
@@ -68,7 +68,7 @@ pub record Proved : Type 0 where
   pub p14 : Answers tcp (hex (0x00000009 ∷ 0x2F610000 ∷ [])) Waiting
 
 pub proved : Proved
-unfolding decoded size depth snoc number bytes classOf sortOf textOf argOf readArgs messageOf bundleOf packetOf elementOf elementsOf
+unfolding decoded size depth snoc number bytes classOf sortOf textOf argOf readArgs readMessage bundleOf packetOf elementOf elementsOf
     packetAt packet udp frameOf tcp framesAt frames tcpVec stored recordsOf recordOf
 proved =
     record {
@@ -142,7 +142,7 @@ pub record Traps : Type 0 where
   pub t26 : decoded tcpVec 8 1 (hex (0x00000000 ∷ []) ++ (nested ++ hex (0x00000000 ∷ []))) ≡ Refused (Unreadable Empty)
 
 pub traps : Traps
-unfolding decoded size depth snoc number bytes classOf sortOf textOf argOf readArgs messageOf bundleOf packetOf elementOf elementsOf
+unfolding decoded size depth snoc number bytes classOf sortOf textOf argOf readArgs readMessage bundleOf packetOf elementOf elementsOf
     packetAt packet udp frameOf tcp framesAt frames tcpVec stored recordsOf recordOf
 traps =
     record {

@@ -12,7 +12,7 @@ use lib.Seq.{drop-drop}
 use Rattle.refusal.specs.declared.Fault.{Fault}
 use Rattle.refusal.specs.declared.Fault.the-variants as faults
 use Rattle.node.specs.Forest.{Forest, nil, node, size, depth, level}
-use Rattle.packet.specs.Packet.{Out, fault, one, packet}
+use Rattle.packet.specs.Packet.{Out, fault, one, readPacket}
 use Rattle.decoder.specs.Framing.{Whole, trees, waiting, refusal, Frame, tree, wait, stop, framed, frameOf, before, afterFrame}
 use Rattle.decoder.specs.Framing.{framesAt, frames, tcpVec}
 use Rattle.packet.specs.Heads.{prefixOf}
@@ -44,12 +44,12 @@ extent-framed limit (fault k) = refl
 extent-framed limit (one k a b f u) = by-both (λ (x : Extent) (y : FrameExtent). ofPacket x ≡ y) (leb (level k (depth f)) limit) refl refl
 
 module _ (base : ℕ) (l : List ℕ) where
-  pub frame-by-packet : {r : Extent} (limit : ℕ) (rest : List ℕ) → prefix.Whole ≡ prefixOf l → rest ≡ drop 4 l
-      → r ≡ extent limit 4 (packet base rest 4)
+  pub frame-by-packet : {r : Extent} (limit : ℕ) (rest : List ℕ) → prefix.Ready ≡ prefixOf l → rest ≡ drop 4 l
+      → r ≡ extent limit 4 (readPacket base rest 4)
       → ofPacket r ≡ frameExtent limit (frameOf base l)
   frame-by-packet {r} limit rest e s g =
-      let is : r ≡ extent limit 4 (packet base (drop 4 l) 4) = rw s at g in
-      ap ofPacket is ∙ extent-framed limit (packet base (drop 4 l) 4)
+      let is : r ≡ extent limit 4 (readPacket base (drop 4 l) 4) = rw s at g in
+      ap ofPacket is ∙ extent-framed limit (readPacket base (drop 4 l) 4)
       ∙ ap (frameExtent limit) (ap (prefixed base l) e ∙ sym (frame-prefix base l))
 
   pub frame-waits : (limit : ℕ) → prefix.Waiting ≡ prefixOf l → Waiting ≡ frameExtent limit (frameOf base l)

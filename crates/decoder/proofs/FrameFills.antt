@@ -11,7 +11,7 @@ use Rattle.refusal.specs.declared.Fault.the-variants as faults
 use Rattle.wire.proofs.Parts.{tail, length-lent}
 use Rattle.node.specs.Forest.{Forest, nil, node, size}
 use Rattle.node.specs.Records.{recordSize, stored}
-use Rattle.packet.specs.Packet.{Out, fault, one, packet}
+use Rattle.packet.specs.Packet.{Out, fault, one, readPacket}
 use Rattle.decoder.specs.Framing.{Whole, trees, waiting, refusal, Frame, tree, wait, stop, framed, frameOf, before, framesAt}
 use Rattle.decoder.specs.Framing.{frames, tcpVec}
 use Rattle.decoder.specs.Limits.{forestOf}
@@ -34,18 +34,18 @@ tree-framed : (o : Out) → treeOf (framePacket (framed o)) ≡ treeOf o
 tree-framed (fault k) = refl
 tree-framed (one k a b f u) = refl
 
-module _ (base : ℕ) (l rest : List ℕ) (e : prefix.Whole ≡ prefixOf l) (s : rest ≡ drop 4 l) where
-  whole-frame : frameOf base l ≡ framed (packet base rest 4)
+module _ (base : ℕ) (l rest : List ℕ) (e : prefix.Ready ≡ prefixOf l) (s : rest ≡ drop 4 l) where
+  whole-frame : frameOf base l ≡ framed (readPacket base rest 4)
   whole-frame = frame-prefix base l ∙ ap (prefixed base l) (sym e) ∙ rw s
 
-  pub frame-room : {i : ℕ} {T : List ℕ} → Room (treeOf (framePacket (frameOf base l))) i T → Room (treeOf (packet base rest 4)) i T
+  pub frame-room : {i : ℕ} {T : List ℕ} → Room (treeOf (framePacket (frameOf base l))) i T → Room (treeOf (readPacket base rest 4)) i T
   frame-room {i} {T} w = subst (λ (f : Forest). Room f i T)
-      (ap (λ (x : Frame). treeOf (framePacket x)) whole-frame ∙ tree-framed (packet base rest 4)) w
+      (ap (λ (x : Frame). treeOf (framePacket x)) whole-frame ∙ tree-framed (readPacket base rest 4)) w
 
-  pub frame-fills : {i : ℕ} {r : Filled} {T T' : List ℕ} → Fills (packet base rest 4) 4 i T r T'
+  pub frame-fills : {i : ℕ} {r : Filled} {T T' : List ℕ} → Fills (readPacket base rest 4) 4 i T r T'
       → Fills (framePacket (frameOf base l)) 0 i T r T'
   frame-fills {i} {r} {T} w =
-      let o = packet base rest 4 in
+      let o = readPacket base rest 4 in
       rw whole-frame (record
       { answered = w .answered ∙ filled-framed o; table = w .table ∙ ap (λ (f : Forest). stored i f T) (sym (tree-framed o)) })
 

@@ -8,18 +8,18 @@ use lib.ListN.{length, drop, length-drop}
 use Rattle.refusal.specs.declared.Fault.the-variants as faults
 use Rattle.wire.specs.Number.{number}
 use Rattle.node.specs.Forest.{size}
-use Rattle.packet.specs.Packet.{Out, fault, one, packet}
+use Rattle.packet.specs.Packet.{Out, fault, one, readPacket}
 use Rattle.decoder.specs.Framing.{Frame, tree, wait, stop, framed, frameOf}
 use Rattle.packet.specs.Heads.{prefixOf}
 use Rattle.packet.specs.declared.Prefix.{Prefix}
 use Rattle.packet.specs.declared.Prefix.the-variants as prefix
 use Rattle.wire.proofs.Choices.{by-both}
 use Rattle.packet.proofs.Within.{Within, packet-in}
-use Rattle.packet.proofs.Fronts.{prefix-in}
+use Rattle.packet.proofs.Heads.{prefix-in}
 
 -- the frame with this prefix
 abbrev pub prefixed : ℕ → List ℕ → Prefix → Frame
-prefixed base l prefix.Whole = framed (packet base (drop 4 l) 4)
+prefixed base l prefix.Ready = framed (readPacket base (drop 4 l) 4)
 prefixed base l prefix.Waiting = wait
 prefixed base l prefix.RunsOut = stop faults.RunsOut
 
@@ -43,7 +43,7 @@ pub frame-in : (base : ℕ) (l : List ℕ) → FrameIn (length l) (frameOf base 
 frame-in base l = rw (frame-prefix base l) (by-prefix (prefixOf l) refl)
   where
     by-prefix : (x : Prefix) → x ≡ prefixOf l → FrameIn (length l) (prefixed base l x)
-    by-prefix prefix.Whole e = framed-in (length l) (packet base (drop 4 l) 4) (prefix-in l e)
+    by-prefix prefix.Ready e = framed-in (length l) (readPacket base (drop 4 l) 4) (prefix-in l e)
         (rw length-drop at (packet-in base (drop 4 l) 4))
     by-prefix prefix.Waiting e = tt
     by-prefix prefix.RunsOut e = tt

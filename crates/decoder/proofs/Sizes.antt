@@ -5,7 +5,7 @@ use native.Mathlib.Omega.{arith}
 use lib.ListN.{length, drop, length-drop}
 use Rattle.node.specs.Forest.{Forest, size}
 use Rattle.wire.proofs.Choices.{by-le}
-use Rattle.packet.specs.Packet.{Out, fault, one, packet}
+use Rattle.packet.specs.Packet.{Out, fault, one, readPacket}
 use Rattle.decoder.specs.Framing.{Whole, trees, waiting, refusal, single, udp, Frame, tree, wait, stop, frameOf, first, tcp, before}
 use Rattle.decoder.specs.Framing.{afterFrame, framesAt, frames, tcpVec}
 use Rattle.decoder.specs.Limits.{forestOf}
@@ -33,7 +33,7 @@ single-in n (one kind a b f used) w = omega arith
 
 pub udp-in : (msg : List ℕ) → WholeIn (length msg) (udp msg)
 unfolding udp
-udp-in msg = single-in (length msg) (packet 0 msg 0) (packet-in 0 msg 0)
+udp-in msg = single-in (length msg) (readPacket 0 msg 0) (packet-in 0 msg 0)
 
 first-in : (n : ℕ) (x : Frame) → FrameIn n x → WholeIn n (first n x)
 unfolding size

@@ -8,7 +8,7 @@ use Rattle.refusal.specs.declared.Fault.{Fault}
 use Rattle.refusal.specs.declared.Fault.the-variants.{RunsOut}
 use Rattle.wire.specs.Number.{number}
 use Rattle.node.specs.Forest.{Forest, nil, node}
-use Rattle.packet.specs.Packet.{Out, fault, one, packet}
+use Rattle.packet.specs.Packet.{Out, fault, one, readPacket}
 
 -- what an input is read as, before any limit: trees and the bytes left over; nothing yet; a fault
 pub data Whole : Type 0 where
@@ -23,7 +23,7 @@ single n (one kind a b inside used) = trees (node kind a b inside nil) (n - used
 
 -- `decode_udp`: a packet from all of the input
 unfoldable pub udp : List ℕ → Whole
-udp msg = single (length msg) (packet 0 msg 0)
+udp msg = single (length msg) (readPacket 0 msg 0)
 
 -- what a frame is read as; `used` counts its prefix too
 pub data Frame : Type 0 where
@@ -40,7 +40,7 @@ framed (one kind a b inside used) = tree kind a b inside (4 + used)
 -- length cuts nothing
 unfoldable pub frameOf : ℕ → List ℕ → Frame
 frameOf base l =
-    cond (leb 4 (length l)) (cond (leb (number 4 l) (length l)) (framed (packet base (drop 4 l) 4)) wait) (stop RunsOut)
+    cond (leb 4 (length l)) (cond (leb (number 4 l) (length l)) (framed (readPacket base (drop 4 l) 4)) wait) (stop RunsOut)
 
 -- the answer of one frame of n bytes of input
 abbrev pub first : ℕ → Frame → Whole

@@ -164,7 +164,7 @@ fn measure_frame(input: &[u8], depth: usize) -> FrameExtent
     ensures { λ r. ⌜ ((base : ℕ) → r ≡ frameExtent depth (frameOf base (now (input .entry)))) ⌝ }
 {
     match packet::read_prefix(input) {
-        Prefix::Whole => match measure::measure_packet(&input[4..], 4, depth) {
+        Prefix::Ready => match measure::measure_packet(&input[4..], 4, depth) {
             Extent::Tree { count, next } => FrameExtent::Tree { count, used: next },
             Extent::Deep { next } => FrameExtent::Deep { used: next },
             Extent::Refused(fault) => FrameExtent::Refused(fault),
@@ -181,7 +181,7 @@ pub fn decode_frame(input: &[u8], base: usize, table: &mut [u8], index: usize) -
     ensures { λ r. ⌜ Fills (framePacket (frameOf base (now (input .entry)))) 0 index (now (table .entry)) r (now (table .exit)) ⌝ }
 {
     match packet::read_prefix(input) {
-        Prefix::Whole => fill::decode_packet(&input[4..], base, 4, table, index),
+        Prefix::Ready => fill::decode_packet(&input[4..], base, 4, table, index),
         Prefix::Waiting => Filled::Nothing,
         Prefix::RunsOut => Filled::Nothing,
     }

@@ -19,16 +19,17 @@ use Rattle.text.specs.declared.Text.the-variants.{Found}
 use Rattle.arguments.specs.Arguments.{Args, refused, args, argsOf}
 use Rattle.arguments.specs.Readings.{measured, keptOf}
 use Rattle.arguments.specs.declared.Measured.the-variants as measure
-use Rattle.packet.specs.Packet.{Out, fault, one, Elements, upto, after, tagsIn, messageWith, messageOf, bundleWith, filling}
-use Rattle.packet.specs.Packet.{packet, elements, bundle, element, usedBy, treesIn}
+use Rattle.packet.specs.Packet.{Out, fault, one, Elements, upto, after, messageWith, readMessage, bundleWith, filling}
+use Rattle.packet.specs.Heads.{tagsIn}
+use Rattle.packet.specs.Packet.{readPacket, readElements, readBundle, readElement, usedBy, treesIn}
 use Rattle.packet.specs.Heads.{startOf, sizeOf}
 use Rattle.fill.specs.SecondReading.{treeOf, filled, Room, Fills}
 use Rattle.packet.specs.declared.Start.the-variants as start
-use Rattle.packet.specs.declared.Sized.the-variants as sized
+use Rattle.packet.specs.declared.ElementSize.the-variants as sized
 use Rattle.fill.specs.Known.{Known}
 use Rattle.fill.specs.declared.Filled.{Filled}
 use Rattle.fill.specs.declared.Filled.the-variants.{Wrote, Nothing}
-use Rattle.packet.proofs.Fronts.{started, packet-start, held, element-size}
+use Rattle.packet.proofs.Heads.{started, packet-start, held, element-size}
 use Rattle.packet.proofs.Bundles.{contents, bundle-long, ended, first-trees, first-rest, Stepped, stepped, Counted, counted-start}
 use Rattle.packet.proofs.Bundles.{counted-on}
 use Rattle.packet.proofs.Within.{types-found}
@@ -63,38 +64,38 @@ fills-after {p} {i} {r} {T} n o w =
 
 module _ (base : ℕ) (l rest : List ℕ) (p : ℕ) where
   module _ {n used : ℕ} (e : start.Message n used ≡ startOf l p) (s : rest ≡ drop used l) where
-    message-packet : packet base l p ≡ after used (messageOf base (base + p) n rest (p + used))
+    message-packet : readPacket base l p ≡ after used (readMessage base (base + p) n rest (p + used))
     message-packet = packet-start base l p ∙ ap (started base l p) (sym e) ∙ rw s
 
-    pub message-room : {i : ℕ} {T : List ℕ} → Room (treeOf (packet base l p)) i T
-        → Room (treeOf (messageOf base (base + p) n rest (p + used))) i T
+    pub message-room : {i : ℕ} {T : List ℕ} → Room (treeOf (readPacket base l p)) i T
+        → Room (treeOf (readMessage base (base + p) n rest (p + used))) i T
     message-room {i} {T} w = subst (λ (f : Forest). Room f i T)
-        (ap treeOf message-packet ∙ tree-after used (messageOf base (base + p) n rest (p + used))) w
+        (ap treeOf message-packet ∙ tree-after used (readMessage base (base + p) n rest (p + used))) w
 
     pub packet-fills-message : {i : ℕ} {r : Filled} {T T' : List ℕ}
-        → Fills (messageOf base (base + p) n rest (p + used)) (p + used) i T r T' → Fills (packet base l p) p i T r T'
-    packet-fills-message w = rw message-packet (fills-after used (messageOf base (base + p) n rest (p + used)) w)
+        → Fills (readMessage base (base + p) n rest (p + used)) (p + used) i T r T' → Fills (readPacket base l p) p i T r T'
+    packet-fills-message w = rw message-packet (fills-after used (readMessage base (base + p) n rest (p + used)) w)
 
-    message-tree : treeOf (packet base l p) ≡ treeOf (messageOf base (base + p) n rest (p + used))
-    message-tree = ap treeOf message-packet ∙ tree-after used (messageOf base (base + p) n rest (p + used))
+    message-tree : treeOf (readPacket base l p) ≡ treeOf (readMessage base (base + p) n rest (p + used))
+    message-tree = ap treeOf message-packet ∙ tree-after used (readMessage base (base + p) n rest (p + used))
 
-    pub message-known : {count : ℕ} → Known (packet base l p) count → Known (messageOf base (base + p) n rest (p + used)) count
+    pub message-known : {count : ℕ} → Known (readPacket base l p) count → Known (readMessage base (base + p) n rest (p + used)) count
     message-known k = record { some = k .some; records = ap size (sym message-tree) ∙ k .records }
 
-    pub packet-stored : {T' : List ℕ} (i : ℕ) (T : List ℕ) → T' ≡ stored i (treeOf (messageOf base (base + p) n rest (p + used))) T
-        → T' ≡ stored i (treeOf (packet base l p)) T
+    pub packet-stored : {T' : List ℕ} (i : ℕ) (T : List ℕ) → T' ≡ stored i (treeOf (readMessage base (base + p) n rest (p + used))) T
+        → T' ≡ stored i (treeOf (readPacket base l p)) T
     packet-stored i T w = w ∙ ap (λ (f : Forest). stored i f T) (sym message-tree)
 
   module _ {used : ℕ} (e : start.Bundle used ≡ startOf l p) (s : rest ≡ drop used l) where
-    bundle-packet : packet base l p ≡ after used (bundle base rest (p + used))
+    bundle-packet : readPacket base l p ≡ after used (readBundle base rest (p + used))
     bundle-packet = packet-start base l p ∙ ap (started base l p) (sym e) ∙ rw s
 
-    pub bundle-room : {i : ℕ} {T : List ℕ} → Room (treeOf (packet base l p)) i T → Room (treeOf (bundle base rest (p + used))) i T
-    bundle-room {i} {T} w = subst (λ (f : Forest). Room f i T) (ap treeOf bundle-packet ∙ tree-after used (bundle base rest (p + used))) w
+    pub bundle-room : {i : ℕ} {T : List ℕ} → Room (treeOf (readPacket base l p)) i T → Room (treeOf (readBundle base rest (p + used))) i T
+    bundle-room {i} {T} w = subst (λ (f : Forest). Room f i T) (ap treeOf bundle-packet ∙ tree-after used (readBundle base rest (p + used))) w
 
-    pub packet-fills-bundle : {i : ℕ} {r : Filled} {T T' : List ℕ} → Fills (bundle base rest (p + used)) (p + used) i T r T'
-        → Fills (packet base l p) p i T r T'
-    packet-fills-bundle w = rw bundle-packet (fills-after used (bundle base rest (p + used)) w)
+    pub packet-fills-bundle : {i : ℕ} {r : Filled} {T T' : List ℕ} → Fills (readBundle base rest (p + used)) (p + used) i T r T'
+        → Fills (readPacket base l p) p i T r T'
+    packet-fills-bundle w = rw bundle-packet (fills-after used (readBundle base rest (p + used)) w)
 
 -- ---- elements
 
@@ -112,16 +113,16 @@ tree-filling n (fault k) = refl
 tree-filling n (one k a b f u) = refl
 
 module _ {n : ℕ} (base : ℕ) (l part : List ℕ) (p : ℕ) (e : sized.Holds n ≡ sizeOf l) (s : part ≡ take n (drop 4 l)) where
-  packet-element : element base l p ≡ filling n (packet base part (p + 4))
+  packet-element : readElement base l p ≡ filling n (readPacket base part (p + 4))
   packet-element = element-size base l p ∙ ap (held base l p) (sym e) ∙ rw s
 
-  pub element-room : {i : ℕ} {T : List ℕ} → Room (treeOf (element base l p)) i T → Room (treeOf (packet base part (p + 4))) i T
-  element-room {i} {T} w = subst (λ (f : Forest). Room f i T) (ap treeOf packet-element ∙ tree-filling n (packet base part (p + 4))) w
+  pub element-room : {i : ℕ} {T : List ℕ} → Room (treeOf (readElement base l p)) i T → Room (treeOf (readPacket base part (p + 4))) i T
+  element-room {i} {T} w = subst (λ (f : Forest). Room f i T) (ap treeOf packet-element ∙ tree-filling n (readPacket base part (p + 4))) w
 
-  pub element-fills : {i : ℕ} {r r' : Filled} {T T' : List ℕ} → r ≡ r' → Fills (packet base part (p + 4)) (p + 4) i T r T'
-      → Fills (element base l p) (p + 4) i T (endsAt (p + 4 + n) r') T'
+  pub element-fills : {i : ℕ} {r r' : Filled} {T T' : List ℕ} → r ≡ r' → Fills (readPacket base part (p + 4)) (p + 4) i T r T'
+      → Fills (readElement base l p) (p + 4) i T (endsAt (p + 4 + n) r') T'
   element-fills {i} {r} {r'} {T} z w =
-      let o = packet base part (p + 4) in
+      let o = readPacket base part (p + 4) in
       rw packet-element
       (record {
         answered = ap (endsAt (p + 4 + n)) (sym z ∙ w .answered) ∙ filled-filling (p + 4) n o;
@@ -137,10 +138,10 @@ dataOf (args kept used) = used
 
 module _ {m used : ℕ} {tags rest : List ℕ} (base offset n : ℕ) (l : List ℕ) (p : ℕ) (e : Found m used ≡ textOf l p)
     (t : tags ≡ tagsIn (take m l)) (s : rest ≡ drop used l) where
-  with-args : messageOf base offset n l p ≡ after used (messageWith offset n (argsOf base tags rest (p + used)))
+  with-args : readMessage base offset n l p ≡ after used (messageWith offset n (argsOf base tags rest (p + used)))
   with-args = types-found base offset n l p e ∙ rw (t, s)
 
-  pub args-refused : {k : Fault} → measure.Refused k ≡ measured (argsOf base tags rest (p + used)) → messageOf base offset n l p ≡ fault k
+  pub args-refused : {k : Fault} → measure.Refused k ≡ measured (argsOf base tags rest (p + used)) → readMessage base offset n l p ≡ fault k
   unfolding measured
   args-refused {k} g = with-args ∙ by-args (argsOf base tags rest (p + used)) g
     where
@@ -150,7 +151,7 @@ module _ {m used : ℕ} {tags rest : List ℕ} (base offset n : ℕ) (l : List �
 
   module _ {count taken : ℕ} (g : measure.Kept count taken ≡ measured (argsOf base tags rest (p + used))) where
     -- the message's own record and its arguments'
-    pub args-room : {i : ℕ} {T : List ℕ} → Room (treeOf (messageOf base offset n l p)) i T
+    pub args-room : {i : ℕ} {T : List ℕ} → Room (treeOf (readMessage base offset n l p)) i T
         → (recordSize * (1 + count) ≤ length T) × (i + (1 + count) ≤ 65535)
     unfolding measured size
     args-room {i} {T} w = by-args (argsOf base tags rest (p + used)) g (rw with-args at w)
@@ -163,7 +164,7 @@ module _ {m used : ℕ} {tags rest : List ℕ} (base offset n : ℕ) (l : List �
     -- its record was written, and after that its arguments'
     pub message-fills : {i : ℕ} {T T₁ P : List ℕ} → number.Wrote (recordOf 47 (i + 1 + count) offset n) T T₁
         → number.Wrote (recordsOf (i + 1) (keptOf (argsOf base tags rest (p + used)))) (midOf recordSize (length T₁ - recordSize) T₁) P
-        → Fills (messageOf base offset n l p) p i T (Wrote (1 + count) (p + used + taken)) (putMid recordSize (length T₁ - recordSize) T₁ P)
+        → Fills (readMessage base offset n l p) p i T (Wrote (1 + count) (p + used + taken)) (putMid recordSize (length T₁ - recordSize) T₁ P)
     unfolding measured
     message-fills {i} {T} {T₁} {P} w v =
         rw with-args (by-args (argsOf base tags rest (p + used)) g (wrote-lent recordSize w (length-record 47 (i + 1 + count) offset n) v))
@@ -181,7 +182,7 @@ module _ {m used : ℕ} {tags rest : List ℕ} (base offset n : ℕ) (l : List �
             record { answered = rw (z, y, a); table = wrote-stored i (node 47 offset n f nil) (rw (z, node-records i 47 offset n f) at w) }
 
   -- what is known of the message, in the words of its arguments
-  pub known-args : {count : ℕ} → Known (messageOf base offset n l p) count
+  pub known-args : {count : ℕ} → Known (readMessage base offset n l p) count
       → measure.Kept (count - 1) (dataOf (argsOf base tags rest (p + used))) ≡ measured (argsOf base tags rest (p + used))
   unfolding measured size
   known-args {count} k = by-args (argsOf base tags rest (p + used)) (ap (λ (o : Out). size (treeOf o)) (sym with-args) ∙ k .records)
@@ -190,8 +191,8 @@ module _ {m used : ℕ} {tags rest : List ℕ} (base offset n : ℕ) (l : List �
       by-args (refused j) z = absurd (omega (arith, k .some))
       by-args (args f u) z = let y : count - 1 ≡ size f = omega arith in rw y
 
-  module _ {count : ℕ} (k : Known (messageOf base offset n l p) count) where
-    pub known-room : {i : ℕ} {T : List ℕ} → Room (treeOf (messageOf base offset n l p)) i T
+  module _ {count : ℕ} (k : Known (readMessage base offset n l p) count) where
+    pub known-room : {i : ℕ} {T : List ℕ} → Room (treeOf (readMessage base offset n l p)) i T
         → (recordSize * count ≤ length T) × (i + count ≤ 65535)
     known-room {i} {T} w =
         let z : (recordSize * (1 + (count - 1)) ≤ length T) × (i + (1 + (count - 1)) ≤ 65535) = args-room (known-args k) w in
@@ -199,7 +200,7 @@ module _ {m used : ℕ} {tags rest : List ℕ} (base offset n : ℕ) (l : List �
 
     pub known-fills : {T T₁ P : List ℕ} (i : ℕ) → number.Wrote (recordOf 47 (i + count) offset n) T T₁
         → number.Wrote (recordsOf (i + 1) (keptOf (argsOf base tags rest (p + used)))) (midOf recordSize (length T₁ - recordSize) T₁) P
-        → putMid recordSize (length T₁ - recordSize) T₁ P ≡ stored i (treeOf (messageOf base offset n l p)) T
+        → putMid recordSize (length T₁ - recordSize) T₁ P ≡ stored i (treeOf (readMessage base offset n l p)) T
     known-fills {T} {T₁} i w v =
         let end : i + count ≡ i + 1 + (count - 1) = omega (arith, k .some) in
         message-fills (known-args k) (subst (λ (x : ℕ). number.Wrote (recordOf 47 x offset n) T T₁) end w) v .table
@@ -208,7 +209,7 @@ module _ {m used : ℕ} {tags rest : List ℕ} (base offset n : ℕ) (l : List �
 
 module _ (base : ℕ) (l : List ℕ) (p : ℕ) where
   -- room for the bundle's own record and for those of its elements
-  pub contents-room : {i : ℕ} {T : List ℕ} → 8 ≤ length l → Room (treeOf (bundle base l p)) i T
+  pub contents-room : {i : ℕ} {T : List ℕ} → 8 ≤ length l → Room (treeOf (readBundle base l p)) i T
       → Room (node 35 0 0 (treesIn (contents base l p)) nil) i T
   unfolding size
   contents-room {i} {T} h w = by-elements (contents base l p) (rw (bundle-long base l p h) at w)
@@ -222,26 +223,26 @@ is-none p (fault k) e = refl
 is-none p (one k a b f u) e = let z : _≡_ {A = ℕ} 0 1 = cc in absurd (omega arith)
 
 -- what is written of the next element is among what is written of all that are left
-next-room : (base : ℕ) (m : List ℕ) (q : ℕ) → size (treeOf (element base m q)) ≤ size (treesIn (elements base m q))
+next-room : (base : ℕ) (m : List ℕ) (q : ℕ) → size (treeOf (readElement base m q)) ≤ size (treesIn (readElements base m q))
 unfolding size
-next-room base m q = by-out (element base m q) refl
+next-room base m q = by-out (readElement base m q) refl
   where
-    by-out : (o : Out) → element base m q ≡ o → size (treeOf o) ≤ size (treesIn (elements base m q))
+    by-out : (o : Out) → readElement base m q ≡ o → size (treeOf o) ≤ size (treesIn (readElements base m q))
     by-out (fault k) e = omega arith
     by-out (one k a b f u) e = omega (arith, ap size (first-trees base m q e))
 
 -- an element that was written, and one of which nothing was
-tree-step : {n next : ℕ} (base : ℕ) (m : List ℕ) (q : ℕ) → Wrote n next ≡ filled (q + 4) (element base m q) → Stepped base m q n next
-tree-step {n} {next} base m q h = by-out (element base m q) refl h
+tree-step : {n next : ℕ} (base : ℕ) (m : List ℕ) (q : ℕ) → Wrote n next ≡ filled (q + 4) (readElement base m q) → Stepped base m q n next
+tree-step {n} {next} base m q h = by-out (readElement base m q) refl h
   where
-    by-out : (o : Out) → element base m q ≡ o → Wrote n next ≡ filled (q + 4) o → Stepped base m q n next
+    by-out : (o : Out) → readElement base m q ≡ o → Wrote n next ≡ filled (q + 4) o → Stepped base m q n next
     by-out (fault k) e g = let z : _≡_ {A = ℕ} 0 1 = cc in absurd (omega arith)
     by-out (one k a b f u) e g = let en : n ≡ 1 + size f = cc in let ee : next ≡ q + 4 + u = cc in rw (en, ee) (stepped base m q e)
 
-no-step : (base : ℕ) (m : List ℕ) (q : ℕ) → Nothing ≡ filled (q + 4) (element base m q) → elements base m q ≡ upto nil 0
-no-step base m q h = by-out (element base m q) refl h
+no-step : (base : ℕ) (m : List ℕ) (q : ℕ) → Nothing ≡ filled (q + 4) (readElement base m q) → readElements base m q ≡ upto nil 0
+no-step base m q h = by-out (readElement base m q) refl h
   where
-    by-out : (o : Out) → element base m q ≡ o → Nothing ≡ filled (q + 4) o → elements base m q ≡ upto nil 0
+    by-out : (o : Out) → readElement base m q ≡ o → Nothing ≡ filled (q + 4) o → readElements base m q ≡ upto nil 0
     by-out (fault k) e g = ended base m q e
     by-out (one k a b f u) e g = let z : _≡_ {A = ℕ} 0 1 = cc in absurd (omega arith)
 
@@ -255,7 +256,7 @@ pub record Filling (base : ℕ) (l : List ℕ) (p i : ℕ) (T₀ T m : List ℕ)
   pub counted : Counted base l p m q c
   pub some : 1 ≤ c
   pub same : length T ≡ length T₀
-  pub left : completed T c (i + c) (treesIn (elements base m q)) ≡ completed T₀ 1 (i + 1) (treesIn (contents base l p))
+  pub left : completed T c (i + c) (treesIn (readElements base m q)) ≡ completed T₀ 1 (i + 1) (treesIn (contents base l p))
 
 pub filling-start : (base : ℕ) (l : List ℕ) (p i : ℕ) (T : List ℕ) → Filling base l p i T T (take (length l - 8) (drop 8 l)) (p + 8) 1
 filling-start base l p i T = record { counted = counted-start base l p; some = omega arith; same = refl; left = rw (tail l 8) }
@@ -267,12 +268,12 @@ module _ (base : ℕ) (l : List ℕ) (p i : ℕ) (T₀ T m : List ℕ) (q c : �
   later = midOf (recordSize * c) (length T - recordSize * c) T
 
   -- records that have their place fit
-  pub filling-fits : (recordSize * (c + size (treesIn (elements base m q))) ≤ length T) ×
-      (i + (c + size (treesIn (elements base m q))) ≤ 65535)
+  pub filling-fits : (recordSize * (c + size (treesIn (readElements base m q))) ≤ length T) ×
+      (i + (c + size (treesIn (readElements base m q))) ≤ 65535)
   unfolding size
   filling-fits = (omega (arith, r .fits), omega (arith, r .low))
 
-  pub next-fits : Room (treeOf (element base m q)) (i + c) later
+  pub next-fits : Room (treeOf (readElement base m q)) (i + c) later
   next-fits = record {
     fits = omega (arith, filling-fits, next-room base m q, length-lent T (recordSize * c));
     low = omega
@@ -280,12 +281,12 @@ module _ (base : ℕ) (l : List ℕ) (p i : ℕ) (T₀ T m : List ℕ) (q c : �
   }
 
   -- the next element was written
-  pub filling-step : {n next : ℕ} {x : Filled} {Y : List ℕ} → Fills (element base m q) (q + 4) (i + c) later x Y → x ≡ Wrote n next
+  pub filling-step : {n next : ℕ} {x : Filled} {Y : List ℕ} → Fills (readElement base m q) (q + 4) (i + c) later x Y → x ≡ Wrote n next
       → Stepped base m q n next
   filling-step f z = tree-step base m q (sym z ∙ f .answered)
 
-  filling-one : {k a b u : ℕ} {g : Forest} {x : Filled} {Y : List ℕ} → element base m q ≡ one k a b g u
-      → Fills (element base m q) (q + 4) (i + c) later x Y
+  filling-one : {k a b u : ℕ} {g : Forest} {x : Filled} {Y : List ℕ} → readElement base m q ≡ one k a b g u
+      → Fills (readElement base m q) (q + 4) (i + c) later x Y
       → Filling base l p i T₀ (putMid (recordSize * c) (length T - recordSize * c) T Y)
       (take (length m - (q + 4 + u - q)) (drop (q + 4 + u - q) m)) (q + 4 + u) (c + (1 + size g))
   filling-one {k} {a} {b} {u} {g} {x} {Y} e f =
@@ -301,36 +302,36 @@ module _ (base : ℕ) (l : List ℕ) (p i : ℕ) (T₀ T m : List ℕ) (q c : �
         same = ap length put ∙ length-completed T c (i + c) N fit ∙ w .same;
         left =
             rw (tail m (q + 4 + u - q), sum, first-rest base m q e)
-            (completed-turn T c (1 + size g) (i + c) k a b g (treesIn (elements base (drop (4 + u) m) (q + (4 + u)))) (omega arith) refl put
+            (completed-turn T c (1 + size g) (i + c) k a b g (treesIn (readElements base (drop (4 + u) m) (q + (4 + u)))) (omega arith) refl put
             ∙ ap (λ (h : Forest). completed T c (i + c) h) (sym (first-trees base m q e)) ∙ w .left);
       }
 
-  pub filling-on : {n next : ℕ} {x : Filled} {Y : List ℕ} → Fills (element base m q) (q + 4) (i + c) later x Y → x ≡ Wrote n next
+  pub filling-on : {n next : ℕ} {x : Filled} {Y : List ℕ} → Fills (readElement base m q) (q + 4) (i + c) later x Y → x ≡ Wrote n next
       → Filling base l p i T₀ (putMid (recordSize * c) (length T - recordSize * c) T Y) (take (length m - (next - q)) (drop (next - q) m))
       next (c + n)
-  filling-on {n} {next} {x} {Y} f z = by-out (element base m q) refl (sym z ∙ f .answered)
+  filling-on {n} {next} {x} {Y} f z = by-out (readElement base m q) refl (sym z ∙ f .answered)
     where
-      by-out : (o : Out) → element base m q ≡ o → Wrote n next ≡ filled (q + 4) o
+      by-out : (o : Out) → readElement base m q ≡ o → Wrote n next ≡ filled (q + 4) o
           → Filling base l p i T₀ (putMid (recordSize * c) (length T - recordSize * c) T Y)
           (take (length m - (next - q)) (drop (next - q) m)) next (c + n)
       by-out (fault k) e h = let z : _≡_ {A = ℕ} 0 1 = cc in absurd (omega arith)
       by-out (one k a b g u) e h = let en : n ≡ 1 + size g = cc in let ee : next ≡ q + 4 + u = cc in rw (en, ee) (filling-one e f)
 
   -- no element follows: the bundle's own record is written
-  pub filling-done : {x : Filled} {a b : ℕ} {Y Z : List ℕ} → 8 ≤ length l → Fills (element base m q) (q + 4) (i + c) later x Y → x ≡ Nothing
+  pub filling-done : {x : Filled} {a b : ℕ} {Y Z : List ℕ} → 8 ≤ length l → Fills (readElement base m q) (q + 4) (i + c) later x Y → x ≡ Nothing
       → a ≡ number 4 l → b ≡ number 4 (drop 4 l)
       → number.Wrote (recordOf 35 (i + c) a b) (putMid (recordSize * c) (length T - recordSize * c) T Y) Z
-      → Fills (bundle base l p) p i T₀ (Wrote c q) Z
+      → Fills (readBundle base l p) p i T₀ (Wrote c q) Z
   unfolding size
   filling-done {x} {a} {b} {Y} {Z} h f z ea eb v =
-      let none : elements base m q ≡ upto nil 0 = no-step base m q (sym z ∙ f .answered) in
-      let flat : treesIn (elements base m q) ≡ nil = ap treesIn none in
-      let no-tree : treeOf (element base m q) ≡ treesIn (elements base m q) = is-none (q + 4) (element base m q) (sym z ∙ f .answered)
+      let none : readElements base m q ≡ upto nil 0 = no-step base m q (sym z ∙ f .answered) in
+      let flat : treesIn (readElements base m q) ≡ nil = ap treesIn none in
+      let no-tree : treeOf (readElement base m q) ≡ treesIn (readElements base m q) = is-none (q + 4) (readElement base m q) (sym z ∙ f .answered)
       ∙ sym flat in
-      let no-size : size (treesIn (elements base m q)) ≡ 0 = ap size flat in
-      let no-use : usedBy (elements base m q) ≡ 0 = ap usedBy none in
+      let no-size : size (treesIn (readElements base m q)) ≡ 0 = ap size flat in
+      let no-use : usedBy (readElements base m q) ≡ 0 = ap usedBy none in
       let put : putMid (recordSize * c) (length T - recordSize * c) T Y ≡ completed T₀ 1 (i + 1) (treesIn (contents base l p))
-      = lent-stored T c (i + c) (treesIn (elements base m q)) (f .table ∙ ap (λ (g : Forest). stored (i + c) g later) no-tree) ∙ w .left in
+      = lent-stored T c (i + c) (treesIn (readElements base m q)) (f .table ∙ ap (λ (g : Forest). stored (i + c) g later) no-tree) ∙ w .left in
       let tab : Z ≡ stored i (node 35 a b (treesIn (contents base l p)) nil) T₀
       = completed-node T₀ i 35 a b (i + c) (treesIn (contents base l p)) (omega (arith, r .fits)) put (omega (arith, w .counted)) v in
       rw (bundle-long base l p h, ← ea, ← eb)

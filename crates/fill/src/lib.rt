@@ -1,5 +1,5 @@
 // The second reading of a packet: its records are written to the front of a table that has room for them.
-use packet::Sized;
+use packet::ElementSize;
 use packet::Start;
 use arguments::Measured;
 use wire::be_u32;
@@ -8,7 +8,7 @@ use node::record;
 ghost use mathlib.Core.Path.{_≡_};
 ghost use Prim.Native.Nat.{_+_, _≤_};
 ghost use lib.ListN.{length};
-ghost use Rattle.packet.specs.Packet.{messageOf, packet, bundle, element};
+ghost use Rattle.packet.specs.Packet.{readMessage, readPacket, readBundle, readElement};
 ghost use Rattle.node.specs.Records.{stored};
 ghost use Rattle.fill.specs.SecondReading.{treeOf, Room, Fills};
 ghost use Rattle.fill.specs.Known.{Known};
@@ -30,8 +30,8 @@ pub fn decode_packet(
     index: usize,
 ) -> Filled
     requires { ⌜ base + pos + length (now input) ≤ 65535 ⌝ }
-    requires { ⌜ Room (treeOf (packet base (now input) pos)) index (now table) ⌝ }
-    ensures { λ r. ⌜ Fills (packet base (now (input .entry)) pos) pos index (now (table .entry)) r (now (table .exit)) ⌝ }
+    requires { ⌜ Room (treeOf (readPacket base (now input) pos)) index (now table) ⌝ }
+    ensures { λ r. ⌜ Fills (readPacket base (now (input .entry)) pos) pos index (now (table .entry)) r (now (table .exit)) ⌝ }
 {
     match packet::read_start(input, pos) {
         Start::Message { length, used } => {
@@ -63,8 +63,8 @@ fn decode_message(
     index: usize,
 ) -> Filled
     requires { ⌜ (base + pos + length (now input) ≤ 65535) × (offset ≤ 65535) × (n ≤ 65535) ⌝ }
-    requires { ⌜ Room (treeOf (messageOf base offset n (now input) pos)) index (now table) ⌝ }
-    ensures { λ r. ⌜ Fills (messageOf base offset n (now (input .entry)) pos) pos index (now (table .entry)) r (now (table .exit)) ⌝ }
+    requires { ⌜ Room (treeOf (readMessage base offset n (now input) pos)) index (now table) ⌝ }
+    ensures { λ r. ⌜ Fills (readMessage base offset n (now (input .entry)) pos) pos index (now (table .entry)) r (now (table .exit)) ⌝ }
 {
     match text::read_osc_string(input, pos) {
         Text::Found { length, used } => {
@@ -97,8 +97,8 @@ fn decode_message(
 // What follows "#bundle". The bundle's own record is written last, when its end is known.
 fn decode_bundle(input: &[u8], base: usize, pos: usize, table: &mut [u8], index: usize) -> Filled
     requires { ⌜ base + pos + length (now input) ≤ 65535 ⌝ }
-    requires { ⌜ Room (treeOf (bundle base (now input) pos)) index (now table) ⌝ }
-    ensures { λ r. ⌜ Fills (bundle base (now (input .entry)) pos) pos index (now (table .entry)) r (now (table .exit)) ⌝ }
+    requires { ⌜ Room (treeOf (readBundle base (now input) pos)) index (now table) ⌝ }
+    ensures { λ r. ⌜ Fills (readBundle base (now (input .entry)) pos) pos index (now (table .entry)) r (now (table .exit)) ⌝ }
 {
     if input.len() < 8 {
         return Filled::Nothing;
@@ -142,11 +142,11 @@ fn read_bundle_element(
     index: usize,
 ) -> Filled
     requires { ⌜ base + pos + length (now input) ≤ 65535 ⌝ }
-    requires { ⌜ Room (treeOf (element base (now input) pos)) index (now table) ⌝ }
-    ensures { λ r. ⌜ Fills (element base (now (input .entry)) pos) (pos + 4) index (now (table .entry)) r (now (table .exit)) ⌝ }
+    requires { ⌜ Room (treeOf (readElement base (now input) pos)) index (now table) ⌝ }
+    ensures { λ r. ⌜ Fills (readElement base (now (input .entry)) pos) (pos + 4) index (now (table .entry)) r (now (table .exit)) ⌝ }
 {
     match packet::read_size(input) {
-        Sized::Holds(size) => {
+        ElementSize::Holds(size) => {
             match decode_packet(&input[4..4 + size], base, pos + 4, table, index) {
                 Filled::Wrote { count, next: _ } => Filled::Wrote {
                     count,
@@ -155,7 +155,7 @@ fn read_bundle_element(
                 Filled::Nothing => Filled::Nothing,
             }
         }
-        Sized::RunsOut => Filled::Nothing,
+        ElementSize::RunsOut => Filled::Nothing,
     }
 }
 
@@ -169,9 +169,9 @@ pub fn write_packet(
     count: usize,
 )
     requires { ⌜ base + pos + length (now input) ≤ 65535 ⌝ }
-    requires { ⌜ Room (treeOf (packet base (now input) pos)) index (now table) ⌝ }
-    requires { ⌜ Known (packet base (now input) pos) count ⌝ }
-    ensures { λ _. ⌜ now (table .exit) ≡ stored index (treeOf (packet base (now (input .entry)) pos)) (now (table .entry)) ⌝ }
+    requires { ⌜ Room (treeOf (readPacket base (now input) pos)) index (now table) ⌝ }
+    requires { ⌜ Known (readPacket base (now input) pos) count ⌝ }
+    ensures { λ _. ⌜ now (table .exit) ≡ stored index (treeOf (readPacket base (now (input .entry)) pos)) (now (table .entry)) ⌝ }
 {
     match packet::read_start(input, pos) {
         Start::Message { length, used } => {
@@ -206,9 +206,9 @@ fn write_message(
     count: usize,
 )
     requires { ⌜ (base + pos + length (now input) ≤ 65535) × (offset ≤ 65535) × (n ≤ 65535) ⌝ }
-    requires { ⌜ Room (treeOf (messageOf base offset n (now input) pos)) index (now table) ⌝ }
-    requires { ⌜ Known (messageOf base offset n (now input) pos) count ⌝ }
-    ensures { λ _. ⌜ now (table .exit) ≡ stored index (treeOf (messageOf base offset n (now (input .entry)) pos)) (now (table .entry)) ⌝ }
+    requires { ⌜ Room (treeOf (readMessage base offset n (now input) pos)) index (now table) ⌝ }
+    requires { ⌜ Known (readMessage base offset n (now input) pos) count ⌝ }
+    ensures { λ _. ⌜ now (table .exit) ≡ stored index (treeOf (readMessage base offset n (now (input .entry)) pos)) (now (table .entry)) ⌝ }
 {
     match text::read_osc_string(input, pos) {
         Text::Found { length, used } => {

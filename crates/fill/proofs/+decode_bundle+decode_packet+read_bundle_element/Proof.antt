@@ -8,7 +8,7 @@ use Rattle.packet.proofs.read_start.Reads as read-start-reads
 use Rattle.fill.proofs.Fills.{fills-none, message-room, bundle-room, packet-fills-message, packet-fills-bundle, element-room}
 use Rattle.fill.proofs.Fills.{element-fills, contents-room, Filling, filling-start, filling-fits, filling-step, next-fits}
 use Rattle.fill.proofs.Fills.{filling-on, filling-done}
-use Rattle.packet.proofs.Fronts.{packet-refused, element-runs-out, part-4, message-start-in, bundle-start-in, size-in}
+use Rattle.packet.proofs.Heads.{packet-refused, element-runs-out, part-4, message-start-in, bundle-start-in, size-in}
 use Rattle.packet.proofs.Bundles.{bundle-short}
 use Rattle.wire.proofs.Parts.{tail}
 use lib.ListN.{length}

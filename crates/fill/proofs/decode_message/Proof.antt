@@ -1,7 +1,7 @@
 -- `decoder::fill::decode_message` meets its contract. The message's record, then those of its arguments in the later part of the table.
 use Rattle.wire.proofs.Parts.{tail, length-lent}
 use Rattle.fill.proofs.Fills.{args-room, args-refused, message-fills, fills-none}
-use Rattle.packet.proofs.Fronts.{types-tags, args-fit}
+use Rattle.packet.proofs.Heads.{types-tags, args-fit}
 use Rattle.text.proofs.Within.{found-in}
 use Rattle.packet.proofs.Within.{types-lack}
 use Rattle.arguments.proofs.Counts.{measured-within, measured-room}

@@ -9,7 +9,7 @@ use Rattle.wire.proofs.Writers.{wrote-length}
 use Rattle.text.proofs.Within.{found-in}
 use Rattle.arguments.proofs.Counts.{measured-room}
 use Rattle.fill.proofs.Fills.{known-refused, known-args, known-room, known-fills}
-use Rattle.packet.proofs.Fronts.{types-tags}
+use Rattle.packet.proofs.Heads.{types-tags}
 use Rattle.packet.proofs.Within.{types-lack}
 use Rattle.fill.proofs.write_message.Statement.{statement}
 use Rattle.fill.proofs.write_message.Tie as tie

@@ -1,6 +1,6 @@
--- `decoder::measure::measure_message` meets its contract. The extent of a message is that of its arguments, and one record more.
+-- `measure::measure_message` meets its contract. The extent of a message is that of its arguments, and one record more.
 use Rattle.measure.proofs.Extents.{refused-is, message-exit}
-use Rattle.packet.proofs.Fronts.{types-tags, args-fit}
+use Rattle.packet.proofs.Heads.{types-tags, args-fit}
 use Rattle.text.proofs.Within.{found-in}
 use Rattle.packet.proofs.Within.{types-lack}
 use Rattle.measure.specs.declared.Extent.the-variants.{Refused}
