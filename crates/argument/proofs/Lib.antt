@@ -1,2 +1,3 @@
 pub mod Argued
+pub mod Only
 pub mod Within

@@ -17,12 +17,13 @@ use Rattle.node.specs.declared.tags.Class.the-variants.{Four, Eight, Bare, Text
 use Rattle.text.specs.Text.{reach, textOf}
 use Rattle.text.specs.declared.Text.{Text}
 use Rattle.text.specs.declared.Text.the-variants.{Found, Lacks}
-use Rattle.argument.specs.Argument.{argOf, having, textArg}
+use Rattle.argument.specs.Argument.{readArg, having, textArg}
 use Rattle.argument.specs.declared.Arg.{Arg}
 use Rattle.argument.specs.declared.Arg.the-variants.{Given, Refused}
 
 -- ---- what holds of the fields and of the bytes used
 
+-- P holds of what is given; of a refusal nothing is said
 abbrev pub Holds : (ℕ → ℕ → ℕ → Type 0) → Arg → Type 0
 Holds P (Given a b used) = P a b used
 Holds P (Refused k) = Unit {0}
@@ -32,6 +33,7 @@ module _ (P : ℕ → ℕ → ℕ → Type 0) where
   if-there : (n : ℕ) (l : List ℕ) (x : Arg) → (n ≤ length l → Holds P x) → Holds P (having n l x)
   if-there n l x f = by-test (Holds P) (leb n (length l)) (λ h. f (leb-true n (length l) h)) (λ _. tt)
 
+  -- of a text, if it holds of each that is found
   of-text : (offset : ℕ) (t : Text) → ((n used : ℕ) → Found n used ≡ t → P offset n used) → Holds P (textArg offset t)
   of-text offset (Found n used) f = f n used refl
   of-text offset (Lacks k) f = tt
@@ -43,8 +45,9 @@ module _ (P : ℕ → ℕ → ℕ → Type 0) where
       (bare : P 0 0 0)
       (string : (n used : ℕ) → Found n used ≡ textOf l p → P (base + p) n used)
       (blob : 4 ≤ length l → reach p (4 + number 4 l) ≤ length l → P (base + (p + 4)) (number 4 l) (reach p (4 + number 4 l))) where
-    pub arg-holds : (class : Class) → Holds P (argOf class base l p)
-    unfolding argOf
+    -- P holds of each argument, if it does of those five
+    pub arg-holds : (class : Class) → Holds P (readArg class base l p)
+    unfolding readArg
     arg-holds Four = if-there 4 l _ four
     arg-holds Eight = if-there 8 l _ eight
     arg-holds Bare = bare
@@ -53,8 +56,8 @@ module _ (P : ℕ → ℕ → ℕ → Type 0) where
     arg-holds Scalar = if-there 4 l _ (λ h. by-test (Holds P) (isScalar (number 4 l)) (λ _. four h) (λ _. tt))
     arg-holds Unknown = tt
 
--- an argument lies in its part
-pub given-within : {a b used : ℕ} (class : Class) (base : ℕ) (l : List ℕ) (p : ℕ) → Given a b used ≡ argOf class base l p → used ≤ length l
+-- an argument's data lies in its part
+pub given-within : {a b used : ℕ} (class : Class) (base : ℕ) (l : List ℕ) (p : ℕ) → Given a b used ≡ readArg class base l p → used ≤ length l
 given-within class base l p e =
     subst (Holds (λ a b used. used ≤ length l)) (sym e)
     (arg-holds (λ a b used. used ≤ length l) base l p (λ h. h) (λ h. h) (omega arith) (λ n used f. found-in l p f .1) (λ h k. k) class)
@@ -62,7 +65,7 @@ given-within class base l p e =
 -- its fields fit in 4 bytes
 pub given-fits : {a b used : ℕ} (class : Class) (base : ℕ) (l : List ℕ) (p : ℕ) → ((j : ℕ) → getD l j 0 < 256)
     → base + p + length l < 256 ^ 4
-    → Given a b used ≡ argOf class base l p → (a < 256 ^ 4) × (b < 256 ^ 4)
+    → Given a b used ≡ readArg class base l p → (a < 256 ^ 4) × (b < 256 ^ 4)
 given-fits class base l p bytes low e =
     let P : ℕ → ℕ → ℕ → Type 0 = λ a b used. (a < 256 ^ 4) × (b < 256 ^ 4) in
     let n : number 4 l < 256 ^ 4 = number-small 4 l bytes in

@@ -25,12 +25,12 @@ abbrev pub textArg : ℕ → Text → Arg
 textArg offset (Found n used) = Given offset n used
 textArg offset (Lacks lack) = Refused (faultOf lack)
 
--- the data of one argument, one class to a line ("Data: big-endian. b is a 4-byte size, the bytes, then padding as for text")
-unfoldable pub argOf : Class → ℕ → List ℕ → ℕ → Arg
-argOf Four base l p = having 4 l (Given (number 4 l) 0 4)
-argOf Eight base l p = having 8 l (Given (number 4 l) (number 4 (drop 4 l)) 8)
-argOf Bare base l p = Given 0 0 0
-argOf String base l p = textArg (base + p) (textOf l p)
-argOf Blob base l p = having 4 l (having (reach p (4 + number 4 l)) l (Given (base + (p + 4)) (number 4 l) (reach p (4 + number 4 l))))
-argOf Scalar base l p = having 4 l (cond (isScalar (number 4 l)) (Given (number 4 l) 0 4) (Refused NotScalar))
-argOf Unknown base l p = Refused UnknownTag
+-- the data of one argument, one class to a line; the tags of each class are `classOf`'s ("Data: big-endian. b is a 4-byte size, the bytes, then padding as for text")
+unfoldable pub readArg : Class → ℕ → List ℕ → ℕ → Arg
+readArg Four base l p = having 4 l (Given (number 4 l) 0 4)
+readArg Eight base l p = having 8 l (Given (number 4 l) (number 4 (drop 4 l)) 8)
+readArg Bare base l p = Given 0 0 0
+readArg String base l p = textArg (base + p) (textOf l p)
+readArg Blob base l p = having 4 l (having (reach p (4 + number 4 l)) l (Given (base + (p + 4)) (number 4 l) (reach p (4 + number 4 l))))
+readArg Scalar base l p = having 4 l (cond (isScalar (number 4 l)) (Given (number 4 l) 0 4) (Refused NotScalar))
+readArg Unknown base l p = Refused UnknownTag

@@ -1,13 +1,13 @@
 // The data of one argument, one function to each class of data. Bytes that are missing are `RunsOut`.
-use wire::be_u32;
+use node::tags::Class;
 use refusal::Fault;
 use text::Text;
-use node::tags::Class;
+use wire::be_u32;
 ghost use mathlib.Core.Path.{_≡_};
 ghost use Prim.Native.Nat.{ℕ, _+_, _≤_};
 ghost use lib.ListN.{length};
 ghost use Rattle.node.specs.declared.tags.Class.the-variants as class;
-ghost use Rattle.argument.specs.Argument.{argOf};
+ghost use Rattle.argument.specs.Argument.{readArg};
 
 // What reading one argument gives.
 pub enum Arg {
@@ -22,7 +22,7 @@ pub enum Arg {
 // Ruled out: the offset of a blob's size, in place of its bytes; a surrogate as a 'c'.
 pub fn read_osc_arg(class: Class, input: &[u8], base: usize, pos: usize) -> Arg
     requires { ⌜ base + pos + length (now input) ≤ 65535 ⌝ }
-    ensures { λ r. ⌜ r ≡ argOf class base (now (input .entry)) pos ⌝ }
+    ensures { λ r. ⌜ r ≡ readArg class base (now (input .entry)) pos ⌝ }
 {
     match class {
         Class::Four => read_four(input),
@@ -32,13 +32,16 @@ pub fn read_osc_arg(class: Class, input: &[u8], base: usize, pos: usize) -> Arg
             b: 0,
             used: 0,
         },
-        _ => read_rare(class, input, base, pos),
+        Class::Text => read_text(input, base, pos),
+        Class::Blob => read_blob(input, base, pos),
+        Class::Scalar => read_char(input),
+        Class::Unknown => Arg::Refused(Fault::UnknownTag),
     }
 }
 
 // 4 bytes as they are ('i', 'f', 'r', 'm'), wherever they stand.
-pub fn read_four(input: &[u8]) -> Arg
-    ensures { λ r. ⌜ ((base pos : ℕ) → r ≡ argOf class.Four base (now (input .entry)) pos) ⌝ }
+fn read_four(input: &[u8]) -> Arg
+    ensures { λ r. ⌜ ((base pos : ℕ) → r ≡ readArg class.Four base (now (input .entry)) pos) ⌝ }
 {
     if input.len() < 4 {
         return Arg::Refused(Fault::RunsOut);
@@ -51,8 +54,8 @@ pub fn read_four(input: &[u8]) -> Arg
 }
 
 // 8 bytes as they are ('h', 'd', 't'), wherever they stand.
-pub fn read_eight(input: &[u8]) -> Arg
-    ensures { λ r. ⌜ ((base pos : ℕ) → r ≡ argOf class.Eight base (now (input .entry)) pos) ⌝ }
+fn read_eight(input: &[u8]) -> Arg
+    ensures { λ r. ⌜ ((base pos : ℕ) → r ≡ readArg class.Eight base (now (input .entry)) pos) ⌝ }
 {
     if input.len() < 8 {
         return Arg::Refused(Fault::RunsOut);
@@ -65,8 +68,8 @@ pub fn read_eight(input: &[u8]) -> Arg
 }
 
 // A scalar number ('c'), wherever it stands.
-pub fn read_char(input: &[u8]) -> Arg
-    ensures { λ r. ⌜ ((base pos : ℕ) → r ≡ argOf class.Scalar base (now (input .entry)) pos) ⌝ }
+fn read_char(input: &[u8]) -> Arg
+    ensures { λ r. ⌜ ((base pos : ℕ) → r ≡ readArg class.Scalar base (now (input .entry)) pos) ⌝ }
 {
     if input.len() < 4 {
         return Arg::Refused(Fault::RunsOut);
@@ -83,9 +86,9 @@ pub fn read_char(input: &[u8]) -> Arg
 }
 
 // A text ('s'): the range of its bytes.
-pub fn read_text(input: &[u8], base: usize, pos: usize) -> Arg
+fn read_text(input: &[u8], base: usize, pos: usize) -> Arg
     requires { ⌜ base + pos + length (now input) ≤ 65535 ⌝ }
-    ensures { λ r. ⌜ r ≡ argOf class.Text base (now (input .entry)) pos ⌝ }
+    ensures { λ r. ⌜ r ≡ readArg class.Text base (now (input .entry)) pos ⌝ }
 {
     match text::read_osc_string(input, pos) {
         Text::Found { length, used } => Arg::Given {
@@ -98,9 +101,9 @@ pub fn read_text(input: &[u8], base: usize, pos: usize) -> Arg
 }
 
 // A size and so many bytes ('b'): the range of the bytes. A size is below 2^32, so no sum of 64 bits wraps.
-pub fn read_blob(input: &[u8], base: usize, pos: usize) -> Arg
+fn read_blob(input: &[u8], base: usize, pos: usize) -> Arg
     requires { ⌜ base + pos + length (now input) ≤ 65535 ⌝ }
-    ensures { λ r. ⌜ r ≡ argOf class.Blob base (now (input .entry)) pos ⌝ }
+    ensures { λ r. ⌜ r ≡ readArg class.Blob base (now (input .entry)) pos ⌝ }
 {
     if input.len() < 4 {
         return Arg::Refused(Fault::RunsOut);
@@ -114,25 +117,5 @@ pub fn read_blob(input: &[u8], base: usize, pos: usize) -> Arg
         a: (base + pos + 4) as u32,
         b: size,
         used,
-    }
-}
-
-// The data of one argument, of whatever class: the readers call it for the classes that they do not read themselves.
-pub fn read_rare(class: Class, input: &[u8], base: usize, pos: usize) -> Arg
-    requires { ⌜ base + pos + length (now input) ≤ 65535 ⌝ }
-    ensures { λ r. ⌜ r ≡ argOf class base (now (input .entry)) pos ⌝ }
-{
-    match class {
-        Class::Four => read_four(input),
-        Class::Eight => read_eight(input),
-        Class::Bare => Arg::Given {
-            a: 0,
-            b: 0,
-            used: 0,
-        },
-        Class::Text => read_text(input, base, pos),
-        Class::Blob => read_blob(input, base, pos),
-        Class::Scalar => read_char(input),
-        Class::Unknown => Arg::Refused(Fault::UnknownTag),
     }
 }

@@ -18,10 +18,10 @@ use Rattle.node.specs.declared.tags.Class.{Class}
 use Rattle.node.specs.declared.tags.Sort.{Sort}
 use Rattle.node.specs.declared.tags.Sort.the-variants.{Opens, Closes, Leaf}
 use Rattle.node.proofs.Forests.{size-snoc}
-use Rattle.argument.specs.Argument.{argOf}
-use Rattle.arguments.specs.Arguments.{Args, refused, args, later, taken, act, readArgs, argsOf}
-use Rattle.arguments.specs.Readings.{keptOf, Room}
-use Rattle.scan.specs.Scans.{before, back, AllClosed}
+use Rattle.argument.specs.Argument.{readArg}
+use Rattle.arguments.specs.Arguments.{Args, refused, args, later, argTaken, act, readTags, readArgs}
+use Rattle.arguments.specs.CodeReadings.{keptOf, ArgsRoom}
+use Rattle.scan.specs.CodeScans.{tagBefore, back, AllClosed}
 use Rattle.argument.specs.declared.Arg.the-variants as arg
 use Rattle.scan.specs.declared.Back.{Back}
 use Rattle.scan.specs.declared.Back.the-variants.{Whole, Cut}
@@ -38,7 +38,7 @@ pub record Filling (base : ℕ) (F : Forest) (i E : ℕ) (T₀ T ts m : List ℕ
   pub below : List Forest
   pub left : ℕ
   pub used : ℕ
-  pub reads : readArgs base ts m q frame below ≡ args F used
+  pub reads : readTags base ts m q frame below ≡ args F used
   pub ahead : back ts ≡ Whole (length below) left
   pub count : n + left ≡ size F
   pub place : n ≡ held frame below
@@ -48,13 +48,14 @@ pub record Filling (base : ℕ) (F : Forest) (i E : ℕ) (T₀ T ts m : List ℕ
   pub fits : recordSize * size F ≤ length T₀
   pub low : i + size F ≤ 65535
 
-pub filling-start : (base : ℕ) (ts m : List ℕ) (q i : ℕ) (T₀ : List ℕ) → Room (argsOf base ts m q) i T₀ → AllClosed (back ts)
-    → Filling base (keptOf (argsOf base ts m q)) i (q + length m) T₀ T₀ ts m q 0 0
+-- at the start nothing is written, and all is left
+pub filling-start : (base : ℕ) (ts m : List ℕ) (q i : ℕ) (T₀ : List ℕ) → ArgsRoom (readArgs base ts m q) i T₀ → AllClosed (back ts)
+    → Filling base (keptOf (readArgs base ts m q)) i (q + length m) T₀ T₀ ts m q 0 0
 unfolding recordsOf size
 filling-start base ts m q i T₀ w closed =
-    by-both (argsOf base ts m q) (back ts) refl refl w closed (deep-law base ts m q nil [] (w .accepted)) (args-counted base ts m q)
+    by-both (readArgs base ts m q) (back ts) refl refl w closed (deep-law base ts m q nil [] (w .accepted)) (args-counted base ts m q)
   where
-    by-both : (o : Args) (k : Back) → argsOf base ts m q ≡ o → back ts ≡ k → Room o i T₀ → AllClosed k → Deep k 0 → Counts (counted k) o
+    by-both : (o : Args) (k : Back) → readArgs base ts m q ≡ o → back ts ≡ k → ArgsRoom o i T₀ → AllClosed k → Deep k 0 → Counts (counted k) o
         → Filling base (keptOf o) i (q + length m) T₀ T₀ ts m q 0 0
     by-both (refused fault) k e b r closed d s = absurd (r .accepted)
     by-both (args kept used) (Cut n c) e b r closed d s = absurd closed
@@ -93,18 +94,18 @@ record Fewer (k : Back) (d c : ℕ) : Type 0 where
   pub is : k ≡ Whole d rest
   pub one : c ≡ suc rest
 
-fewer-opens : (k : Back) (d c : ℕ) → before Opens k ≡ Whole d c → Fewer k (suc d) c
+fewer-opens : (k : Back) (d c : ℕ) → tagBefore Opens k ≡ Whole d c → Fewer k (suc d) c
 fewer-opens (Cut n x) d c e = absurd (clash (sym e))
 fewer-opens (Whole zero x) d c e = absurd (clash (sym e))
 fewer-opens (Whole (suc n) x) d c e =
     let z : n ≡ d = cc in let y : suc x ≡ c = cc in record { rest = x; is = ap (λ (m : ℕ). Whole (suc m) x) z; one = sym y }
 
-fewer-leaf : (class : Class) (k : Back) (d c : ℕ) → before (Leaf class) k ≡ Whole d c → Fewer k d c
+fewer-leaf : (class : Class) (k : Back) (d c : ℕ) → tagBefore (Leaf class) k ≡ Whole d c → Fewer k d c
 fewer-leaf class (Cut n x) d c e = absurd (clash (sym e))
 fewer-leaf class (Whole n x) d c e =
     let z : n ≡ d = cc in let y : suc x ≡ c = cc in record { rest = x; is = ap (λ (m : ℕ). Whole m x) z; one = sym y }
 
-closes-one : (k : Back) (d c : ℕ) → before Closes k ≡ Whole d c → (d ≡ 0 → ⊥) × (k ≡ Whole (d - 1) c)
+closes-one : (k : Back) (d c : ℕ) → tagBefore Closes k ≡ Whole d c → (d ≡ 0 → ⊥) × (k ≡ Whole (d - 1) c)
 closes-one (Cut n x) d c e = absurd (clash (sym e))
 closes-one (Whole n x) d c e = let z : suc n ≡ d = cc in let y : x ≡ c = cc in let s : n ≡ d - 1 = omega arith in ((λ h. omega arith), cc)
 
@@ -122,22 +123,22 @@ module _ {base : ℕ} {F : Forest} {i E : ℕ} {T₀ T ts m : List ℕ} {q n top
     (h : 0 < length ts) where
   -- what the first tag does
   turned : {s : Sort} → s ≡ sortOf (getD ts 0 0)
-      → act s (λ m q f b. readArgs base (drop 1 ts) m q f b) base (getD ts 0 0) m q (w .frame) (w .below) ≡ args F (w .used)
-  unfolding readArgs
+      → act s (λ m q f b. readTags base (drop 1 ts) m q f b) base (getD ts 0 0) m q (w .frame) (w .below) ≡ args F (w .used)
+  unfolding readTags
   turned {s} e = rw e (by-list ts h (w .reads))
     where
-      by-list : (ts : List ℕ) → 0 < length ts → readArgs base ts m q (w .frame) (w .below) ≡ args F (w .used)
-          → act (sortOf (getD ts 0 0)) (λ m q f b. readArgs base (drop 1 ts) m q f b) base (getD ts 0 0) m q (w .frame) (w .below) ≡ args
+      by-list : (ts : List ℕ) → 0 < length ts → readTags base ts m q (w .frame) (w .below) ≡ args F (w .used)
+          → act (sortOf (getD ts 0 0)) (λ m q f b. readTags base (drop 1 ts) m q f b) base (getD ts 0 0) m q (w .frame) (w .below) ≡ args
           F (w .used)
       by-list [] h r = absurd (omega arith)
       by-list (t ∷ ts) h r = r
 
-  looked : {s : Sort} → s ≡ sortOf (getD ts 0 0) → before s (back (drop 1 ts)) ≡ Whole (length (w .below)) (w .left)
+  looked : {s : Sort} → s ≡ sortOf (getD ts 0 0) → tagBefore s (back (drop 1 ts)) ≡ Whole (length (w .below)) (w .left)
   unfolding back
   looked {s} e = rw e (by-list ts h (w .ahead))
     where
       by-list : (ts : List ℕ) → 0 < length ts → back ts ≡ Whole (length (w .below)) (w .left)
-          → before (sortOf (getD ts 0 0)) (back (drop 1 ts)) ≡ Whole (length (w .below)) (w .left)
+          → tagBefore (sortOf (getD ts 0 0)) (back (drop 1 ts)) ≡ Whole (length (w .below)) (w .left)
       by-list [] h a = absurd (omega arith)
       by-list (t ∷ ts) h a = a
 
@@ -162,13 +163,16 @@ module _ {base : ℕ} {F : Forest} {i E : ℕ} {T₀ T ts m : List ℕ} {q n top
   one-more : n + 1 ≤ size F → (top ≤ n) × (i + n + 1 ≤ 65535) × (recordSize * n + recordSize ≤ length T)
   one-more k = (held-there .0, omega (arith, w .low), omega (arith, w .fits, wrote-length _ _ _ (w .table)))
 
+  -- there is room for the record of an array that opens
   pub room-opens : Opens ≡ sortOf (getD ts 0 0) → (top ≤ n) × (i + n + 1 ≤ 65535) × (recordSize * n + recordSize ≤ length T)
   room-opens e = one-more (omega (arith, has-opens e .one, w .count))
 
+  -- there is room for the record of an argument
   pub room-leaf : {class : Class} → Leaf class ≡ sortOf (getD ts 0 0)
       → (top ≤ n) × (i + n + 1 ≤ 65535) × (recordSize * n + recordSize ≤ length T)
   room-leaf e = one-more (omega (arith, has-leaf e .one, w .count))
 
+  -- an array that closes is open, and its record is written
   pub room-closes : Closes ≡ sortOf (getD ts 0 0) → (1 ≤ top) × ((top ≤ n) × (i + n ≤ 65535) × (recordSize * n ≤ length T))
   room-closes e = (by-below (w .below) (w .linked) (has-closes e .0), held-there)
     where
@@ -179,6 +183,7 @@ module _ {base : ℕ} {F : Forest} {i E : ℕ} {T₀ T ts m : List ℕ} {q n top
   len : length (layout i (w .frame) (w .below)) ≡ recordSize * n
   len = length-layout i (w .frame) (w .below) ∙ ap (λ (x : ℕ). recordSize * x) (sym (w .place))
 
+  -- a tag that opens: the record of its array is written, with the link in place of the end
   pub filling-opens : {T′ : List ℕ} → Opens ≡ sortOf (getD ts 0 0) → Wrote (take (recordSize * n) T ++ recordOf 91 top 0 0) T T′
       → Filling base F i E T₀ T′ (take (length ts - 1) (drop 1 ts)) m q (n + 1) (n + 1)
   unfolding size
@@ -203,7 +208,8 @@ module _ {base : ℕ} {F : Forest} {i E : ℕ} {T₀ T ts m : List ℕ} {q n top
         low = w .low;
       })
 
-  pub filling-leaf : {T′ : List ℕ} {class : Class} {a b u : ℕ} → Leaf class ≡ sortOf (getD ts 0 0) → arg.Given a b u ≡ argOf class base m q
+  -- a tag with an argument: its record is written, and its bytes are read
+  pub filling-leaf : {T′ : List ℕ} {class : Class} {a b u : ℕ} → Leaf class ≡ sortOf (getD ts 0 0) → arg.Given a b u ≡ readArg class base m q
       → Wrote (take (recordSize * n) T ++ recordOf (getD ts 0 0) (i + n + 1) a b) T T′
       → Filling base F i E T₀ T′ (take (length ts - 1) (drop 1 ts)) (take (length m - u) (drop u m)) (q + u) (n + 1) top
   unfolding size
@@ -212,9 +218,9 @@ module _ {base : ℕ} {F : Forest} {i E : ℕ} {T₀ T ts m : List ℕ} {q n top
       let f = snoc (w .frame) t a b nil in
       let k = has-leaf e in
       let within : u ≤ length m = given-within class base m q g in
-      let r : later u (readArgs base (drop 1 ts) (drop u m) (q + u) f (w .below)) ≡ args F (w .used) =
-      ap (taken (λ m q f. readArgs base (drop 1 ts) m q f (w .below)) t m q (w .frame)) g ∙ turned e in
-      let o = later-args u (readArgs base (drop 1 ts) (drop u m) (q + u) f (w .below)) r in
+      let r : later u (readTags base (drop 1 ts) (drop u m) (q + u) f (w .below)) ≡ args F (w .used) =
+      ap (argTaken (λ m q f. readTags base (drop 1 ts) m q f (w .below)) t m q (w .frame)) g ∙ turned e in
+      let o = later-args u (readTags base (drop 1 ts) (drop u m) (q + u) f (w .below)) r in
       rw (tail ts 1, tail m u)
       (record {
         frame = f;
@@ -234,6 +240,7 @@ module _ {base : ℕ} {F : Forest} {i E : ℕ} {T₀ T ts m : List ℕ} {q n top
         low = w .low;
       })
 
+  -- a tag that closes: the end takes the place of the link in the record of its array
   pub filling-closes : {T′ : List ℕ} {r : ℕ} → Closes ≡ sortOf (getD ts 0 0) → r ≡ endAt T (top - 1)
       → Wrote (take (recordSize * (top - 1) + 4) T ++ bytes 4 (i + n)) T T′
       → Filling base F i E T₀ T′ (take (length ts - 1) (drop 1 ts)) m q n r
@@ -241,7 +248,7 @@ module _ {base : ℕ} {F : Forest} {i E : ℕ} {T₀ T ts m : List ℕ} {q n top
       by-below (w .below) (has-closes e .0) (has-closes e .1) (turned e) (w .place) (w .linked) (w .table)
     where
       by-below : (b : List Forest) → (length b ≡ 0 → ⊥) → back (drop 1 ts) ≡ Whole (length b - 1) (w .left)
-          → act Closes (λ m q f b. readArgs base (drop 1 ts) m q f b) base (getD ts 0 0) m q (w .frame) b ≡ args F (w .used)
+          → act Closes (λ m q f b. readTags base (drop 1 ts) m q f b) base (getD ts 0 0) m q (w .frame) b ≡ args F (w .used)
           → n ≡ held (w .frame) b → top ≡ link b → Wrote (layout i (w .frame) b) T₀ T
           → Filling base F i E T₀ T′ (take (length ts - 1) (drop 1 ts)) m q n r
       by-below [] z k rd pl li tb = absurd (z refl)
@@ -271,20 +278,21 @@ module _ {base : ℕ} {F : Forest} {i E : ℕ} {T₀ T ts m : List ℕ} {q n top
           })
 
   -- what is accepted has no argument that is refused
-  pub filling-refused : {class : Class} {fault : Fault} → Leaf class ≡ sortOf (getD ts 0 0) → arg.Refused fault ≡ argOf class base m q → ⊥
+  pub filling-refused : {class : Class} {fault : Fault} → Leaf class ≡ sortOf (getD ts 0 0) → arg.Refused fault ≡ readArg class base m q → ⊥
   filling-refused {class} {fault} e g =
       let r : refused fault ≡ args F (w .used) =
-      ap (taken (λ m q f. readArgs base (drop 1 ts) m q f (w .below)) (getD ts 0 0) m q (w .frame)) g ∙ turned e in
+      ap (argTaken (λ m q f. readTags base (drop 1 ts) m q f (w .below)) (getD ts 0 0) m q (w .frame)) g ∙ turned e in
       let z : _≡_ {A = ℕ} 0 1 = cc in omega arith
 
 -- where no tag is left, the frame is all, and none waits below it
 ended : (base : ℕ) (ts m : List ℕ) (q : ℕ) {frame F : Forest} {used d c : ℕ} (below : List Forest) → length ts ≤ 0
-    → readArgs base ts m q frame below ≡ args F used
+    → readTags base ts m q frame below ≡ args F used
     → back ts ≡ Whole d c → (frame ≡ F) × (d ≡ 0)
-unfolding readArgs back
+unfolding readTags back
 ended base (t ∷ ts) m q below h r a = absurd (omega arith)
 ended base [] m q {frame} {F} {used} {d} {c} below h r a = (cc, cc)
 
+-- where no tag is left, the records are those of all
 pub filling-done : {base : ℕ} {F : Forest} {i E : ℕ} {T₀ T ts m : List ℕ} {q n top : ℕ} → Filling base F i E T₀ T ts m q n top
     → length ts ≤ 0
     → Wrote (recordsOf i F) T₀ T

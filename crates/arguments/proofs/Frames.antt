@@ -25,10 +25,12 @@ abbrev pub link : List Forest → ℕ
 link [] = 0
 link (f ∷ below) = held f below + 1
 
+-- the bytes of a frame and of those below it, the first record with index i
 abbrev pub layout : ℕ → Forest → List Forest → List ℕ
 layout i frame [] = recordsOf i frame
 layout i frame (f ∷ below) = layout i f below ++ (recordOf 91 (link below) 0 0 ++ recordsOf (i + held f below + 1) frame)
 
+-- each record held is one record long
 pub length-layout : (i : ℕ) (frame : Forest) (below : List Forest) → length (layout i frame below) ≡ recordSize * held frame below
 length-layout i frame [] = length-records i frame
 length-layout i frame (f ∷ below) =
@@ -41,6 +43,7 @@ layout-snoc i frame (f ∷ below) k a b g =
     let e : i + (held f below + 1 + size frame) ≡ i + held f below + 1 + size frame = omega arith in
     rw (records-snoc (i + held f below + 1) frame k a b g, e, append-assoc, append-assoc)
 
+-- one argument more is one record more, which ends after itself
 pub layout-leaf : (i : ℕ) (frame : Forest) (below : List Forest) (k a b : ℕ)
     → layout i (snoc frame k a b nil) below ≡ layout i frame below ++ recordOf k (i + held frame below + 1) a b
 unfolding recordsOf size
@@ -48,6 +51,7 @@ layout-leaf i frame below k a b =
     let e : i + held frame below + 1 + 0 ≡ i + held frame below + 1 = omega arith in
     layout-snoc i frame below k a b nil ∙ rw (e, append-nil (recordOf k (i + held frame below + 1) a b))
 
+-- an array that opens is one record more, which holds the link
 pub layout-open : (i : ℕ) (frame : Forest) (below : List Forest)
     → layout i nil (frame ∷ below) ≡ layout i frame below ++ recordOf 91 (link below) 0 0
 unfolding recordsOf
@@ -55,12 +59,15 @@ layout-open i frame below = rw (append-nil (recordOf 91 (link below) 0 0))
 
 -- ---- an array's record, apart: what stands before its end, and after it
 
+-- what stands before the end of an open array
 abbrev pub front : ℕ → Forest → List Forest → List ℕ
 front i f below = layout i f below ++ (91 ∷ 0 ∷ 0 ∷ 0 ∷ [])
 
+-- what stands after it
 abbrev pub behind : ℕ → Forest → Forest → List Forest → List ℕ
 behind i frame f below = (bytes 4 0 ++ bytes 4 0) ++ recordsOf (i + held f below + 1) frame
 
+-- the end of an open array stands 4 bytes into its record
 pub length-front : (i : ℕ) (f : Forest) (below : List Forest) → length (front i f below) ≡ recordSize * held f below + 4
 length-front i f below = length-append (layout i f below) (91 ∷ 0 ∷ 0 ∷ 0 ∷ []) ∙ ap (λ (n : ℕ). n + 4) (length-layout i f below)
 
@@ -84,6 +91,7 @@ once-closed i frame f below =
     layout-snoc i f below 91 0 0 frame
     ∙ rw (append-nil r, e) (apart (i + held frame (f ∷ below)) (layout i f below) r)
 
+-- in the end of the array that is open last stands the link to the one below it
 pub link-there : (i : ℕ) (frame f : Forest) (below : List Forest) {o₀ o : List ℕ} → Wrote (layout i frame (f ∷ below)) o₀ o
     → link below < 256 ^ 4
     → endAt o (held f below) ≡ link below

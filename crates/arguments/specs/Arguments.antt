@@ -9,7 +9,7 @@ use Rattle.node.specs.Forest.{Forest, nil, snoc}
 use Rattle.node.specs.Tags.{sortOf}
 use Rattle.node.specs.declared.tags.Sort.{Sort}
 use Rattle.node.specs.declared.tags.Sort.the-variants.{Opens, Closes, Leaf}
-use Rattle.argument.specs.Argument.{argOf}
+use Rattle.argument.specs.Argument.{readArg}
 use Rattle.argument.specs.declared.Arg.{Arg}
 use Rattle.argument.specs.declared.Arg.the-variants as arg
 
@@ -24,9 +24,9 @@ later n (refused fault) = refused fault
 later n (args kept used) = args kept (n + used)
 
 -- one argument more at the end of the frame; `go` reads the later tags' data
-abbrev pub taken : (List ℕ → ℕ → Forest → Args) → ℕ → List ℕ → ℕ → Forest → Arg → Args
-taken go tag l p frame (arg.Refused fault) = refused fault
-taken go tag l p frame (arg.Given a b used) = later used (go (drop used l) (p + used) (snoc frame tag a b nil))
+abbrev pub argTaken : (List ℕ → ℕ → Forest → Args) → ℕ → List ℕ → ℕ → Forest → Arg → Args
+argTaken go tag l p frame (arg.Refused fault) = refused fault
+argTaken go tag l p frame (arg.Given a b used) = later used (go (drop used l) (p + used) (snoc frame tag a b nil))
 
 -- what one tag does: [ lets the frame wait and opens a new one, ] puts the frame as an array at the end of the one below, any
 -- other is an argument
@@ -34,13 +34,13 @@ abbrev pub act : Sort → (List ℕ → ℕ → Forest → List Forest → Args)
 act Opens go base tag l p frame below = go l p nil (frame ∷ below)
 act Closes go base tag l p frame [] = refused NotOpen
 act Closes go base tag l p frame (outer ∷ below) = go l p (snoc outer 91 0 0 frame) below
-act (Leaf class) go base tag l p frame below = taken (λ m q f. go m q f below) tag l p frame (argOf class base l p)
+act (Leaf class) go base tag l p frame below = argTaken (λ m q f. go m q f below) tag l p frame (readArg class base l p)
 
 -- each tag's data before the next tag; at the end the frame that is filled is kept, and what waits below it is lost (rule 3)
-unfoldable pub readArgs : ℕ → List ℕ → List ℕ → ℕ → Forest → List Forest → Args
-readArgs base [] l p frame below = args frame 0
-readArgs base (tag ∷ tags) l p frame below = act (sortOf tag) (λ m q f b. readArgs base tags m q f b) base tag l p frame below
+unfoldable pub readTags : ℕ → List ℕ → List ℕ → ℕ → Forest → List Forest → Args
+readTags base [] l p frame below = args frame 0
+readTags base (tag ∷ tags) l p frame below = act (sortOf tag) (λ m q f b. readTags base tags m q f b) base tag l p frame below
 
 -- the data of a message's tags, from the first: an empty frame, and none that waits
-abbrev pub argsOf : ℕ → List ℕ → List ℕ → ℕ → Args
-argsOf base tags l p = readArgs base tags l p nil []
+abbrev pub readArgs : ℕ → List ℕ → List ℕ → ℕ → Args
+readArgs base tags l p = readTags base tags l p nil []

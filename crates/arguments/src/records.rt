@@ -2,12 +2,12 @@
 // record holds in place of its end the link to the open array around it.
 use argument::Arg;
 use argument::read_osc_arg;
-use wire::be_u32;
-use wire::put_u32;
 use node::record::RECORD_SIZE;
 use node::record::put_record;
 use node::tags::Sort;
 use node::tags::sort_of;
+use wire::be_u32;
+use wire::put_u32;
 ghost use mathlib.Core.Path.{_≡_};
 ghost use mathlib.Core.List.{_++_};
 ghost use Prim.Native.Nat.{_+_, _*_, _≤_, _<_};
@@ -15,9 +15,9 @@ ghost use lib.ListN.{length, take};
 ghost use Rattle.wire.specs.Number.{bytes};
 ghost use Rattle.wire.specs.Wrote.{Wrote};
 ghost use Rattle.node.specs.Records.{recordSize, recordOf, recordsOf, endAt};
-ghost use Rattle.arguments.specs.Arguments.{argsOf};
-ghost use Rattle.arguments.specs.Readings.{keptOf, Room};
-ghost use Rattle.scan.specs.Scans.{back, AllClosed};
+ghost use Rattle.arguments.specs.Arguments.{readArgs};
+ghost use Rattle.arguments.specs.CodeReadings.{keptOf, ArgsRoom};
+ghost use Rattle.scan.specs.CodeScans.{back, AllClosed};
 
 // Writes record `n`; the records before it stay.
 fn put_at(table: &mut [u8], n: usize, kind: u8, end: u32, a: u32, b: u32)
@@ -41,6 +41,8 @@ fn swap_end(table: &mut [u8], n: usize, end: u32) -> u32
 
 // Writes the records of arguments whose arrays are all closed. `top` is the link to the innermost open array: one more than its
 // place among the records written, or 0 for none.
+//
+// Ruled out: the end of an argument at its own index; an open array that holds no link.
 pub fn fill_whole(
     tags: &[u8],
     input: &[u8],
@@ -50,9 +52,9 @@ pub fn fill_whole(
     index: usize,
 )
     requires { ⌜ base + pos + length (now input) ≤ 65535 ⌝ }
-    requires { ⌜ Room (argsOf base (now tags) (now input) pos) index (now table) ⌝ }
+    requires { ⌜ ArgsRoom (readArgs base (now tags) (now input) pos) index (now table) ⌝ }
     requires { ⌜ AllClosed (back (now tags)) ⌝ }
-    ensures { λ _. ⌜ Wrote (recordsOf index (keptOf (argsOf base (now (tags .entry)) (now (input .entry)) pos))) (now (table .entry)) (now (table .exit)) ⌝ }
+    ensures { λ _. ⌜ Wrote (recordsOf index (keptOf (readArgs base (now (tags .entry)) (now (input .entry)) pos))) (now (table .entry)) (now (table .exit)) ⌝ }
 {
     let mut left = tags;
     let mut rest = input;

@@ -1,4 +1,4 @@
--- `arguments::argument::read_blob` meets its contract.
+-- `argument::read_blob` meets its contract.
 use Rattle.argument.proofs.Argued.{blob-short, blob-lacks, blob-given}
 use borrow.Author.Needs.{needs}
 use Rattle.argument.proofs.read_blob.Statement.{statement}

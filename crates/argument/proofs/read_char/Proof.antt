@@ -1,4 +1,4 @@
--- `arguments::argument::read_char` meets its contract.
+-- `argument::read_char` meets its contract.
 use mathlib.Core.Path.{sym, _∙_}
 use Rattle.argument.proofs.Argued.{scalar-short, scalar-given, not-scalar}
 use borrow.Author.Needs.{needs}

@@ -1,4 +1,4 @@
--- `arguments::argument::read_eight` meets its contract.
+-- `argument::read_eight` meets its contract.
 use Rattle.argument.proofs.Argued.{eight-short, eight-given}
 use borrow.Author.Needs.{needs}
 use Rattle.argument.proofs.read_eight.Statement.{statement}

@@ -1,4 +1,4 @@
--- `arguments::argument::read_four` meets its contract.
+-- `argument::read_four` meets its contract.
 use Rattle.argument.proofs.Argued.{four-short, four-given}
 use borrow.Author.Needs.{needs}
 use Rattle.argument.proofs.read_four.Statement.{statement}

@@ -1,4 +1,4 @@
--- `arguments::argument::read_text` meets its contract.
+-- `argument::read_text` meets its contract.
 use mathlib.Core.Path.{sym, _∙_}
 use native.Mathlib.Omega.{arith}
 use Rattle.argument.proofs.Argued.{text-given, text-lacks}

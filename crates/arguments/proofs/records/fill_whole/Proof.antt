@@ -1,12 +1,12 @@
--- `arguments::fill::fill_whole` meets its contract. The invariant: the records written are those of the frames read so far, and what
+-- `arguments::records::fill_whole` meets its contract. The invariant: the records written are those of the frames read so far, and what
 -- is left completes them to those of all.
 use Prim.Native.Nat.{_+_}
 use mathlib.Core.Path.{sym, _∙_}
 use native.Mathlib.Omega.{arith}
 use lib.ListN.{length}
 use Rattle.wire.proofs.Writers.{wrote-length}
-use Rattle.arguments.specs.Arguments.{argsOf}
-use Rattle.arguments.specs.Readings.{keptOf}
+use Rattle.arguments.specs.Arguments.{readArgs}
+use Rattle.arguments.specs.CodeReadings.{keptOf}
 use Rattle.argument.proofs.Within.{given-within}
 use Rattle.arguments.proofs.Filling.{Filling, filling-start, room-opens, room-leaf, room-closes, filling-opens, filling-leaf}
 use Rattle.arguments.proofs.Filling.{filling-closes, filling-refused, filling-done}
@@ -16,7 +16,7 @@ use Rattle.arguments.proofs.records.fill_whole.Tie as tie
 
 abbrev Inv-loop : tie.InvT-loop
 Inv-loop tags input base pos table₀ index left₀ rest₀ at₀ n₀ top₀ table left rest at n top =
-    Filling base (keptOf (argsOf base tags input pos)) index (pos + length input) table₀ table left rest at n top
+    Filling base (keptOf (readArgs base tags input pos)) index (pos + length input) table₀ table left rest at n top
 
 abbrev μ-loop : tie.MeasureT-loop
 μ-loop tags input base pos table₀ index left₀ rest₀ at₀ n₀ top₀ table left rest at n top = length left

@@ -1,4 +1,4 @@
--- `arguments::fill::swap_end` meets its contract.
+-- `arguments::records::swap_end` meets its contract.
 use Prim.Native.Nat.{_+_, _*_}
 use native.Mathlib.Omega.{arith}
 use Rattle.node.specs.Records.{recordSize, endAt}
