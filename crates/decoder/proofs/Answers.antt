@@ -15,7 +15,7 @@ use Rattle.packet.specs.Packet.{Out, fault, one, readPacket}
 use Rattle.decoder.specs.Framing.{Whole, trees, waiting, refusal, single, udp, Frame, tree, wait, stop, frameOf, first, tcp, tcpVec}
 use Rattle.decoder.specs.Limits.{limited, decoded, forestOf}
 use Rattle.fill.specs.Known.{Known}
-use Rattle.measure.specs.FirstReading.{extent}
+use Rattle.measure.specs.CodeMeasure.{extent}
 use Rattle.fill.specs.SecondReading.{treeOf, Room}
 use Rattle.decoder.specs.Readings.{frameExtent, framePacket, Accepted, totalOf, answered}
 use Rattle.decoder.specs.declared.Decoded.{Decoded}

@@ -11,8 +11,8 @@ use Rattle.node.specs.Forest.{size, depth, snoc}
 use Rattle.node.specs.Records.{recordsOf, recordOf, stored}
 use Rattle.node.specs.Tags.{classOf, sortOf}
 use Rattle.text.specs.Text.{textOf}
-use Rattle.argument.specs.Argument.{argOf}
-use Rattle.arguments.specs.Arguments.{readArgs}
+use Rattle.argument.specs.Argument.{readArg}
+use Rattle.arguments.specs.Arguments.{readTags}
 use Rattle.packet.specs.Packet.{readMessage, bundleBy, packetBy, elementBy, elementsBy, packetAt, readPacket}
 use Rattle.decoder.specs.Framing.{Whole, udp, frameOf, tcp, framesAt, frames, tcpVec}
 use Rattle.decoder.specs.Limits.{decoded, forestOf, tabled}
@@ -68,7 +68,7 @@ pub record Proved : Type 0 where
   pub p14 : Answers tcp (hex (0x00000009 ∷ 0x2F610000 ∷ [])) Waiting
 
 pub proved : Proved
-unfolding decoded size depth snoc number bytes classOf sortOf textOf argOf readArgs readMessage bundleOf packetOf elementOf elementsOf
+unfolding decoded size depth snoc number bytes classOf sortOf textOf readArg readTags readMessage bundleOf packetOf elementOf elementsOf
     packetAt packet udp frameOf tcp framesAt frames tcpVec stored recordsOf recordOf
 proved =
     record {
@@ -142,7 +142,7 @@ pub record Traps : Type 0 where
   pub t26 : decoded tcpVec 8 1 (hex (0x00000000 ∷ []) ++ (nested ++ hex (0x00000000 ∷ []))) ≡ Refused (Unreadable Empty)
 
 pub traps : Traps
-unfolding decoded size depth snoc number bytes classOf sortOf textOf argOf readArgs readMessage bundleOf packetOf elementOf elementsOf
+unfolding decoded size depth snoc number bytes classOf sortOf textOf readArg readTags readMessage bundleOf packetOf elementOf elementsOf
     packetAt packet udp frameOf tcp framesAt frames tcpVec stored recordsOf recordOf
 traps =
     record {

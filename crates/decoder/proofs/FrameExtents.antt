@@ -16,7 +16,7 @@ use Rattle.packet.specs.Packet.{Out, fault, one, readPacket}
 use Rattle.decoder.specs.Framing.{Whole, trees, waiting, refusal, Frame, tree, wait, stop, framed, frameOf, before, afterFrame}
 use Rattle.decoder.specs.Framing.{framesAt, frames, tcpVec}
 use Rattle.packet.specs.Heads.{prefixOf}
-use Rattle.measure.specs.FirstReading.{extent}
+use Rattle.measure.specs.CodeMeasure.{extent}
 use Rattle.decoder.specs.Readings.{frameExtent, totalOf, added}
 use Rattle.packet.specs.declared.Prefix.the-variants as prefix
 use Rattle.measure.specs.declared.Extent.{Extent}

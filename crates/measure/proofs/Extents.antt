@@ -15,15 +15,15 @@ use Rattle.wire.proofs.Parts.{tail}
 use Rattle.node.specs.Forest.{Forest, nil, size, depth, level}
 use Rattle.text.specs.Text.{textOf}
 use Rattle.text.specs.declared.Text.the-variants.{Found}
-use Rattle.arguments.specs.Arguments.{Args, refused, args, argsOf}
-use Rattle.arguments.specs.Readings.{measured}
+use Rattle.arguments.specs.Arguments.{Args, refused, args, readArgs}
+use Rattle.arguments.specs.CodeReadings.{measured}
 use Rattle.arguments.specs.declared.Measured.{Measured}
 use Rattle.arguments.specs.declared.Measured.the-variants as measure
 use Rattle.packet.specs.Packet.{Out, fault, one, Elements, upto, after, messageWith, readMessage, bundleWith, filling}
 use Rattle.packet.specs.Heads.{tagsIn}
 use Rattle.packet.specs.Packet.{readPacket, readElements, readBundle, readElement, usedBy, treesIn}
 use Rattle.packet.specs.Heads.{startOf, sizeOf}
-use Rattle.measure.specs.FirstReading.{extent}
+use Rattle.measure.specs.CodeMeasure.{extent}
 use Rattle.packet.specs.declared.Start.the-variants as start
 use Rattle.packet.specs.declared.ElementSize.the-variants as sized
 use Rattle.measure.specs.declared.Extent.{Extent}
@@ -59,11 +59,11 @@ module _ (base offset n room : ℕ) (l : List ℕ) (p : ℕ) where
   -- the extent of a message is that of its arguments, after the type text
   pub message-exit : {m used : ℕ} {x : Measured} {tags rest : List ℕ} → Found m used ≡ textOf l p → tags ≡ tagsIn (take m l)
       → rest ≡ drop used l
-      → x ≡ measured (argsOf base tags rest (p + used)) → messageExtent (p + used) x ≡ extent room p (readMessage base offset n l p)
+      → x ≡ measured (readArgs base tags rest (p + used)) → messageExtent (p + used) x ≡ extent room p (readMessage base offset n l p)
   message-exit {m} {used} {x} e t s g =
-      let y : x ≡ measured (argsOf base (tagsIn (take m l)) (drop used l) (p + used)) = rw (t, s) at g in
+      let y : x ≡ measured (readArgs base (tagsIn (take m l)) (drop used l) (p + used)) = rw (t, s) at g in
       ap (messageExtent (p + used)) y
-      ∙ extent-message room (p + used) offset n (argsOf base (tagsIn (take m l)) (drop used l) (p + used))
+      ∙ extent-message room (p + used) offset n (readArgs base (tagsIn (take m l)) (drop used l) (p + used))
       ∙ extent-after room p used _
       ∙ ap (extent room p) (sym (types-found base offset n l p e))
 

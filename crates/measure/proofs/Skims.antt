@@ -13,7 +13,7 @@ use Rattle.node.specs.Forest.{level, depth}
 use Rattle.packet.specs.Packet.{Out, fault, one, Elements, upto, after, readMessage, bundleWith, filling, readPacket, readElements}
 use Rattle.packet.specs.Heads.{startOf, sizeOf}
 use Rattle.packet.specs.Packet.{readBundle, readElement, usedBy}
-use Rattle.measure.specs.FirstReading.{extent, skimmed, accepted}
+use Rattle.measure.specs.CodeMeasure.{extent, skimmed, accepted}
 use Rattle.packet.specs.declared.Start.the-variants as start
 use Rattle.packet.specs.declared.ElementSize.the-variants as sized
 use Rattle.measure.specs.declared.Extent.{Extent}

@@ -1,14 +1,14 @@
 // The first reading of a packet: it writes nothing, and goes no deeper than the limit on nested bundles.
+use arguments::Measured;
 use packet::ElementSize;
 use packet::Start;
-use arguments::Measured;
 use refusal::Fault;
 use text::Text;
 ghost use mathlib.Core.Path.{_≡_};
 ghost use Prim.Native.Nat.{ℕ, _+_, _≤_};
 ghost use lib.ListN.{length};
 ghost use Rattle.packet.specs.Packet.{readMessage, readPacket, readElements, readBundle, readElement, usedBy};
-ghost use Rattle.measure.specs.FirstReading.{extent, skimmed, accepted};
+ghost use Rattle.measure.specs.CodeMeasure.{extent, skimmed, accepted};
 
 // What the first reading of a packet answers; `next` is the position after its last byte.
 pub enum Extent {

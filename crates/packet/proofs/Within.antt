@@ -11,8 +11,8 @@ use Rattle.text.specs.declared.Text.{Text}
 use Rattle.text.specs.declared.Text.the-variants.{Found, Lacks}
 use Rattle.text.specs.declared.Lack.{Lack}
 use Rattle.text.proofs.Within.{found-in}
-use Rattle.arguments.specs.Arguments.{Args, refused, args, argsOf}
-use Rattle.arguments.specs.Readings.{keptOf}
+use Rattle.arguments.specs.Arguments.{Args, refused, args, readArgs}
+use Rattle.arguments.specs.CodeReadings.{keptOf}
 use Rattle.arguments.proofs.Counts.{kept-few, args-within}
 use Rattle.packet.specs.Heads.{startOf, tagsIn, sizeOf}
 use Rattle.packet.specs.Packet.{Out, fault, one, Elements, upto, after, messageWith, typesThen, readMessage, bundleWith, bundleBy}
@@ -48,7 +48,7 @@ arguments-in offset n t u j m (args f v) h g few low = omega (arith, low f v ref
 module _ (base offset n : ℕ) (l : List ℕ) (p : ℕ) where
   -- a message with a type text
   pub types-found : {m used : ℕ} → Found m used ≡ textOf l p
-      → readMessage base offset n l p ≡ after used (messageWith offset n (argsOf base (tagsIn (take m l)) (drop used l) (p + used)))
+      → readMessage base offset n l p ≡ after used (messageWith offset n (readArgs base (tagsIn (take m l)) (drop used l) (p + used)))
   unfolding readMessage
   types-found e = sym (ap (typesThen base offset n l p) e)
 
@@ -67,7 +67,7 @@ module _ (base offset n : ℕ) (l : List ℕ) (p : ℕ) where
           let text = take m l in
           let tags = tagsIn text in
           rw (types-found e)
-          (arguments-in offset n (length tags) used (length (drop used l)) (length l) (argsOf base tags (drop used l) (p + used))
+          (arguments-in offset n (length tags) used (length (drop used l)) (length l) (readArgs base tags (drop used l) (p + used))
           (omega (arith, tags-few text, length-take m l)) (omega (arith, length-drop used l))
           (kept-few base tags (drop used l) (p + used)) (λ f v e. args-within base tags (drop used l) (p + used) e))
 

@@ -13,7 +13,7 @@ use Rattle.node.specs.Forest.{Forest, nil, node}
 use Rattle.text.specs.Text.{textOf, faultOf}
 use Rattle.text.specs.declared.Text.{Text}
 use Rattle.text.specs.declared.Text.the-variants.{Found, Lacks}
-use Rattle.arguments.specs.Arguments.{Args, refused, args, argsOf}
+use Rattle.arguments.specs.Arguments.{Args, refused, args, readArgs}
 use Rattle.packet.specs.Heads.{startOf, tagsIn, sizeOf}
 use Rattle.packet.specs.declared.Start.{Start}
 use Rattle.packet.specs.declared.Start.the-variants as start
@@ -44,7 +44,7 @@ messageWith offset n (args kept used) = one 47 offset n kept used
 -- the type text, then the data
 abbrev pub typesThen : ℕ → ℕ → ℕ → List ℕ → ℕ → Text → Out
 typesThen base offset n l p (Lacks lack) = fault (faultOf lack)
-typesThen base offset n l p (Found m used) = after used (messageWith offset n (argsOf base (tagsIn (take m l)) (drop used l) (p + used)))
+typesThen base offset n l p (Found m used) = after used (messageWith offset n (readArgs base (tagsIn (take m l)) (drop used l) (p + used)))
 
 -- what follows the address of n bytes that stands at `offset`
 unfoldable pub readMessage : ℕ → ℕ → ℕ → List ℕ → ℕ → Out

@@ -1,4 +1,4 @@
--- `decoder::fill`: packet, bundle and element meet their contracts. The measure is the number of bytes left; in a bundle the table,
+-- `fill`: packet, bundle and element meet their contracts. The measure is the number of bytes left; in a bundle the table,
 -- completed by what is left, is the table at the end.
 use Rattle.wire.proofs.be_u32.Reads as be-u32-reads
 use Rattle.fill.proofs.decode_message.Reads as decode-message-reads
@@ -8,7 +8,8 @@ use Rattle.packet.proofs.read_start.Reads as read-start-reads
 use Rattle.fill.proofs.Fills.{fills-none, message-room, bundle-room, packet-fills-message, packet-fills-bundle, element-room}
 use Rattle.fill.proofs.Fills.{element-fills, contents-room, Filling, filling-start, filling-fits, filling-step, next-fits}
 use Rattle.fill.proofs.Fills.{filling-on, filling-done}
-use Rattle.packet.proofs.Heads.{packet-refused, element-runs-out, part-4, message-start-in, bundle-start-in, size-in}
+use Rattle.packet.proofs.Heads.{part-4, message-start-in, bundle-start-in, size-in}
+use Rattle.packet.proofs.Knot.{starts-refused, element-runs-out}
 use Rattle.packet.proofs.Bundles.{bundle-short}
 use Rattle.wire.proofs.Parts.{tail}
 use lib.ListN.{length}
@@ -364,7 +365,7 @@ pub +decode-bundle+decode-packet+read-bundle-element-spec : {M : Type 1} → sta
     packet-fills-bundle (p11 .args .base) (p11 .args .input .now) _ (p11 .args .pos)
     (sym (p6 .used .given .1) ∙ (p8 .read-start .ensures)) (tail (p11 .args .input .now) (p6 .used .given .0 .0))
     (p2 .decode-bundle .ensures))
-    (λ c. fills-none (packet-refused _ _ _ (sym (c .enum-told .given .1) ∙ (c .before .before .read-start .ensures)))))
+    (λ c. fills-none (starts-refused _ _ _ (sym (c .enum-told .given .1) ∙ (c .before .before .read-start .ensures)))))
     λ t. read-bundle-element-lts.spec
     (read-size-reads.Asked, read-size-reads.Learnt, decode-packet-below t, decode-packet.Post)
     (read-bundle-element-at t)

@@ -1,9 +1,10 @@
--- `decoder::fill::write_packet` meets its contract.
+-- `fill::write_packet` meets its contract.
 use mathlib.Core.Path.{sym, _∙_}
 use native.Mathlib.Omega.{arith}
 use borrow.Author.Needs.{needs}
 use Rattle.wire.proofs.Parts.{tail}
-use Rattle.packet.proofs.Heads.{packet-refused, message-start-in, bundle-start-in}
+use Rattle.packet.proofs.Heads.{message-start-in, bundle-start-in}
+use Rattle.packet.proofs.Knot.{starts-refused}
 use Rattle.fill.proofs.Fills.{known-refused, message-room, message-known, packet-stored, bundle-room, packet-fills-bundle}
 use Rattle.fill.proofs.write_packet.Statement.{statement}
 use Rattle.fill.proofs.write_packet.Tie as tie
@@ -103,7 +104,7 @@ returns-3 : tie.Need-returns-3
 returns-3 c =
     let p2 = c .before .before in
     let p5 = p2 .before .before .before in
-    absurd (known-refused (p5 .pre .1 .1) (packet-refused _ _ _ (sym (c .enum-told .given .1) ∙ p2 .read-start .ensures)))
+    absurd (known-refused (p5 .pre .1 .1) (starts-refused _ _ _ (sym (c .enum-told .given .1) ∙ p2 .read-start .ensures)))
 
 pub write-packet-spec : {M : Type 1} → statement M
 write-packet-spec =

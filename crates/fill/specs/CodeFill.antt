@@ -7,8 +7,8 @@ use lib.ListN.{length}
 use Rattle.node.specs.Forest.{Forest, nil, node, size}
 use Rattle.node.specs.Records.{recordSize, stored}
 use Rattle.packet.specs.Packet.{Out, fault, one}
-use Rattle.fill.specs.declared.Filled.{Filled}
-use Rattle.fill.specs.declared.Filled.the-variants.{Wrote, Nothing}
+use Rattle.fill.specs.declared.Reread.{Reread}
+use Rattle.fill.specs.declared.Reread.the-variants.{Wrote, Nothing}
 
 -- the tree that is written: none of a packet that is refused
 abbrev pub treeOf : Out → Forest
@@ -16,16 +16,21 @@ treeOf (fault k) = nil
 treeOf (one kind a b inside used) = node kind a b inside nil
 
 -- what the second reading of a packet at position p answers
-abbrev pub filled : ℕ → Out → Filled
-filled p (fault k) = Nothing
-filled p (one kind a b inside used) = Wrote (1 + size inside) (p + used)
+abbrev pub reread : ℕ → Out → Reread
+reread p (fault k) = Nothing
+reread p (one kind a b inside used) = Wrote (1 + size inside) (p + used)
 
 -- a table has room for a forest's records, the first of which has index i
-pub record Room (f : Forest) (i : ℕ) (table : List ℕ) : Type 0 where
+pub record TableRoom (f : Forest) (i : ℕ) (table : List ℕ) : Type 0 where
   pub fits : recordSize * size f ≤ length table
   pub low : i + size f ≤ 65535
 
 -- a packet at position p was written to a table, from index i on
-pub record Fills (o : Out) (p i : ℕ) (before : List ℕ) (answer : Filled) (after : List ℕ) : Type 0 where
-  pub answered : answer ≡ filled p o
+pub record Fills (o : Out) (p i : ℕ) (before : List ℕ) (answer : Reread) (after : List ℕ) : Type 0 where
+  pub answered : answer ≡ reread p o
   pub table : after ≡ stored i (treeOf o) before
+
+-- what is known of a packet once it was measured: it is accepted, and gives so many records
+pub record Known (o : Out) (count : ℕ) : Type 0 where
+  pub some : 1 ≤ count
+  pub records : size (treeOf o) ≡ count
