@@ -57,11 +57,13 @@ tree-after : (n : ℕ) (o : Out) → treeOf (after n o) ≡ treeOf o
 tree-after n (fault k) = refl
 tree-after n (one k a b f u) = refl
 
+-- what o' is after n more bytes
 module _ {o : Out} (n : ℕ) (o' : Out) (e : o ≡ after n o') where
   same-tree : treeOf o ≡ treeOf o'
   same-tree = ap treeOf e ∙ tree-after n o'
 
-  room-after : {i : ℕ} {T : List ℕ} → TableRoom (treeOf o) i T → TableRoom (treeOf o') i T
+  -- it needs the same room
+  pub room-after : {i : ℕ} {T : List ℕ} → TableRoom (treeOf o) i T → TableRoom (treeOf o') i T
   room-after {i} {T} w = subst (λ (f : Forest). TableRoom f i T) same-tree w
 
   known-after : {count : ℕ} → Known o count → Known o' count
@@ -70,7 +72,8 @@ module _ {o : Out} (n : ℕ) (o' : Out) (e : o ≡ after n o') where
   stored-after : {T' : List ℕ} (i : ℕ) (T : List ℕ) → T' ≡ stored i (treeOf o') T → T' ≡ stored i (treeOf o) T
   stored-after i T w = w ∙ ap (λ (f : Forest). stored i f T) (sym same-tree)
 
-  fills-after : {p i : ℕ} {r : Reread} {T T' : List ℕ} → Fills o' (p + n) i T r T' → Fills o p i T r T'
+  -- it is written in the same place
+  pub fills-after : {p i : ℕ} {r : Reread} {T T' : List ℕ} → Fills o' (p + n) i T r T' → Fills o p i T r T'
   fills-after {p} {i} {r} {T} w = record { answered = w .answered ∙ reread-after p n o' ∙ ap (reread p) (sym e); table = stored-after i T (w .table) }
 
 -- ---- packets

@@ -45,7 +45,8 @@ abbrev pub messageExtent : ℕ → Measured → Extent
 messageExtent p (measure.Kept count used) = Tree (1 + count) (p + used)
 messageExtent p (measure.Refused k) = Refused k
 
-extent-after : (room p n : ℕ) (o : Out) → extent room (p + n) o ≡ extent room p (after n o)
+-- n bytes before a packet move its end
+pub extent-after : (room p n : ℕ) (o : Out) → extent room (p + n) o ≡ extent room p (after n o)
 unfolding extent
 extent-after room p n (fault k) = refl
 extent-after room p n (one k a b f u) = rw add-assoc
@@ -104,12 +105,13 @@ element-by-packet {n} base room l part p e s g =
     ∙ ap (extent room (p + 4)) (rw s (sym (element-holds base l p e)))
 
 -- a tree that was measured lies within its part
-abbrev ExtentIn : ℕ → ℕ → Extent → Type 0
+abbrev pub ExtentIn : ℕ → ℕ → Extent → Type 0
 ExtentIn p m (Tree count next) = (1 ≤ count) × (p + count ≤ next) × (next ≤ p + m)
 ExtentIn p m (Deep next) = Unit {0}
 ExtentIn p m (Refused k) = Unit {0}
 
-extent-in : (room p m : ℕ) (o : Out) → Within m o → ExtentIn p m (extent room p o)
+-- the extent of a packet that lies in m bytes
+pub extent-in : (room p m : ℕ) (o : Out) → Within m o → ExtentIn p m (extent room p o)
 unfolding extent
 extent-in room p m (fault k) w = tt
 extent-in room p m (one k a b f u) w = by-test (ExtentIn p m) (leb (level k (depth f)) room) (λ _. omega arith) (λ _. tt)
