@@ -1,4 +1,4 @@
--- `text::plain` meets its contract. The invariant: none of the bytes of `rest` before `at` is special.
+-- `text::count_plain` meets its contract. The invariant: none of the bytes of `rest` before `at` is special.
 use mathlib.Core.Path.{sym, _∙_}
 use Prim.Native.Nat.{_-_}
 use native.Mathlib.Omega.{arith}
@@ -7,8 +7,8 @@ use lib.ListN.{length}
 use Rattle.wire.proofs.Parts.{length-part}
 use Rattle.text.specs.Plain.{Passed}
 use Rattle.text.proofs.Passing.{one-passed, all-passed, stops, ends}
-use Rattle.text.proofs.plain.Statement.{statement}
-use Rattle.text.proofs.plain.Tie as tie
+use Rattle.text.proofs.count_plain.Statement.{statement}
+use Rattle.text.proofs.count_plain.Tie as tie
 
 abbrev Inv-loop : tie.InvT-loop
 Inv-loop input front rest at₀ at = Passed at rest
@@ -65,8 +65,8 @@ returns-2 c =
     let l = c .before .loop in
     all-passed _ _ (l .at) (p4 .skip .ensures) (l .inv) (ends _ (l .at) (omega arith))
 
-pub plain-spec : {M : Type 1} → statement M
-plain-spec =
+pub count-plain-spec : {M : Type 1} → statement M
+count-plain-spec =
     tie.close
     (tie.spec
     Inv-loop
