@@ -9,7 +9,7 @@ use Rattle.refusal.specs.declared.Fault.the-variants.{RunsOut}
 use Rattle.wire.specs.Number.{number}
 use Rattle.node.specs.declared.tags.Class.{Class}
 use Rattle.node.specs.declared.tags.Class.the-variants.{Four, Eight, Bare, Text as String, Blob, Scalar, Unknown}
-use Rattle.text.specs.Text.{reach, textOf}
+use Rattle.text.specs.Text.{reach, readText}
 use Rattle.text.specs.declared.Text.{Text}
 use Rattle.text.specs.declared.Text.the-variants.{Found, Lacks}
 use Rattle.argument.specs.Argument.{readArg, having, textArg}
@@ -26,17 +26,18 @@ used-there n l x y e = by-bool (leb n (length l))
     by-bool false = refl
 
 -- of a text
-used-text : (o o′ : ℕ) (t : Text) → usedOf (textArg o t) ≡ usedOf (textArg o′ t)
-used-text o o′ (Found n used) = refl
-used-text o o′ (Lacks k) = refl
+used-text : (tag o o′ : ℕ) (t : Text) → usedOf (textArg tag o t) ≡ usedOf (textArg tag o′ t)
+used-text tag o o′ (Found n used) = refl
+used-text tag o o′ (Lacks k) = refl
 
 -- how far an argument is read, and its fault, are the same for any two bases
-pub any-base : (class : Class) (base base′ : ℕ) (l : List ℕ) (p : ℕ) → usedOf (readArg class base l p) ≡ usedOf (readArg class base′ l p)
+pub any-base : (tag : ℕ) (class : Class) (base base′ : ℕ) (l : List ℕ) (p : ℕ)
+    → usedOf (readArg tag class base l p) ≡ usedOf (readArg tag class base′ l p)
 unfolding readArg
-any-base Four base base′ l p = refl
-any-base Eight base base′ l p = refl
-any-base Bare base base′ l p = refl
-any-base String base base′ l p = used-text (base + p) (base′ + p) (textOf l p)
-any-base Blob base base′ l p = used-there 4 l _ _ (used-there (reach p (4 + number 4 l)) l _ _ refl)
-any-base Scalar base base′ l p = refl
-any-base Unknown base base′ l p = refl
+any-base tag Four base base′ l p = refl
+any-base tag Eight base base′ l p = refl
+any-base tag Bare base base′ l p = refl
+any-base tag String base base′ l p = used-text tag (base + p) (base′ + p) (readText l p)
+any-base tag Blob base base′ l p = used-there 4 l _ _ (used-there (reach p (4 + number 4 l)) l _ _ refl)
+any-base tag Scalar base base′ l p = refl
+any-base tag Unknown base base′ l p = refl

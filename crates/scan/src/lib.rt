@@ -7,6 +7,7 @@ use refusal::Fault;
 ghost use mathlib.Core.Path.{_≡_};
 ghost use Prim.Native.Nat.{_+_, _≤_};
 ghost use lib.ListN.{length};
+ghost use Rattle.wire.specs.Limits.{longest};
 ghost use Rattle.scan.specs.CodeScans.{scan, back, bracket, brackets};
 
 // How many bytes of data tags take, or the fault.
@@ -28,7 +29,7 @@ pub enum Back {
 //
 // Ruled out: `]` with no array open passed over; the data of one argument read twice.
 pub fn scan_args(tags: &[u8], input: &[u8], pos: usize) -> Scanned
-    requires { ⌜ pos + length (now input) ≤ 65535 ⌝ }
+    requires { ⌜ pos + length (now input) ≤ longest ⌝ }
     ensures { λ r. ⌜ r ≡ scan (now (tags .entry)) (now (input .entry)) pos 0 ⌝ }
 {
     let mut left = tags;
@@ -46,8 +47,8 @@ pub fn scan_args(tags: &[u8], input: &[u8], pos: usize) -> Scanned
                 }
                 waiting -= 1;
             }
-            Sort::Leaf(class) => match read_osc_arg(class, rest, 0, at) {
-                Arg::Given { a: _, b: _, used } => {
+            Sort::Leaf(class) => match read_osc_arg(tag, class, rest, 0, at) {
+                Arg::Given { item: _, used } => {
                     rest = &rest[used..];
                     at += used;
                 }

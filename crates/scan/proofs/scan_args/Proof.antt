@@ -51,12 +51,12 @@ read-osc-arg-requires c κs =
 sub-rest : tie.Need-sub-rest Inv-loop μ-loop
 sub-rest c =
     let g = sym (c .before .used .given .1) ∙ c .before .before .before .read-osc-arg .ensures in
-    given-within _ _ _ _ g
+    given-within _ _ _ _ _ g
 
 part-rest-start : tie.Need-part-rest-start Inv-loop μ-loop
 part-rest-start c =
     let g = sym (c .before .used .given .1) ∙ c .before .before .before .read-osc-arg .ensures in
-    given-within _ _ _ _ g
+    given-within _ _ _ _ _ g
 
 add-at : tie.Need-add-at Inv-loop μ-loop
 add-at c =
@@ -65,7 +65,7 @@ add-at c =
     let p12 = p4 .before .before .before .before .before .before .before .before in
     let p15 = p12 .before .before .before in
     let g = sym (p2 .used .given .1) ∙ p4 .read-osc-arg .ensures in
-    omega (arith, given-within _ _ _ _ g, p12 .loop .inv .ends, p15 .pre)
+    omega (arith, given-within _ _ _ _ _ g, p12 .loop .inv .ends, p15 .pre)
 
 loop-again-3 : tie.Need-loop-again-3 Inv-loop μ-loop
 loop-again-3 c =
