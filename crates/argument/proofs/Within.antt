@@ -58,14 +58,17 @@ module _ (P : Item → ℕ → Type 0) where
     arg-holds Scalar = if-there 4 l _ (λ h. by-test (Holds P) (isScalar (number 4 l)) (λ _. four h) (λ _. tt))
     arg-holds Unknown = tt
 
+-- an argument's data lies in its part
+pub arg-within : (tag : ℕ) (class : Class) (base : ℕ) (l : List ℕ) (p : ℕ)
+    → Holds (λ item used. used ≤ length l) (readArg tag class base l p)
+arg-within tag class base l p =
+    arg-holds (λ item used. used ≤ length l) tag base l p (λ h. h) (λ h. h) (omega arith) (λ n used f. found-in l p f .1) (λ h k. k) class
+
 module _ {item : Item} {used : ℕ} (tag : ℕ) (class : Class) (base : ℕ) (l : List ℕ) (p : ℕ)
     (e : Given item used ≡ readArg tag class base l p) where
-  -- an argument's data lies in its part
+  -- so does one that is given
   pub given-within : used ≤ length l
-  given-within =
-      subst (Holds (λ item used. used ≤ length l)) (sym e)
-      (arg-holds (λ item used. used ≤ length l) tag base l p (λ h. h) (λ h. h) (omega arith) (λ n used f. found-in l p f .1) (λ h k. k)
-      class)
+  given-within = subst (Holds (λ item used. used ≤ length l)) (sym e) (arg-within tag class base l p)
 
   -- its kind is its tag
   pub given-kind : item .kind ≡ tag

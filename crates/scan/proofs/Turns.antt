@@ -11,14 +11,12 @@ use Rattle.refusal.specs.declared.Fault.{Fault}
 use Rattle.refusal.specs.declared.Fault.the-variants.{NotOpen}
 use Rattle.wire.proofs.Parts.{tail}
 use Rattle.node.specs.Tags.{sortOf}
-use Rattle.node.specs.declared.record.Item.{Item}
 use Rattle.node.specs.declared.tags.Class.{Class}
 use Rattle.node.specs.declared.tags.Sort.{Sort}
 use Rattle.node.specs.declared.tags.Sort.the-variants.{Opens, Closes, Leaf}
 use Rattle.argument.specs.Argument.{readArg}
-use Rattle.argument.specs.declared.Arg.the-variants as arg
-use Rattle.argument.proofs.Within.{given-within}
-use Rattle.scan.specs.CodeScans.{moreUsed, turn, scan, tagBefore, back}
+use Rattle.scan.proofs.Passed.{used-within}
+use Rattle.scan.specs.CodeScans.{usedOf, moreUsed, turn, scan, tagBefore, back}
 use Rattle.scan.specs.declared.Scanned.{Scanned}
 use Rattle.scan.specs.declared.Scanned.the-variants.{Used, Refused}
 use Rattle.scan.specs.declared.Back.the-variants.{Whole, Cut}
@@ -54,12 +52,13 @@ module _ (ts m : List ℕ) (q n : ℕ) (h : 0 < length ts) where
       let some : n ≡ suc (n - 1) = omega arith in
       scan-turn e ∙ ap (turn Closes (λ m q k. scan (drop 1 ts) m q k) (getD ts 0 0) m q) some
 
-  scan-given : {class : Class} {item : Item} {used : ℕ} → Leaf class ≡ sortOf (getD ts 0 0)
-      → arg.Given item used ≡ readArg (getD ts 0 0) class 0 m q
+  scan-given : {class : Class} {used : ℕ} → Leaf class ≡ sortOf (getD ts 0 0)
+      → Used used ≡ usedOf (readArg (getD ts 0 0) class 0 m q)
       → scan ts m q n ≡ moreUsed used (scan (drop 1 ts) (drop used m) (q + used) n)
   scan-given e g = scan-turn e ∙ rw (← g)
 
-  scan-refused : {class : Class} {fault : Fault} → Leaf class ≡ sortOf (getD ts 0 0) → arg.Refused fault ≡ readArg (getD ts 0 0) class 0 m q
+  scan-refused : {class : Class} {fault : Fault} → Leaf class ≡ sortOf (getD ts 0 0)
+      → Refused fault ≡ usedOf (readArg (getD ts 0 0) class 0 m q)
       → scan ts m q n ≡ Refused fault
   scan-refused e g = scan-turn e ∙ rw (← g)
 
@@ -105,12 +104,12 @@ module _ {tags l : List ℕ} {pos : ℕ} {ts m : List ℕ} {at n : ℕ} (w : Sca
   scanning-closes h e z = next (n - 1) h (omega arith) (scan-closes ts m at n h e z)
 
   -- a tag whose argument is given: its bytes are read too
-  pub scanning-given : {class : Class} {item : Item} {used : ℕ} → 0 < length ts → Leaf class ≡ sortOf (getD ts 0 0)
-      → arg.Given item used ≡ readArg (getD ts 0 0) class 0 m at
+  pub scanning-given : {class : Class} {used : ℕ} → 0 < length ts → Leaf class ≡ sortOf (getD ts 0 0)
+      → Used used ≡ usedOf (readArg (getD ts 0 0) class 0 m at)
       → Scanning tags l pos (take (length ts - 1) (drop 1 ts)) (take (length m - used) (drop used m)) (at + used) n
-  scanning-given {class} {item} {used} h e g =
+  scanning-given {class} {used} h e g =
       let sum : at - pos + used ≡ at + used - pos = omega (arith, w .past) in
-      let within : used ≤ length m = given-within (getD ts 0 0) class 0 m at g in
+      let within : used ≤ length m = used-within (getD ts 0 0) class 0 m at g in
       rw (tail ts 1, tail m used)
       (record {
         whole =
@@ -127,7 +126,7 @@ module _ {tags l : List ℕ} {pos : ℕ} {ts m : List ℕ} {at n : ℕ} (w : Sca
 
   -- a tag whose argument is refused
   pub scanning-refused : {class : Class} {fault : Fault} → 0 < length ts → Leaf class ≡ sortOf (getD ts 0 0)
-      → arg.Refused fault ≡ readArg (getD ts 0 0) class 0 m at
+      → Refused fault ≡ usedOf (readArg (getD ts 0 0) class 0 m at)
       → Refused fault ≡ scan tags l pos 0
   scanning-refused h e g = sym (w .whole ∙ ap (moreUsed (at - pos)) (scan-refused ts m at n h e g))
 

@@ -1,8 +1,9 @@
--- One argument that is passed over: the offset base changes neither how far it is read nor its fault.
-use mathlib.Core.Path.{_≡_, refl}
+-- One argument that is passed over: it lies in its part, and the offset base changes neither how far it is read nor its fault.
+use mathlib.Core.Path.{_≡_, refl, _∙_, ap, sym}
 use mathlib.Core.Bool.{Bool, true, false, cond}
 use mathlib.Core.List.{List}
-use Prim.Native.Nat.{ℕ, _+_}
+use Prim.Native.Nat.{ℕ, _+_, _≤_}
+use native.Mathlib.Omega.{arith}
 use lib.Dec.{leb}
 use lib.ListN.{length}
 use Rattle.refusal.specs.declared.Fault.the-variants.{RunsOut}
@@ -15,7 +16,10 @@ use Rattle.text.specs.declared.Text.the-variants.{Found, Lacks}
 use Rattle.argument.specs.Argument.{readArg, having, textArg}
 use Rattle.scan.specs.CodeScans.{usedOf}
 use Rattle.argument.specs.declared.Arg.{Arg}
-use Rattle.argument.specs.declared.Arg.the-variants.{Refused}
+use Rattle.argument.specs.declared.Arg.the-variants.{Given, Refused}
+use Rattle.scan.specs.declared.Scanned.{Scanned}
+use Rattle.scan.specs.declared.Scanned.the-variants.{Used}
+use Rattle.argument.proofs.Within.{Holds, arg-within}
 
 -- of an argument that is read only if n bytes are there
 used-there : (n : ℕ) (l : List ℕ) (x y : Arg) → usedOf x ≡ usedOf y → usedOf (having n l x) ≡ usedOf (having n l y)
@@ -41,3 +45,18 @@ any-base tag String base base′ l p = used-text tag (base + p) (base′ + p) (r
 any-base tag Blob base base′ l p = used-there 4 l _ _ (used-there (reach p (4 + number 4 l)) l _ _ refl)
 any-base tag Scalar base base′ l p = refl
 any-base tag Unknown base base′ l p = refl
+
+-- how much is used of an argument that lies in its part
+used-from : {used : ℕ} (l : List ℕ) (x : Arg) → Holds (λ item u. u ≤ length l) x → Used used ≡ usedOf x → used ≤ length l
+used-from {used} l (Given item u) h e = let f : used ≡ u = cc in omega arith
+used-from l (Refused k) h e = let z : _≡_ {A = ℕ} 0 1 = cc in absurd (omega arith)
+
+-- an argument that is passed over lies in its part
+pub used-within : {used : ℕ} (tag : ℕ) (class : Class) (base : ℕ) (l : List ℕ) (p : ℕ) → Used used ≡ usedOf (readArg tag class base l p)
+    → used ≤ length l
+used-within tag class base l p e = used-from l (readArg tag class base l p) (arg-within tag class base l p) e
+
+-- an answer for the class that a match found
+pub used-of-class : {k class : Class} {r : Scanned} (tag : ℕ) (l : List ℕ) (base p : ℕ) → class ≡ k → r ≡ usedOf (readArg tag k base l p)
+    → r ≡ usedOf (readArg tag class base l p)
+used-of-class tag l base p e f = f ∙ ap (λ (c : Class). usedOf (readArg tag c base l p)) (sym e)
