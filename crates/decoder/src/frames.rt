@@ -1,11 +1,11 @@
 // Whole inputs: what is answered, by the first reading, and the second reading of frames.
 use crate::Decoded;
 use fill::Filled;
-use packet::Prefix;
 use measure::Extent;
+use node::record;
+use packet::Prefix;
 use refusal::Fault;
 use refusal::Refusal;
-use node::record;
 ghost use mathlib.Core.Path.{_≡_};
 ghost use Prim.Native.Nat.{ℕ, _+_, _≤_};
 ghost use lib.ListN.{length};

@@ -1,10 +1,10 @@
 // The second reading of a packet: its records are written to the front of a table that has room for them.
+use arguments::Measured;
+use node::record;
 use packet::Sized;
 use packet::Start;
-use arguments::Measured;
-use wire::be_u32;
 use text::Text;
-use node::record;
+use wire::be_u32;
 ghost use mathlib.Core.Path.{_≡_};
 ghost use Prim.Native.Nat.{_+_, _≤_};
 ghost use lib.ListN.{length};

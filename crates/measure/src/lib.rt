@@ -1,7 +1,7 @@
 // The first reading of a packet: it writes nothing, and goes no deeper than the limit on nested bundles.
+use arguments::Measured;
 use packet::Sized;
 use packet::Start;
-use arguments::Measured;
 use refusal::Fault;
 use text::Text;
 ghost use mathlib.Core.Path.{_≡_};

@@ -7,11 +7,13 @@ use Rattle.node.specs.Forest.{Forest, nil, node, size, snoc}
 use Rattle.node.specs.Records.{recordsOf}
 use Rattle.node.specs.declared.record.Item.{Item}
 
+-- a forest with one node more has that node's size more
 pub size-snoc : (f : Forest) (item : Item) (g : Forest) → size (snoc f item g) ≡ size f + 1 + size g
 unfolding snoc size
 size-snoc nil item g = omega arith
 size-snoc (node item′ f′ rest) item g = omega (arith, size-snoc rest item g)
 
+-- and that node's records after its own
 pub records-snoc : (i : ℕ) (f : Forest) (item : Item) (g : Forest)
     → recordsOf i (snoc f item g) ≡ recordsOf i f ++ recordsOf (i + size f) (node item g nil)
 unfolding recordsOf snoc size

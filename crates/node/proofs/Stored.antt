@@ -22,6 +22,7 @@ length-stored : (i : ℕ) (f : Forest) (T : List ℕ) → recordSize * size f �
 unfolding stored
 length-stored i f T h = simp (length-append, length-records, length-drop) (omega arith)
 
+-- no records leave a table as it is
 pub stored-nil : (i : ℕ) (T : List ℕ) → stored i nil T ≡ T
 unfolding stored recordsOf size
 stored-nil i T = refl
@@ -36,6 +37,7 @@ node-records i item f = rw (append-nil (recordsOf (i + 1) f))
 abbrev pub completed : List ℕ → ℕ → ℕ → Forest → List ℕ
 completed T c j f = take (recordSize * c) T ++ stored j f (drop (recordSize * c) T)
 
+-- a completed table is as long as before
 pub length-completed : (T : List ℕ) (c j : ℕ) (f : Forest) → recordSize * (c + size f) ≤ length T → length (completed T c j f) ≡ length T
 length-completed T c j f h =
     simp (length-append, length-take)
@@ -46,6 +48,7 @@ length-completed T c j f h =
           (omega (arith, length-drop (recordSize * c) T)),
     ))
 
+-- with no records left to write, it is the table itself
 pub completed-nil : (T : List ℕ) (c j : ℕ) → completed T c j nil ≡ T
 completed-nil T c j = rw (stored-nil j (drop (recordSize * c) T)) (take-append-drop (recordSize * c) T)
 

@@ -16,7 +16,9 @@ pub const MOST_RECORDS: usize = 65_535;
 
 // Where the numbers of a record stand in it.
 pub const END: usize = 4;
+
 pub const A: usize = 8;
+
 pub const B: usize = 12;
 
 // A node's own numbers: all that its record says but its end, which what it contains decides.

@@ -18,7 +18,11 @@ pub fn leaf_rules(class: Class, item: Item) -> bool
         Class::Bare => if item.a == 0 { item.b == 0 } else { false },
         Class::Text => true,
         Class::Blob => true,
-        Class::Scalar => if item.b == 0 { tags::is_scalar(item.a) } else { false },
+        Class::Scalar => if item.b == 0 {
+            tags::is_scalar(item.a)
+        } else {
+            false
+        },
         Class::Unknown => false,
     }
 }

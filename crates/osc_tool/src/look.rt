@@ -5,8 +5,8 @@ use crate::space;
 use crate::value;
 use crate::words;
 use crate::words::Numeral;
-use values::look::Looked;
 use node::record;
+use values::look::Looked;
 
 // Says what record `index` holds.
 fn look_at(table: &[u8], index: usize) {

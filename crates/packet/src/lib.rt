@@ -1,7 +1,7 @@
 // What stands at the front of a packet, of an element of a bundle, and of a frame of a TCP stream.
-use wire::be_u32;
 use refusal::Fault;
 use text::Text;
+use wire::be_u32;
 ghost use mathlib.Core.Path.{_≡_};
 ghost use mathlib.Core.Bool.{true};
 ghost use Prim.Native.Nat.{_+_, _≤_};

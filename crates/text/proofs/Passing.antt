@@ -15,7 +15,7 @@ use Rattle.utf8.specs.Utf8.{Range}
 use Rattle.utf8.specs.Derive.{run, utf8}
 use Rattle.utf8.proofs.Plain.{single}
 use Rattle.text.specs.Text.{untilNul}
-use Rattle.text.specs.Plain.{special, plainOf, Passed}
+use Rattle.text.specs.CodePlain.{special, plainOf, Passed}
 use Rattle.text.proofs.Nuls.{shorter}
 
 -- ---- counted from a place
@@ -35,9 +35,11 @@ all-passed l f i p q z =
     let z' : plainOf (drop i (drop f l)) ≡ 0 = rw tail at z in
     (omega (arith, length-drop f l, q' .0), omega (arith, p .1, q' .1, z'))
 
+-- a special byte stands here: none is passed
 pub stops : (l : List ℕ) (i : ℕ) → i < length l → special (getD l i 0) ≡ true → plainOf (drop i l) ≡ 0
 stops l i h e = rw (drop-cons l i 0, e)
 
+-- past the end none is passed
 pub ends : (l : List ℕ) (i : ℕ) → length l ≤ i → plainOf (drop i l) ≡ 0
 ends l i h = rw (drop-of-length-le l h)
 
@@ -63,6 +65,7 @@ past (b ∷ l) (suc i) h e k = one-more (special b) (plainOf l) i (past l i (ome
 pub met : (l : List ℕ) (i : ℕ) → i < length l → special (getD l i 0) ≡ true → true ≡ ltb (plainOf l) (i + 1)
 met l i h e = sym (lt-ltb (plainOf l) (i + 1) (omega (arith, at-special l i h e)))
 
+-- a byte that is not special does not change whether one was met
 pub not-met : (l : List ℕ) (i : ℕ) → i < length l → special (getD l i 0) ≡ false → ltb (plainOf l) i ≡ ltb (plainOf l) (i + 1)
 not-met l i h e = go (ltb (plainOf l) i) refl
   where
@@ -84,7 +87,8 @@ counted (b ∷ l) (suc n) h = count-on (special b) (plainOf l) n (plainOf (drop 
 -- a block in which no special byte was met is passed
 pub block : (l : List ℕ) (at n : ℕ) → Passed at l → n ≤ length (drop at l) → ltb (plainOf (drop at l)) n ≡ false → Passed (at + n) l
 block l at n p h e =
-    let k : plainOf (drop at l) ≡ n + plainOf (drop (at + n) l) = rw drop-drop at (counted (drop at l) n (ltb-false (plainOf (drop at l)) n e)) in
+    let k : plainOf (drop at l) ≡ n + plainOf (drop (at + n) l) = rw drop-drop at
+    (counted (drop at l) n (ltb-false (plainOf (drop at l)) n e)) in
     (omega (arith, length-drop at l), omega (arith, p .1, k))
 
 -- ---- a text

@@ -5,7 +5,7 @@ ghost use Prim.Native.Nat.{_+_, _≤_};
 ghost use lib.Dec.{ltb};
 ghost use lib.ListN.{length};
 ghost use Rattle.wire.specs.Limits.{longest};
-ghost use Rattle.text.specs.Plain.{special, plainOf, Passed};
+ghost use Rattle.text.specs.CodePlain.{special, plainOf, Passed};
 ghost use Rattle.text.specs.Text.{untilNul, readText, faultOf};
 
 // What a text lacks. The three are kept apart, though two have one number today.

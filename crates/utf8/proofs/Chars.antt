@@ -15,12 +15,15 @@ use Rattle.utf8.proofs.Grammar.{octets}
 pub one : (x : ℕ) → x < 0x80 → 1 ≡ leadOf x
 one x a = rw (lt-ltb x 0x80 a)
 
+-- the octets of the second arm
 pub two : (x : ℕ) → 0x80 ≤ x → x < 0xE0 → 2 ≡ leadOf x
 two x a b = rw (le-ltb x 0x80 a, lt-ltb x 0xE0 b)
 
+-- the octets of the third arm
 pub three : (x : ℕ) → 0xE0 ≤ x → x < 0xF0 → 3 ≡ leadOf x
 three x a b = rw (le-ltb x 0x80 (omega arith), le-ltb x 0xE0 a, lt-ltb x 0xF0 b)
 
+-- the octets of the last arm
 pub four : (x : ℕ) → 0xF0 ≤ x → 4 ≡ leadOf x
 four x a = rw (le-ltb x 0x80 (omega arith), le-ltb x 0xE0 (omega arith), le-ltb x 0xF0 a)
 

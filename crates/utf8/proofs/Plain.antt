@@ -11,7 +11,7 @@ use lib.ListN.{length, drop, getD}
 use lib.Seq.{drop-cons, drop-length}
 use Rattle.utf8.specs.Utf8.{Range, Octets, Decides}
 use Rattle.utf8.specs.Derive.{step, run, utf8}
-use Rattle.utf8.specs.Highest.{highestOf}
+use Rattle.utf8.specs.CodeHighest.{highestOf}
 use Rattle.utf8.proofs.Grammar.{octets}
 use Rattle.utf8.proofs.Same.{same-rows, same-rows→eq}
 use Rattle.utf8.proofs.Table.{at}
@@ -23,6 +23,7 @@ higher top s i h k =
     let x : ℕ = getD s i 0 in
     rw (drop-cons s i 0, add-one) (ap (λ (t : Bool). highestOf (cond t x top) (drop (suc i) s)) (sym (lt-ltb top x k)))
 
+-- an octet that is no higher changes nothing
 pub no-higher : (top : ℕ) (s : List ℕ) (i : ℕ) → i < length s → getD s i 0 ≤ top → highestOf top (drop (i + 1) s) ≡ highestOf top (drop i s)
 no-higher top s i h k =
     let x : ℕ = getD s i 0 in
@@ -37,6 +38,7 @@ below-top : (n top x : ℕ) (t : Bool) → ltb top x ≡ t → cond t x top < n 
 below-top n top x true e h = (omega (arith, ltb-true top x e), h)
 below-top n top x false e h = (h, omega (arith, ltb-false top x e))
 
+-- where the greatest octet is below n, the one so far is
 pub top-below : (n top : ℕ) (s : List ℕ) → highestOf top s < n → top < n
 top-below n top [] h = h
 top-below n top (x ∷ s) h = below-top n top x (ltb top x) refl (top-below n (cond (ltb top x) x top) s h) .0

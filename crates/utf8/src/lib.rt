@@ -2,7 +2,7 @@
 ghost use mathlib.Core.Path.{_≡_};
 ghost use Rattle.utf8.specs.Utf8.{Octets, Decides};
 ghost use Rattle.utf8.specs.Lead.{leadOf};
-ghost use Rattle.utf8.specs.Highest.{highestOf};
+ghost use Rattle.utf8.specs.CodeHighest.{highestOf};
 
 // The class of each byte value: how many of the grammar's limits (`limits`, in specs/States.antt) are at or below it.
 const CLASS: [u8; 256] = [

@@ -14,6 +14,7 @@ use Rattle.values.proofs.value.OscType as kinds
 abbrev others : List ℕ
 others = 1 ∷ 2 ∷ 3 ∷ 6 ∷ 7 ∷ 8 ∷ 9 ∷ 10 ∷ 11 ∷ 12 ∷ 13 ∷ 14 ∷ 15 ∷ []
 
+-- a value of such a case names no text: the label is handed back
 pub unnamed : (v : OscType) (packet label : List ℕ) → OneOf others (tagOf kinds.the-type v) → textNamed v packet label ≡ label
 unnamed (Message x y) packet label h = absurd (miss others 0 tt h)
 unnamed (Bundle x) packet label h = refl

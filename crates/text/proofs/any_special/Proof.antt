@@ -7,7 +7,7 @@ use borrow.Author.Needs.{needs}
 use borrow.Author.Tests.{le-ltb}
 use lib.Dec.{ltb}
 use lib.ListN.{length}
-use Rattle.text.specs.Plain.{plainOf}
+use Rattle.text.specs.CodePlain.{plainOf}
 use Rattle.text.proofs.Passing.{met, not-met}
 use Rattle.text.proofs.any_special.Statement.{statement}
 use Rattle.text.proofs.any_special.Tie as tie
@@ -24,6 +24,7 @@ loop-holds c = (search needs, sym (le-ltb (plainOf (c .before .args .input .now)
 loop-again : tie.Need-loop-again Inv-loop μ-loop
 loop-again c =
     let p4 = c .before .before .before .before in
+    let p4 = p4 in
     let p6 = p4 .before .before in
     let l = p4 .loop in
     let input = p6 .args .input .now in

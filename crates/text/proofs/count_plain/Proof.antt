@@ -5,7 +5,7 @@ use native.Mathlib.Omega.{arith}
 use borrow.Author.Needs.{needs}
 use lib.ListN.{length}
 use Rattle.wire.proofs.Parts.{length-part}
-use Rattle.text.specs.Plain.{Passed}
+use Rattle.text.specs.CodePlain.{Passed}
 use Rattle.text.proofs.Passing.{one-passed, all-passed, stops, ends}
 use Rattle.text.proofs.count_plain.Statement.{statement}
 use Rattle.text.proofs.count_plain.Tie as tie
@@ -19,6 +19,7 @@ abbrev μ-loop : tie.MeasureT-loop
 add-result : tie.Need-add-result Inv-loop μ-loop
 add-result c =
     let p4 = c .before .before .before .before in
+    let p4 = p4 in
     let p7 = p4 .before .before .before in
     let p9 = p7 .before .before in
     let l = p4 .loop in
@@ -49,6 +50,7 @@ loop-again c =
 add-result-2 : tie.Need-add-result-2 Inv-loop μ-loop
 add-result-2 c =
     let p4 = c .before .before .before .before in
+    let p4 = p4 in
     let p6 = p4 .before .before in
     let l = c .before .loop in
     omega (
@@ -62,6 +64,7 @@ add-result-2 c =
 returns-2 : tie.Need-returns-2 Inv-loop μ-loop
 returns-2 c =
     let p4 = c .before .before .before .before in
+    let p4 = p4 in
     let l = c .before .loop in
     all-passed _ _ (l .at) (p4 .skip .ensures) (l .inv) (ends _ (l .at) (omega arith))
 

@@ -47,6 +47,7 @@ returns-3 c =
 returns-4 : tie.Need-returns-4
 returns-4 c =
     let p4 = c .before .before .before .before in
+    let p4 = p4 in
     let p6 = p4 .before .before in
     let p8 = p6 .before .before in
     let p10 = p8 .before .before in
@@ -60,6 +61,7 @@ returns-4 c =
 returns-5 : tie.Need-returns-5
 returns-5 c =
     let p4 = c .before .before .before .before in
+    let p4 = p4 in
     let p6 = p4 .before .before in
     let p8 = p6 .before .before in
     let p10 = p8 .before .before in

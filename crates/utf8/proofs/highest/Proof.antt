@@ -5,7 +5,7 @@ use Prim.Native.Nat.{ℕ, _+_, _≤_, _-_}
 use native.Mathlib.Omega.{arith}
 use borrow.Author.Needs.{needs}
 use lib.ListN.{length, drop}
-use Rattle.utf8.specs.Highest.{highestOf}
+use Rattle.utf8.specs.CodeHighest.{highestOf}
 use Rattle.utf8.proofs.Plain.{higher, no-higher, at-end}
 use Rattle.utf8.proofs.highest.Statement.{statement}
 use Rattle.utf8.proofs.highest.Tie as tie

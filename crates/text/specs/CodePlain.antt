@@ -1,4 +1,4 @@
--- The bytes of a text that need no UTF-8 test: each is a character by itself.
+-- Describes code, and no part of the document: the bytes of a text that need no UTF-8 test, since each is a character by itself.
 use mathlib.Core.Path.{_≡_}
 use mathlib.Core.Bool.{Bool, true, cond}
 use mathlib.Core.List.{List, [], _∷_}
