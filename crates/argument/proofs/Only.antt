@@ -8,6 +8,6 @@ use Rattle.argument.specs.Argument.{readArg}
 use Rattle.argument.specs.declared.Arg.{Arg}
 
 -- one argument has one answer
-pub read-osc-arg-only : (class : Class) (input : List ℕ) (base pos : ℕ) (r s : Arg) → r ≡ readArg class base input pos
-    → s ≡ readArg class base input pos → r ≡ s
-read-osc-arg-only class input base pos r s = one-outcome
+pub read-osc-arg-only : (tag : ℕ) (class : Class) (input : List ℕ) (base pos : ℕ) (r s : Arg) → r ≡ readArg tag class base input pos
+    → s ≡ readArg tag class base input pos → r ≡ s
+read-osc-arg-only tag class input base pos r s = one-outcome

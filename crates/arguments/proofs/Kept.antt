@@ -13,7 +13,7 @@ use Rattle.node.specs.Tags.{sortOf}
 use Rattle.node.specs.declared.tags.Sort.{Sort}
 use Rattle.node.specs.declared.tags.Sort.the-variants.{Opens, Closes, Leaf}
 use Rattle.argument.specs.Argument.{readArg}
-use Rattle.arguments.specs.Arguments.{Args, refused, args, later, argTaken, act, readTags, readArgs}
+use Rattle.arguments.specs.Arguments.{Args, refused, args, later, argTaken, Open, waits, arrayItem, act, readTags, readArgs}
 use Rattle.arguments.specs.CodeReadings.{keptOf, ArgsAccepted, ArgsRoom}
 use Rattle.scan.specs.CodeScans.{usedOf, moreUsed, argPassed, turn, scan, tagBefore, back, AllClosed}
 use Rattle.argument.specs.declared.Arg.{Arg}
@@ -23,7 +23,7 @@ use Rattle.scan.specs.declared.Scanned.the-variants.{Used, Refused}
 use Rattle.scan.specs.declared.Back.{Back}
 use Rattle.scan.specs.declared.Back.the-variants.{Whole, Cut}
 use Rattle.argument.proofs.Within.{given-within}
-use Rattle.scan.proofs.AnyBase.{any-base}
+use Rattle.scan.proofs.Passed.{any-base}
 
 -- tags that close what they open are not cut
 pub clash : {m d n c : ℕ} → Whole m d ≡ Cut n c → ⊥
@@ -54,27 +54,27 @@ abbrev pub Deep : Back → ℕ → Type 0
 Deep (Whole n c) m = n ≤ m
 Deep (Cut n c) m = Unit {0}
 
-deep-act : (s : Sort) (k : Back) (go : List ℕ → ℕ → Forest → List Forest → Args) (base tag : ℕ) (l : List ℕ) (p : ℕ) (frame : Forest)
-    (below : List Forest)
-    → ((m : List ℕ) (q : ℕ) (f : Forest) (b : List Forest) → ArgsAccepted (go m q f b) → Deep k (length b))
+deep-act : (s : Sort) (k : Back) (go : List ℕ → ℕ → Forest → List Open → Args) (base tag : ℕ) (l : List ℕ) (p : ℕ) (frame : Forest)
+    (below : List Open)
+    → ((m : List ℕ) (q : ℕ) (f : Forest) (b : List Open) → ArgsAccepted (go m q f b) → Deep k (length b))
     → ArgsAccepted (act s go base tag l p frame below) → Deep (tagBefore s k) (length below)
 deep-act Opens (Cut n c) go base tag l p frame below h w = tt
 deep-act Opens (Whole zero c) go base tag l p frame below h w = tt
-deep-act Opens (Whole (suc n) c) go base tag l p frame below h w = omega (arith, h l p nil (frame ∷ below) w)
+deep-act Opens (Whole (suc n) c) go base tag l p frame below h w = omega (arith, h l p nil (waits frame arrayItem ∷ below) w)
 deep-act Closes k go base tag l p frame [] h w = absurd w
-deep-act Closes (Cut n c) go base tag l p frame (f ∷ b) h w = tt
-deep-act Closes (Whole n c) go base tag l p frame (f ∷ b) h w = omega (arith, h l p (snoc f 91 0 0 frame) b w)
+deep-act Closes (Cut n c) go base tag l p frame (waits f item ∷ b) h w = tt
+deep-act Closes (Whole n c) go base tag l p frame (waits f item ∷ b) h w = omega (arith, h l p (snoc f item frame) b w)
 deep-act (Leaf class) (Cut n c) go base tag l p frame below h w = tt
-deep-act (Leaf class) (Whole n c) go base tag l p frame below h w = by-arg (readArg class base l p) w
+deep-act (Leaf class) (Whole n c) go base tag l p frame below h w = by-arg (readArg tag class base l p) w
   where
-    by-arg : (x : Arg) → ArgsAccepted (argTaken (λ m q f. go m q f below) tag l p frame x) → n ≤ length below
+    by-arg : (x : Arg) → ArgsAccepted (argTaken (λ m q f. go m q f below) l p frame x) → n ≤ length below
     by-arg (arg.Refused fault) w = absurd w
-    by-arg (arg.Given a b used) w =
-        let f = snoc frame tag a b nil in
+    by-arg (arg.Given item used) w =
+        let f = snoc frame item nil in
         h (drop used l) (p + used) f below (accepted-later used (go (drop used l) (p + used) f below) w)
 
 -- tags that are accepted close no more arrays than wait below
-pub deep-law : (base : ℕ) (ts l : List ℕ) (p : ℕ) (frame : Forest) (below : List Forest) → ArgsAccepted (readTags base ts l p frame below)
+pub deep-law : (base : ℕ) (ts l : List ℕ) (p : ℕ) (frame : Forest) (below : List Open) → ArgsAccepted (readTags base ts l p frame below)
     → Deep (back ts) (length below)
 unfolding readTags back
 deep-law base [] l p frame below w = omega arith
@@ -87,25 +87,25 @@ abbrev Closed : Back → ℕ → Type 0
 Closed (Whole n c) m = n ≤ m
 Closed (Cut n c) m = ⊥
 
-under-act : (s : Sort) (k : Back) (go : List ℕ → ℕ → Forest → List Forest → Args) (base tag : ℕ) (l : List ℕ) (p : ℕ) (frame : Forest)
-    (A B : List Forest)
-    → ((m : List ℕ) (q : ℕ) (f : Forest) (A : List Forest) → Closed k (length A) → go m q f (A ++ B) ≡ go m q f A)
+under-act : (s : Sort) (k : Back) (go : List ℕ → ℕ → Forest → List Open → Args) (base tag : ℕ) (l : List ℕ) (p : ℕ) (frame : Forest)
+    (A B : List Open)
+    → ((m : List ℕ) (q : ℕ) (f : Forest) (A : List Open) → Closed k (length A) → go m q f (A ++ B) ≡ go m q f A)
     → Closed (tagBefore s k) (length A)
     → act s go base tag l p frame (A ++ B) ≡ act s go base tag l p frame A
 under-act Opens (Cut n c) go base tag l p frame A B h w = absurd w
 under-act Opens (Whole zero c) go base tag l p frame A B h w = absurd w
-under-act Opens (Whole (suc n) c) go base tag l p frame A B h w = h l p nil (frame ∷ A) (omega arith)
+under-act Opens (Whole (suc n) c) go base tag l p frame A B h w = h l p nil (waits frame arrayItem ∷ A) (omega arith)
 under-act Closes (Cut n c) go base tag l p frame A B h w = absurd w
 under-act Closes (Whole n c) go base tag l p frame [] B h w = absurd (omega arith)
-under-act Closes (Whole n c) go base tag l p frame (f ∷ A) B h w = h l p (snoc f 91 0 0 frame) A (omega arith)
+under-act Closes (Whole n c) go base tag l p frame (waits f item ∷ A) B h w = h l p (snoc f item frame) A (omega arith)
 under-act (Leaf class) (Cut n c) go base tag l p frame A B h w = absurd w
-under-act (Leaf class) (Whole n c) go base tag l p frame A B h w = by-arg (readArg class base l p)
+under-act (Leaf class) (Whole n c) go base tag l p frame A B h w = by-arg (readArg tag class base l p)
   where
-    by-arg : (x : Arg) → argTaken (λ m q f. go m q f (A ++ B)) tag l p frame x ≡ argTaken (λ m q f. go m q f A) tag l p frame x
+    by-arg : (x : Arg) → argTaken (λ m q f. go m q f (A ++ B)) l p frame x ≡ argTaken (λ m q f. go m q f A) l p frame x
     by-arg (arg.Refused fault) = refl
-    by-arg (arg.Given a b used) = ap (later used) (h (drop used l) (p + used) (snoc frame tag a b nil) A w)
+    by-arg (arg.Given item used) = ap (later used) (h (drop used l) (p + used) (snoc frame item nil) A w)
 
-under-law : (base : ℕ) (ts l : List ℕ) (p : ℕ) (frame : Forest) (A B : List Forest) → Closed (back ts) (length A)
+under-law : (base : ℕ) (ts l : List ℕ) (p : ℕ) (frame : Forest) (A B : List Open) → Closed (back ts) (length A)
     → readTags base ts l p frame (A ++ B) ≡ readTags base ts l p frame A
 unfolding readTags back
 under-law base [] l p frame A B w = refl
@@ -138,46 +138,50 @@ keeps-later base u s o ts l p h w =
 
 abbrev Cuts : ℕ → List ℕ → Type 0
 Cuts base ts =
-    (l : List ℕ) (p : ℕ) (frame : Forest) (below : List Forest) (n c : ℕ) → back ts ≡ Cut n c
+    (l : List ℕ) (p : ℕ) (frame : Forest) (below : List Open) (n c : ℕ) → back ts ≡ Cut n c
     → ArgsAccepted (readTags base ts l p frame below)
     → Keeps base (scan (take n ts) l p (length below)) (readTags base ts l p frame below) (drop n ts) l p
 
-cut-act : (s : Sort) (k : Back) (base tag : ℕ) (ts l : List ℕ) (p : ℕ) (frame : Forest) (below : List Forest) (n c : ℕ)
+cut-act : (s : Sort) (k : Back) (base tag : ℕ) (ts l : List ℕ) (p : ℕ) (frame : Forest) (below : List Open) (n c : ℕ)
     → Cuts base ts → back ts ≡ k
     → tagBefore s k ≡ Cut (suc n) c → ArgsAccepted (act s (λ m q f b. readTags base ts m q f b) base tag l p frame below)
-    → Keeps base (turn s (λ m q i. scan (take n ts) m q i) l p (length below))
+    → Keeps base (turn s (λ m q i. scan (take n ts) m q i) tag l p (length below))
     (act s (λ m q f b. readTags base ts m q f b) base tag l p frame below) (drop n ts) l p
 unfolding scan
-cut-act Opens (Cut m d) base tag ts l p frame below n c h e x w = h l p nil (frame ∷ below) n c (let z : m ≡ n = cc in e ∙ cc) w
+cut-act Opens (Cut m d) base tag ts l p frame below n c h e x w =
+    h l p nil (waits frame arrayItem ∷ below) n c (let z : m ≡ n = cc in e ∙ cc) w
 cut-act Opens (Whole zero d) base tag ts l p frame below n c h e x w =
     let z : n ≡ 0 = (let y : suc n ≡ 1 = cc in omega arith) in
     let q : p + 0 ≡ p = omega arith in
     let shut : Closed (back ts) 0 = subst (λ (k : Back). Closed k 0) (sym e) (omega arith) in
-    subst (λ (n : ℕ). Keeps base (scan (take n ts) l p (suc (length below))) (readTags base ts l p nil (frame ∷ below)) (drop n ts) l p)
+    subst (λ (n : ℕ). Keeps base (scan (take n ts) l p (suc (length below))) (readTags base ts l p nil (waits frame arrayItem ∷ below))
+    (drop n ts) l p)
     (sym z)
     (record {
       lost = 0;
       inside = omega arith;
       scanned = refl;
-      same = under-law base ts l p nil [] (frame ∷ below) shut ∙ sym (later-none (readArgs base ts l p)) ∙ rw q;
+      same = under-law base ts l p nil [] (waits frame arrayItem ∷ below) shut ∙ sym (later-none (readArgs base ts l p)) ∙ rw q;
       closed = shut;
     })
 cut-act Opens (Whole (suc m) d) base tag ts l p frame below n c h e x w = absurd (clash x)
 cut-act Closes (Whole m d) base tag ts l p frame below n c h e x w = absurd (clash x)
 cut-act Closes (Cut m d) base tag ts l p frame [] n c h e x w = absurd w
-cut-act Closes (Cut m d) base tag ts l p frame (f ∷ b) n c h e x w = h l p (snoc f 91 0 0 frame) b n c (let z : m ≡ n = cc in e ∙ cc) w
+cut-act Closes (Cut m d) base tag ts l p frame (waits f item ∷ b) n c h e x w =
+    h l p (snoc f item frame) b n c (let z : m ≡ n = cc in e ∙ cc) w
 cut-act (Leaf class) (Whole m d) base tag ts l p frame below n c h e x w = absurd (clash x)
 cut-act (Leaf class) (Cut m d) base tag ts l p frame below n c h e x w =
-    rw (any-base class 0 base l p) (by-arg (readArg class base l p) refl w)
+    rw (any-base tag class 0 base l p) (by-arg (readArg tag class base l p) refl w)
   where
-    by-arg : (y : Arg) → y ≡ readArg class base l p → ArgsAccepted (argTaken (λ m q f. readTags base ts m q f below) tag l p frame y)
+    by-arg : (y : Arg) → y ≡ readArg tag class base l p → ArgsAccepted (argTaken (λ m q f. readTags base ts m q f below) l p frame y)
         → Keeps base (argPassed (λ m q. scan (take n ts) m q (length below)) l p (usedOf y))
-        (argTaken (λ m q f. readTags base ts m q f below) tag l p frame y) (drop n ts) l p
+        (argTaken (λ m q f. readTags base ts m q f below) l p frame y) (drop n ts) l p
     by-arg (arg.Refused fault) r v = absurd v
-    by-arg (arg.Given a b used) r v =
-        let f = snoc frame tag a b nil in
+    by-arg (arg.Given item used) r v =
+        let f = snoc frame item nil in
         let o = readTags base ts (drop used l) (p + used) f below in
-        keeps-later base used (scan (take n ts) (drop used l) (p + used) (length below)) o (drop n ts) l p (given-within class base l p r)
+        keeps-later base used (scan (take n ts) (drop used l) (p + used) (length below)) o (drop n ts) l p
+        (given-within tag class base l p r)
         (h (drop used l) (p + used) f below n c (let z : m ≡ n = cc in e ∙ cc) (accepted-later used o v))
 
 -- how many tags a cut takes of those from some tag on
@@ -259,4 +263,4 @@ module _ (base : ℕ) (ts l : List ℕ) (p : ℕ) {n c : ℕ} (e : Cut n c ≡ b
 pub cut-room : {base : ℕ} {ts l : List ℕ} {p n used index : ℕ} {table : List ℕ} → CutAt base ts l p n used
     → ArgsRoom (readArgs base ts l p) index table
     → ArgsRoom (rest base ts l p n used) index table
-cut-room k w = record { accepted = k .accepted; fits = rw (k .kept) at (w .fits); low = rw (k .kept) at (w .low) }
+cut-room k w = record { accepted = k .accepted; room = rw (k .kept) at (w .room) }

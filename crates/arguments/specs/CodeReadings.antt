@@ -1,9 +1,9 @@
--- What the two readings of a message's arguments answer and need, from what `readArgs` says. These describe code, not the document.
-use Prim.Native.Nat.{ℕ, _+_, _*_, _≤_}
+-- Describes code, and no part of the document: what the two readings of a message's arguments answer and need, from what `readArgs`
+-- says.
+use Prim.Native.Nat.{ℕ}
 use mathlib.Core.List.{List}
-use lib.ListN.{length}
 use Rattle.node.specs.Forest.{Forest, nil, size}
-use Rattle.node.specs.Records.{recordSize}
+use Rattle.node.specs.Records.{TableRoom}
 use Rattle.arguments.specs.Arguments.{Args, refused, args}
 use Rattle.arguments.specs.declared.Measured.{Measured}
 use Rattle.arguments.specs.declared.Measured.the-variants.{Kept, Refused}
@@ -26,5 +26,4 @@ ArgsAccepted (args kept used) = Unit {0}
 -- what the second reading needs: accepted arguments, and room for their records from `index` on
 pub record ArgsRoom (o : Args) (index : ℕ) (table : List ℕ) : Type 0 where
   pub accepted : ArgsAccepted o
-  pub fits : recordSize * size (keptOf o) ≤ length table
-  pub low : index + size (keptOf o) ≤ 65535
+  pub room : TableRoom (keptOf o) index table

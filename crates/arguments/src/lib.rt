@@ -7,6 +7,7 @@ use scan::Scanned;
 ghost use mathlib.Core.Path.{_≡_};
 ghost use Prim.Native.Nat.{ℕ, _+_, _≤_};
 ghost use lib.ListN.{length};
+ghost use Rattle.wire.specs.Limits.{longest};
 ghost use Rattle.wire.specs.Wrote.{Wrote};
 ghost use Rattle.node.specs.Records.{recordsOf};
 ghost use Rattle.arguments.specs.Arguments.{readArgs};
@@ -23,7 +24,7 @@ pub enum Measured {
 //
 // Ruled out: the tags before an unclosed array counted too; a fault answered as another.
 pub fn measure_osc_args(tags: &[u8], input: &[u8], pos: usize) -> Measured
-    requires { ⌜ pos + length (now input) ≤ 65535 ⌝ }
+    requires { ⌜ pos + length (now input) ≤ longest ⌝ }
     ensures { λ r. ⌜ ((base : ℕ) → r ≡ measured (readArgs base (now (tags .entry)) (now (input .entry)) pos)) ⌝ }
 {
     match scan::scan_args(tags, input, pos) {
@@ -48,9 +49,10 @@ pub fn read_osc_args(
     table: &mut [u8],
     index: usize,
 )
-    requires { ⌜ base + pos + length (now input) ≤ 65535 ⌝ }
+    requires { ⌜ base + pos + length (now input) ≤ longest ⌝ }
     requires { ⌜ ArgsRoom (readArgs base (now tags) (now input) pos) index (now table) ⌝ }
-    ensures { λ _. ⌜ Wrote (recordsOf index (keptOf (readArgs base (now (tags .entry)) (now (input .entry)) pos))) (now (table .entry)) (now (table .exit)) ⌝ }
+    ensures { λ _. ⌜ Wrote (recordsOf index (keptOf (readArgs base (now (tags .entry)) (now (input .entry)) pos)))
+        (now (table .entry)) (now (table .exit)) ⌝ }
 {
     match scan::look_back(tags) {
         Back::Whole {

@@ -1,14 +1,14 @@
 // Packets back to bytes (encoder.rs).
-use wire::put_u32;
+use node::record::read_record;
 use refusal::Fault;
 use refusal::Refusal;
+use strings::encode_string_into;
 use survey::length::measure;
 use survey::survey;
 use table::deeper_than;
 use table::is_well_formed;
-use node::record::read_record;
 use utf8::is_utf8;
-use strings::encode_string_into;
+use wire::put_u32;
 use writers::encode_packet;
 ghost use mathlib.Core.Path.{_≡_};
 ghost use Rattle.writers.specs.Osc.{elementOf};

@@ -9,12 +9,12 @@ use crate::words::Space;
 use crate::words::front;
 use crate::written::put;
 use crate::written::put_number;
-use wire::Padded;
 use refusal::Refusal;
 use text::Lack;
 use text::Text;
 use values::look::Looked;
 use values::value::OscType;
+use wire::Padded;
 
 // The largest number of a field.
 const MOST: u64 = 0xffff_ffff;

@@ -5,16 +5,19 @@ use Prim.Native.Nat.{ℕ, _+_}
 use native.Mathlib.Omega.{arith}
 use Rattle.node.specs.Forest.{Forest, nil, node, size, snoc}
 use Rattle.node.specs.Records.{recordsOf}
+use Rattle.node.specs.declared.record.Item.{Item}
 
-pub size-snoc : (f : Forest) (k a b : ℕ) (g : Forest) → size (snoc f k a b g) ≡ size f + 1 + size g
+-- a forest with one node more has that node's size more
+pub size-snoc : (f : Forest) (item : Item) (g : Forest) → size (snoc f item g) ≡ size f + 1 + size g
 unfolding snoc size
-size-snoc nil k a b g = omega arith
-size-snoc (node k′ a′ b′ f′ rest) k a b g = omega (arith, size-snoc rest k a b g)
+size-snoc nil item g = omega arith
+size-snoc (node item′ f′ rest) item g = omega (arith, size-snoc rest item g)
 
-pub records-snoc : (i : ℕ) (f : Forest) (k a b : ℕ) (g : Forest)
-    → recordsOf i (snoc f k a b g) ≡ recordsOf i f ++ recordsOf (i + size f) (node k a b g nil)
+-- and that node's records after its own
+pub records-snoc : (i : ℕ) (f : Forest) (item : Item) (g : Forest)
+    → recordsOf i (snoc f item g) ≡ recordsOf i f ++ recordsOf (i + size f) (node item g nil)
 unfolding recordsOf snoc size
-records-snoc i nil k a b g = let e : i + 0 ≡ i = omega arith in rw e
-records-snoc i (node k′ a′ b′ f′ rest) k a b g =
+records-snoc i nil item g = let e : i + 0 ≡ i = omega arith in rw e
+records-snoc i (node item′ f′ rest) item g =
     let e : i + (1 + size f′ + size rest) ≡ i + 1 + size f′ + size rest = omega arith in
-    rw (records-snoc (i + 1 + size f′) rest k a b g, e, append-assoc, append-assoc)
+    rw (records-snoc (i + 1 + size f′) rest item g, e, append-assoc, append-assoc)

@@ -7,8 +7,8 @@ use lib.ListN.{length, getD, set, drop, length-append}
 use borrow.Rule.Slice.PartMut.{midOf, putMid}
 use Rattle.wire.specs.Number.{number, bytes}
 use Rattle.wire.specs.Wrote.{Wrote}
-use Rattle.node.specs.Records.{recordSize, recordOf, recordsOf, kindAt, zerosAt, endAt, aAt, bAt, startOf, recordAt}
-use Rattle.node.specs.declared.record.Record.{Record}
+use Rattle.node.specs.Records.{recordSize, recordOf, recordsOf, kindAt, zerosAt, aAt, bAt, recordStart, itemAt}
+use Rattle.node.specs.declared.record.Item.{Item}
 use Rattle.node.specs.Forest.{Forest, nil, node, size}
 use Rattle.wire.proofs.Numbers.{length-bytes, number-parts, number-small}
 use Rattle.wire.proofs.Parts.{drop-small}
@@ -25,43 +25,47 @@ kind-written o kind h =
     2 0 refl (omega arith))
     3 0 refl (omega arith)
 
-pub length-record : (kind end a b : ℕ) → length (recordOf kind end a b) ≡ recordSize
+-- a record is as long as every record
+pub length-record : (item : Item) (end : ℕ) → length (recordOf item end) ≡ recordSize
 unfolding recordOf
-length-record kind end a b = simp (length-append, length-bytes)
+length-record item end = simp (length-append, length-bytes)
 
 -- the four steps of a record are its bytes
-record-joined : (kind end a b : ℕ) → (((kind ∷ 0 ∷ 0 ∷ 0 ∷ []) ++ bytes 4 end) ++ bytes 4 a) ++ bytes 4 b ≡ recordOf kind end a b
+record-joined : (item : Item) (end : ℕ)
+    → (((item .kind ∷ 0 ∷ 0 ∷ 0 ∷ []) ++ bytes 4 end) ++ bytes 4 (item .a)) ++ bytes 4 (item .b) ≡ recordOf item end
 unfolding recordOf
-record-joined kind end a b = simp append-assoc
+record-joined item end = simp append-assoc
 
-pub record-written : (kind end a b : ℕ) {o₀ o₁ p₁ p₂ p₃ : List ℕ}
+-- a record is written in four steps, each after the one before
+pub record-written : (item : Item) (end : ℕ) {o₀ o₁ p₁ p₂ p₃ : List ℕ}
     → (let o₂ = putMid 4 (length o₁ - 4) o₁ p₁ in let o₃ = putMid 8 (length o₂ - 8) o₂ p₂ in
-    Wrote (kind ∷ 0 ∷ 0 ∷ 0 ∷ []) o₀ o₁
+    Wrote (item .kind ∷ 0 ∷ 0 ∷ 0 ∷ []) o₀ o₁
     → Wrote (bytes 4 end) (midOf 4 (length o₁ - 4) o₁) p₁
-    → Wrote (bytes 4 a) (midOf 8 (length o₂ - 8) o₂) p₂
-    → Wrote (bytes 4 b) (midOf 12 (length o₃ - 12) o₃) p₃
-    → Wrote (recordOf kind end a b) o₀ (putMid 12 (length o₃ - 12) o₃ p₃))
-record-written kind end a b w₁ w₂ w₃ w₄ =
-    rw (← record-joined kind end a b)
+    → Wrote (bytes 4 (item .a)) (midOf 8 (length o₂ - 8) o₂) p₂
+    → Wrote (bytes 4 (item .b)) (midOf 12 (length o₃ - 12) o₃) p₃
+    → Wrote (recordOf item end) o₀ (putMid 12 (length o₃ - 12) o₃ p₃))
+record-written item end w₁ w₂ w₃ w₄ =
+    rw (← record-joined item end)
     (wrote-lent 12 (wrote-lent 8 (wrote-lent 4 w₁ refl w₂) (simp length-bytes) w₃) (simp (length-append, length-bytes)) w₄)
 
 -- the three bytes after a byte, from the number of all four
-pub zeros-read : (t : List ℕ) (i : ℕ) → ((j : ℕ) → getD t j 0 < 256) → startOf i + 4 ≤ length t
-    → number 4 (drop (startOf i) t) % 0x100_0000 ≡ zerosAt t i
+pub zeros-read : (t : List ℕ) (i : ℕ) → ((j : ℕ) → getD t j 0 < 256) → recordStart i + 4 ≤ length t
+    → number 4 (drop (recordStart i) t) % 0x100_0000 ≡ zerosAt t i
 unfolding zerosAt
 zeros-read t i b h =
-    let p : number 4 (drop (startOf i) t) ≡ number 1 (drop (startOf i) t) * 256 ^ 3 + number 3 (drop (startOf i + 1) t)
-    = number-parts 1 3 t (startOf i) h in
-    let s : number 3 (drop (startOf i + 1) t) < 256 ^ 3 = number-small 3 (drop (startOf i + 1) t) (drop-small (startOf i + 1) t b) in
+    let p : number 4 (drop (recordStart i) t) ≡ number 1 (drop (recordStart i) t) * 256 ^ 3 + number 3 (drop (recordStart i + 1) t)
+    = number-parts 1 3 t (recordStart i) h in
+    let s : number 3 (drop (recordStart i + 1) t) < 256 ^ 3 = number-small 3 (drop (recordStart i + 1) t) (drop-small (recordStart i + 1) t b) in
     omega arith
 
--- a record, field by field
-pub record-read : (t : List ℕ) (i : ℕ) {k z e a b : ℕ} → k ≡ kindAt t i → z ≡ zerosAt t i → e ≡ endAt t i → a ≡ aAt t i → b ≡ bAt t i
-    → _≡_ {A = Record} (record { kind = k; zeros = z; end = e; a = a; b = b }) (recordAt t i)
-record-read t i o p q r s = rw (o, p, q, r, s)
+-- an item, number by number
+pub item-read : (t : List ℕ) (i : ℕ) {k a b : ℕ} → k ≡ kindAt t i → a ≡ aAt t i → b ≡ bAt t i
+    → _≡_ {A = Item} (record { kind = k; a = a; b = b }) (itemAt t i)
+item-read t i o p q = rw (o, p, q)
 
+-- how many bytes the records of a forest take
 pub length-records : (i : ℕ) (f : Forest) → length (recordsOf i f) ≡ recordSize * size f
 unfolding recordsOf size
 length-records i nil = refl
-length-records i (node k a b inside rest) =
+length-records i (node item inside rest) =
     simp (length-append, length-record, length-records (i + 1) inside, length-records (i + 1 + size inside) rest) (omega arith)

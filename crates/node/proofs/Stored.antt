@@ -10,6 +10,7 @@ use Rattle.wire.specs.Wrote.{Wrote}
 use Rattle.wire.proofs.Parts.{lent, given-back}
 use Rattle.node.specs.Forest.{Forest, nil, node, size}
 use Rattle.node.specs.Records.{recordSize, recordOf, recordsOf, stored}
+use Rattle.node.specs.declared.record.Item.{Item}
 use Rattle.node.proofs.Recorded.{length-record, length-records}
 
 -- what a writer of a forest's records leaves
@@ -21,19 +22,22 @@ length-stored : (i : ℕ) (f : Forest) (T : List ℕ) → recordSize * size f �
 unfolding stored
 length-stored i f T h = simp (length-append, length-records, length-drop) (omega arith)
 
+-- no records leave a table as it is
 pub stored-nil : (i : ℕ) (T : List ℕ) → stored i nil T ≡ T
 unfolding stored recordsOf size
 stored-nil i T = refl
 
 -- the records of one node: its own, and those of what it contains
-pub node-records : (i k a b : ℕ) (f : Forest) → recordOf k (i + 1 + size f) a b ++ recordsOf (i + 1) f ≡ recordsOf i (node k a b f nil)
+pub node-records : (i : ℕ) (item : Item) (f : Forest)
+    → recordOf item (i + 1 + size f) ++ recordsOf (i + 1) f ≡ recordsOf i (node item f nil)
 unfolding recordsOf
-node-records i k a b f = rw (append-nil (recordsOf (i + 1) f))
+node-records i item f = rw (append-nil (recordsOf (i + 1) f))
 
 -- the first c records of T, then those of f from index j on, then T again
 abbrev pub completed : List ℕ → ℕ → ℕ → Forest → List ℕ
 completed T c j f = take (recordSize * c) T ++ stored j f (drop (recordSize * c) T)
 
+-- a completed table is as long as before
 pub length-completed : (T : List ℕ) (c j : ℕ) (f : Forest) → recordSize * (c + size f) ≤ length T → length (completed T c j f) ≡ length T
 length-completed T c j f h =
     simp (length-append, length-take)
@@ -44,6 +48,7 @@ length-completed T c j f h =
           (omega (arith, length-drop (recordSize * c) T)),
     ))
 
+-- with no records left to write, it is the table itself
 pub completed-nil : (T : List ℕ) (c j : ℕ) → completed T c j nil ≡ T
 completed-nil T c j = rw (stored-nil j (drop (recordSize * c) T)) (take-append-drop (recordSize * c) T)
 
@@ -53,10 +58,10 @@ pub lent-stored : {Y : List ℕ} (T : List ℕ) (c j : ℕ) (f : Forest) → Y �
 lent-stored {Y} T c j f e =
     given-back T Y (recordSize * c) ∙ ap (λ (l : List ℕ). take (recordSize * c) T ++ l) (e ∙ ap (stored j f) (lent T (recordSize * c)))
 
-records-split : (i k a b : ℕ) (f g : Forest)
-    → recordsOf i (node k a b f g) ≡ recordsOf i (node k a b f nil) ++ recordsOf (i + (1 + size f)) g
+records-split : (i : ℕ) (item : Item) (f g : Forest)
+    → recordsOf i (node item f g) ≡ recordsOf i (node item f nil) ++ recordsOf (i + (1 + size f)) g
 unfolding recordsOf
-records-split i k a b f g =
+records-split i item f g =
     let e : i + 1 + size f ≡ i + (1 + size f) = omega arith in
     rw (append-nil (recordsOf (i + 1) f), append-assoc, e)
 
@@ -74,26 +79,26 @@ glue A B G D x y z ha hb =
     )
 
 -- a node of n records was written: what is left to do is what stands after it
-pub completed-turn : {T' : List ℕ} (T : List ℕ) (c n j k a b : ℕ) (f g : Forest) → recordSize * c ≤ length T → n ≡ 1 + size f
-    → T' ≡ completed T c j (node k a b f nil) → completed T' (c + n) (j + n) g ≡ completed T c j (node k a b f g)
+pub completed-turn : {T' : List ℕ} (T : List ℕ) (c n j : ℕ) (item : Item) (f g : Forest) → recordSize * c ≤ length T → n ≡ 1 + size f
+    → T' ≡ completed T c j (node item f nil) → completed T' (c + n) (j + n) g ≡ completed T c j (node item f g)
 unfolding stored size
-completed-turn T c n j k a b f g h en e =
-    let B = recordsOf j (node k a b f nil) in
+completed-turn T c n j item f g h en e =
+    let B = recordsOf j (node item f nil) in
     let e1 : recordSize * (c + n) ≡ recordSize * c + recordSize * (1 + size f + 0) = omega arith in
     let e2 : recordSize * (1 + size f + size g) ≡ recordSize * (1 + size f + 0) + recordSize * size g = omega arith in
-    rw (e, e1, en, records-split j k a b f g, e2)
+    rw (e, e1, en, records-split j item f g, e2)
     (glue (take (recordSize * c) T) B (recordsOf (j + (1 + size f)) g) (drop (recordSize * c) T) (recordSize * c)
     (recordSize * (1 + size f + 0)) (recordSize * size g)
-    (length-take-le (recordSize * c) T h) (length-records j (node k a b f nil)))
+    (length-take-le (recordSize * c) T h) (length-records j (node item f nil)))
 
 -- a node's own record, in front of what it contains
-pub completed-node : {T' R : List ℕ} (T : List ℕ) (i k a b e : ℕ) (f : Forest) → recordSize ≤ length T → R ≡ completed T 1 (i + 1) f
+pub completed-node : {T' R : List ℕ} (T : List ℕ) (i : ℕ) (item : Item) (e : ℕ) (f : Forest) → recordSize ≤ length T → R ≡ completed T 1 (i + 1) f
     → e ≡ i + 1 + size f
-    → Wrote (recordOf k e a b) R T' → T' ≡ stored i (node k a b f nil) T
+    → Wrote (recordOf item e) R T' → T' ≡ stored i (node item f nil) T
 unfolding stored size
-completed-node {T'} {R} T i k a b e f h r ee w =
+completed-node {T'} {R} T i item e f h r ee w =
     let e2 : recordSize * (1 + size f + 0) ≡ recordSize + recordSize * size f = omega arith in
     let d : drop recordSize R ≡ recordsOf (i + 1) f ++ drop (recordSize * size f) (drop recordSize T)
     = rw r (drop-at (take recordSize T) (recordsOf (i + 1) f ++ drop (recordSize * size f) (drop recordSize T)) recordSize
     (length-take-le recordSize T h)) in
-    w .left ∙ rw (length-record k e a b, d, ee, ← node-records i k a b f, e2, drop-drop (recordSize * size f) recordSize T, append-assoc)
+    w .left ∙ rw (length-record item e, d, ee, ← node-records i item f, e2, drop-drop (recordSize * size f) recordSize T, append-assoc)

@@ -1,4 +1,4 @@
+pub mod Tags
 pub mod Forest
 pub mod Records
-pub mod Tags
 pub mod Rules

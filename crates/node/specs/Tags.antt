@@ -8,6 +8,18 @@ use Rattle.node.specs.declared.tags.Class.the-variants.{Four, Eight, Bar
 use Rattle.node.specs.declared.tags.Sort.{Sort}
 use Rattle.node.specs.declared.tags.Sort.the-variants.{Opens, Closes, Leaf}
 
+-- the kind of a message: /
+abbrev pub messageKind : ℕ
+messageKind = 47
+
+-- the kind of a bundle: #
+abbrev pub bundleKind : ℕ
+bundleKind = 35
+
+-- the kind of an array, and the tag that opens one: [
+abbrev pub arrayKind : ℕ
+arrayKind = 91
+
 -- a tag is one of a list
 abbrev pub among : ℕ → List ℕ → Bool
 among t [] = false
@@ -25,7 +37,7 @@ classOf t =
 
 -- [ opens and ] closes an array (rule 3)
 unfoldable pub sortOf : ℕ → Sort
-sortOf t = cond (eqb t 91) Opens (cond (eqb t 93) Closes (Leaf (classOf t)))
+sortOf t = cond (eqb t arrayKind) Opens (cond (eqb t 93) Closes (Leaf (classOf t)))
 
 -- a scalar number: at most 1,114,111 and outside 55,296 to 57,343 (the well-formed table's rule for c)
 abbrev pub isScalar : ℕ → Bool

@@ -3,26 +3,34 @@ use wire::be_u32;
 use wire::put_u32;
 ghost use mathlib.Core.Path.{_≡_};
 ghost use mathlib.Core.List.{[], _∷_};
-ghost use Prim.Native.Nat.{_+_, _*_, _/_, _≤_, _<_};
+ghost use Prim.Native.Nat.{_+_, _≤_, _<_};
 ghost use lib.ListN.{length};
 ghost use Rattle.wire.specs.Wrote.{Wrote};
-ghost use Rattle.node.specs.Records.{recordSize, recordOf, kindAt, zerosAt, endAt, aAt, bAt, recordAt};
+ghost use Rattle.node.specs.Records.{recordSize, recordOf, kindAt, zerosAt, fieldAt, itemAt, capacity};
 
 // The bytes of a record.
 pub const RECORD_SIZE: usize = 16;
 
-// The fields of a record; `zeros` is the number of the three bytes that must be 0.
-pub struct Record {
+// The most records of a table that is encoded.
+pub const MOST_RECORDS: usize = 65_535;
+
+// Where the numbers of a record stand in it.
+pub const END: usize = 4;
+
+pub const A: usize = 8;
+
+pub const B: usize = 12;
+
+// A node's own numbers: all that its record says but its end, which what it contains decides.
+pub struct Item {
     pub kind: u8,
-    pub zeros: u32,
-    pub end: u32,
     pub a: u32,
     pub b: u32,
 }
 
 // How many records a slice has room for.
-pub fn capacity(table: &[u8]) -> usize
-    ensures { λ r. ⌜ r ≡ length (now (table .entry)) / recordSize ⌝ }
+pub fn capacity_of(table: &[u8]) -> usize
+    ensures { λ r. ⌜ r ≡ capacity (now (table .entry)) ⌝ }
 {
     table.len() / RECORD_SIZE
 }
@@ -39,21 +47,21 @@ fn put_kind(table: &mut [u8], kind: u8)
 }
 
 // Writes a record over the first bytes of `table`.
-pub fn put_record(table: &mut [u8], kind: u8, end: u32, a: u32, b: u32)
+pub fn put_record(table: &mut [u8], item: Item, end: u32)
     requires { ⌜ recordSize ≤ length (now table) ⌝ }
-    ensures { λ _. ⌜ Wrote (recordOf kind end a b) (now (table .entry)) (now (table .exit)) ⌝ }
+    ensures { λ _. ⌜ Wrote (recordOf item end) (now (table .entry)) (now (table .exit)) ⌝ }
 {
-    put_kind(table, kind);
-    put_u32(&mut table[4..], end);
-    put_u32(&mut table[8..], a);
-    put_u32(&mut table[12..], b);
+    put_kind(table, item.kind);
+    put_u32(&mut table[END..], end);
+    put_u32(&mut table[A..], item.a);
+    put_u32(&mut table[B..], item.b);
 }
 
 // The kind of record `index`.
 //
 // One field is read where only that is wanted: its bytes are then loaded together, where it is used.
 pub fn kind_at(table: &[u8], index: usize) -> u8
-    requires { ⌜ index < length (now table) / recordSize ⌝ }
+    requires { ⌜ index < capacity (now table) ⌝ }
     ensures { λ r. ⌜ r ≡ kindAt (now (table .entry)) index ⌝ }
 {
     table[RECORD_SIZE * index]
@@ -61,46 +69,28 @@ pub fn kind_at(table: &[u8], index: usize) -> u8
 
 // The number of the three bytes after the kind.
 pub fn zeros_at(table: &[u8], index: usize) -> u32
-    requires { ⌜ index < length (now table) / recordSize ⌝ }
+    requires { ⌜ index < capacity (now table) ⌝ }
     ensures { λ r. ⌜ r ≡ zerosAt (now (table .entry)) index ⌝ }
 {
     be_u32(table, RECORD_SIZE * index) % 0x100_0000
 }
 
-// The end of record `index`.
-pub fn end_at(table: &[u8], index: usize) -> u32
-    requires { ⌜ index < length (now table) / recordSize ⌝ }
-    ensures { λ r. ⌜ r ≡ endAt (now (table .entry)) index ⌝ }
+// The number that stands at place `k` of record `index`: END, A or B.
+pub fn field_at(table: &[u8], index: usize, k: usize) -> u32
+    requires { ⌜ (index < capacity (now table)) × (k + 4 ≤ recordSize) ⌝ }
+    ensures { λ r. ⌜ r ≡ fieldAt (now (table .entry)) index k ⌝ }
 {
-    be_u32(table, RECORD_SIZE * index + 4)
+    be_u32(table, RECORD_SIZE * index + k)
 }
 
-// The field a of record `index`.
-pub fn a_at(table: &[u8], index: usize) -> u32
-    requires { ⌜ index < length (now table) / recordSize ⌝ }
-    ensures { λ r. ⌜ r ≡ aAt (now (table .entry)) index ⌝ }
+// What record `index` says of its node.
+pub fn item_at(table: &[u8], index: usize) -> Item
+    requires { ⌜ index < capacity (now table) ⌝ }
+    ensures { λ r. ⌜ r ≡ itemAt (now (table .entry)) index ⌝ }
 {
-    be_u32(table, RECORD_SIZE * index + 8)
-}
-
-// The field b of record `index`.
-pub fn b_at(table: &[u8], index: usize) -> u32
-    requires { ⌜ index < length (now table) / recordSize ⌝ }
-    ensures { λ r. ⌜ r ≡ bAt (now (table .entry)) index ⌝ }
-{
-    be_u32(table, RECORD_SIZE * index + 12)
-}
-
-// Reads record `index`.
-pub fn read_record(table: &[u8], index: usize) -> Record
-    requires { ⌜ index < length (now table) / recordSize ⌝ }
-    ensures { λ r. ⌜ r ≡ recordAt (now (table .entry)) index ⌝ }
-{
-    Record {
+    Item {
         kind: kind_at(table, index),
-        zeros: zeros_at(table, index),
-        end: end_at(table, index),
-        a: a_at(table, index),
-        b: b_at(table, index),
+        a: field_at(table, index, A),
+        b: field_at(table, index, B),
     }
 }

@@ -2,6 +2,15 @@
 ghost use mathlib.Core.Path.{_≡_};
 ghost use Rattle.node.specs.Tags.{sortOf, classOf, isScalar};
 
+// The kind of a message.
+pub const MESSAGE: u8 = b'/';
+
+// The kind of a bundle.
+pub const BUNDLE: u8 = b'#';
+
+// The kind of an array, and the tag that opens one.
+pub const ARRAY: u8 = b'[';
+
 // The data of an argument that is no array.
 pub enum Class {
     // 4 bytes: 'i', 'f', 'r', 'm'.
@@ -35,7 +44,7 @@ pub fn sort_of(tag: u8) -> Sort
     ensures { λ r. ⌜ r ≡ sortOf tag ⌝ }
 {
     match tag {
-        b'[' => Sort::Opens,
+        ARRAY => Sort::Opens,
         b']' => Sort::Closes,
         _ => Sort::Leaf(class_of(tag)),
     }

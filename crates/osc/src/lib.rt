@@ -1,10 +1,10 @@
 // The C boundary: the public calls, each with its answer as one number of 64 bits. include/osc.h declares them for C and C++.
 use decoder::Decoded;
 use encoder::Encoded;
-use wire::Padded;
 use refusal::Refusal;
 use values::look::Looked;
 use values::value::OscType;
+use wire::Padded;
 ghost use mathlib.Core.Path.{_≡_};
 ghost use Prim.Native.Nat.{_/_};
 ghost use lib.ListN.{length};

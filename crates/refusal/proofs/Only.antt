@@ -47,5 +47,6 @@ which-is PadOverflow = refl
 pub number-tells : (r s : Refusal) → numberOf r ≡ numberOf s → r ≡ s
 number-tells r s e = sym (which-is r) ∙ ap which e ∙ which-is s
 
+-- no second number satisfies the contract of `number_of`
 pub number-of-only : (refusal : Refusal) (r s : ℕ) → r ≡ numberOf refusal → s ≡ numberOf refusal → r ≡ s
 number-of-only refusal r s p q = p ∙ sym q

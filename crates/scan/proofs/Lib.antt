@@ -1,3 +1,3 @@
-pub mod AnyBase
 pub mod Flat
+pub mod Passed
 pub mod Turns

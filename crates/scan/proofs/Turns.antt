@@ -15,9 +15,8 @@ use Rattle.node.specs.declared.tags.Class.{Class}
 use Rattle.node.specs.declared.tags.Sort.{Sort}
 use Rattle.node.specs.declared.tags.Sort.the-variants.{Opens, Closes, Leaf}
 use Rattle.argument.specs.Argument.{readArg}
-use Rattle.argument.specs.declared.Arg.the-variants as arg
-use Rattle.argument.proofs.Within.{given-within}
-use Rattle.scan.specs.CodeScans.{moreUsed, turn, scan, tagBefore, back}
+use Rattle.scan.proofs.Passed.{used-within}
+use Rattle.scan.specs.CodeScans.{usedOf, moreUsed, turn, scan, tagBefore, back}
 use Rattle.scan.specs.declared.Scanned.{Scanned}
 use Rattle.scan.specs.declared.Scanned.the-variants.{Used, Refused}
 use Rattle.scan.specs.declared.Back.the-variants.{Whole, Cut}
@@ -33,11 +32,12 @@ more-none (Refused fault) = refl
 -- ---- forward
 
 module _ (ts m : List ℕ) (q n : ℕ) (h : 0 < length ts) where
-  scan-turn : {s : Sort} → s ≡ sortOf (getD ts 0 0) → scan ts m q n ≡ turn s (λ m q k. scan (drop 1 ts) m q k) m q n
+  scan-turn : {s : Sort} → s ≡ sortOf (getD ts 0 0) → scan ts m q n ≡ turn s (λ m q k. scan (drop 1 ts) m q k) (getD ts 0 0) m q n
   unfolding scan
   scan-turn {s} e = by-list ts h ∙ rw (← e)
     where
-      by-list : (ts : List ℕ) → 0 < length ts → scan ts m q n ≡ turn (sortOf (getD ts 0 0)) (λ m q k. scan (drop 1 ts) m q k) m q n
+      by-list : (ts : List ℕ) → 0 < length ts
+          → scan ts m q n ≡ turn (sortOf (getD ts 0 0)) (λ m q k. scan (drop 1 ts) m q k) (getD ts 0 0) m q n
       by-list [] h = absurd (omega arith)
       by-list (t ∷ ts) h = refl
 
@@ -50,13 +50,15 @@ module _ (ts m : List ℕ) (q n : ℕ) (h : 0 < length ts) where
   scan-closes : Closes ≡ sortOf (getD ts 0 0) → (n ≡ 0 → ⊥) → scan ts m q n ≡ scan (drop 1 ts) m q (n - 1)
   scan-closes e z =
       let some : n ≡ suc (n - 1) = omega arith in
-      scan-turn e ∙ ap (turn Closes (λ m q k. scan (drop 1 ts) m q k) m q) some
+      scan-turn e ∙ ap (turn Closes (λ m q k. scan (drop 1 ts) m q k) (getD ts 0 0) m q) some
 
-  scan-given : {class : Class} {a b used : ℕ} → Leaf class ≡ sortOf (getD ts 0 0) → arg.Given a b used ≡ readArg class 0 m q
+  scan-given : {class : Class} {used : ℕ} → Leaf class ≡ sortOf (getD ts 0 0)
+      → Used used ≡ usedOf (readArg (getD ts 0 0) class 0 m q)
       → scan ts m q n ≡ moreUsed used (scan (drop 1 ts) (drop used m) (q + used) n)
   scan-given e g = scan-turn e ∙ rw (← g)
 
-  scan-refused : {class : Class} {fault : Fault} → Leaf class ≡ sortOf (getD ts 0 0) → arg.Refused fault ≡ readArg class 0 m q
+  scan-refused : {class : Class} {fault : Fault} → Leaf class ≡ sortOf (getD ts 0 0)
+      → Refused fault ≡ usedOf (readArg (getD ts 0 0) class 0 m q)
       → scan ts m q n ≡ Refused fault
   scan-refused e g = scan-turn e ∙ rw (← g)
 
@@ -84,7 +86,13 @@ module _ {tags l : List ℕ} {pos : ℕ} {ts m : List ℕ} {at n : ℕ} (w : Sca
       → Scanning tags l pos (take (length ts - 1) (drop 1 ts)) m at n′
   next n′ h k e =
       rw (tail ts 1)
-      (record { whole = w .whole ∙ ap (moreUsed (at - pos)) e; ends = w .ends; past = w .past; few = omega (arith, length-drop 1 ts, w .few) })
+      (record {
+        whole = w .whole
+            ∙ ap (moreUsed (at - pos)) e;
+        ends = w .ends;
+        past = w .past;
+        few = omega (arith, length-drop 1 ts, w .few);
+      })
 
   -- a tag that opens: one array more is open
   pub scanning-opens : 0 < length ts → Opens ≡ sortOf (getD ts 0 0) → Scanning tags l pos (take (length ts - 1) (drop 1 ts)) m at (n + 1)
@@ -96,12 +104,12 @@ module _ {tags l : List ℕ} {pos : ℕ} {ts m : List ℕ} {at n : ℕ} (w : Sca
   scanning-closes h e z = next (n - 1) h (omega arith) (scan-closes ts m at n h e z)
 
   -- a tag whose argument is given: its bytes are read too
-  pub scanning-given : {class : Class} {a b used : ℕ} → 0 < length ts → Leaf class ≡ sortOf (getD ts 0 0)
-      → arg.Given a b used ≡ readArg class 0 m at
+  pub scanning-given : {class : Class} {used : ℕ} → 0 < length ts → Leaf class ≡ sortOf (getD ts 0 0)
+      → Used used ≡ usedOf (readArg (getD ts 0 0) class 0 m at)
       → Scanning tags l pos (take (length ts - 1) (drop 1 ts)) (take (length m - used) (drop used m)) (at + used) n
-  scanning-given {class} {a} {b} {used} h e g =
+  scanning-given {class} {used} h e g =
       let sum : at - pos + used ≡ at + used - pos = omega (arith, w .past) in
-      let within : used ≤ length m = given-within class 0 m at g in
+      let within : used ≤ length m = used-within (getD ts 0 0) class 0 m at g in
       rw (tail ts 1, tail m used)
       (record {
         whole =
@@ -118,7 +126,7 @@ module _ {tags l : List ℕ} {pos : ℕ} {ts m : List ℕ} {at n : ℕ} (w : Sca
 
   -- a tag whose argument is refused
   pub scanning-refused : {class : Class} {fault : Fault} → 0 < length ts → Leaf class ≡ sortOf (getD ts 0 0)
-      → arg.Refused fault ≡ readArg class 0 m at
+      → Refused fault ≡ usedOf (readArg (getD ts 0 0) class 0 m at)
       → Refused fault ≡ scan tags l pos 0
   scanning-refused h e g = sym (w .whole ∙ ap (moreUsed (at - pos)) (scan-refused ts m at n h e g))
 

@@ -1,11 +1,11 @@
--- The scans of the first reading, which build no tree. These describe code, not the document: nobody need believe them, for the
--- laws `measured-kept`, `measured-refused` and `cut-at` of the crate `arguments` show that they answer as `readArgs` does.
+-- Describes code, and no part of the document: the scans of the first reading, which build no tree. Nobody need believe them: the laws
+-- `measured-kept`, `measured-refused` and `cut-at` of the crate `arguments` show that they answer as `readArgs` does.
 use mathlib.Core.Bool.{Bool, false, _||_}
 use mathlib.Core.List.{List, [], _∷_}
 use Prim.Native.Nat.{ℕ, zero, suc, _+_}
 use lib.ListN.{drop}
 use Rattle.refusal.specs.declared.Fault.the-variants.{NotOpen}
-use Rattle.node.specs.Tags.{among, sortOf}
+use Rattle.node.specs.Tags.{arrayKind, among, sortOf}
 use Rattle.node.specs.declared.tags.Sort.{Sort}
 use Rattle.node.specs.declared.tags.Sort.the-variants.{Opens, Closes, Leaf}
 use Rattle.argument.specs.Argument.{readArg}
@@ -18,9 +18,9 @@ use Rattle.scan.specs.declared.Back.the-variants.{Whole, Cut}
 
 -- ---- forward: whether tags and data are accepted, and how many bytes they take
 
--- one argument without its fields
+-- one argument without its own numbers
 abbrev pub usedOf : Arg → Scanned
-usedOf (arg.Given a b used) = Used used
+usedOf (arg.Given item used) = Used used
 usedOf (arg.Refused fault) = Refused fault
 
 -- n more bytes were read before
@@ -34,16 +34,16 @@ argPassed go l p (Used used) = moreUsed used (go (drop used l) (p + used))
 argPassed go l p (Refused fault) = Refused fault
 
 -- what one tag does while n arrays are open; the offset base does not matter, and is 0
-abbrev pub turn : Sort → (List ℕ → ℕ → ℕ → Scanned) → List ℕ → ℕ → ℕ → Scanned
-turn Opens go l p n = go l p (suc n)
-turn Closes go l p zero = Refused NotOpen
-turn Closes go l p (suc n) = go l p n
-turn (Leaf class) go l p n = argPassed (λ m q. go m q n) l p (usedOf (readArg class 0 l p))
+abbrev pub turn : Sort → (List ℕ → ℕ → ℕ → Scanned) → ℕ → List ℕ → ℕ → ℕ → Scanned
+turn Opens go tag l p n = go l p (suc n)
+turn Closes go tag l p zero = Refused NotOpen
+turn Closes go tag l p (suc n) = go l p n
+turn (Leaf class) go tag l p n = argPassed (λ m q. go m q n) l p (usedOf (readArg tag class 0 l p))
 
 -- the tags and their data, which stands at position p, while n arrays are open
 unfoldable pub scan : List ℕ → List ℕ → ℕ → ℕ → Scanned
 scan [] l p n = Used 0
-scan (tag ∷ tags) l p n = turn (sortOf tag) (λ m q k. scan tags m q k) l p n
+scan (tag ∷ tags) l p n = turn (sortOf tag) (λ m q k. scan tags m q k) tag l p n
 
 -- ---- backward, tags only: which tags are kept
 
@@ -70,7 +70,7 @@ AllClosed (Cut n c) = ⊥
 
 -- a tag that opens or closes an array (rule 3)
 abbrev pub bracket : ℕ → Bool
-bracket tag = among tag (91 ∷ 93 ∷ [])
+bracket tag = among tag (arrayKind ∷ 93 ∷ [])
 
 -- one of the tags is a bracket: where none is, every tag is kept
 abbrev pub brackets : List ℕ → Bool

@@ -1,7 +1,7 @@
 // The writers (encoder.rs, `encode_message` and what it calls): each fills the first bytes of the slice that it is lent, and
 // answers how many these are.
-use wire::put_u32;
 use node::tags::Class;
+use wire::put_u32;
 ghost use mathlib.Core.Path.{_≡_};
 ghost use mathlib.Core.Bool.{true};
 ghost use mathlib.Core.List.{_++_};

@@ -4,18 +4,18 @@ pub mod length; // length.rt: how long a packet will be, where the survey is not
 
 use length::argument_length;
 use length::string_length;
-use table::lies_in;
-use table::text_ok;
 use node::record::a_at;
 use node::record::b_at;
 use node::record::capacity;
 use node::record::end_at;
 use node::record::kind_at;
 use node::record::zeros_at;
+use node::rules::leaf_rules;
 use node::tags::Class;
 use node::tags::Sort;
 use node::tags::sort_of;
-use node::rules::leaf_rules;
+use table::lies_in;
+use table::text_ok;
 ghost use mathlib.Core.Path.{_≡_};
 ghost use mathlib.Core.Bool.{true};
 ghost use Prim.Native.Nat.{_+_, _-_, _*_, _/_, _^_, _≤_, _<_};

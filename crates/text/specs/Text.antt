@@ -24,8 +24,8 @@ abbrev pub reach : ℕ → ℕ → ℕ
 reach p n = padded (p + n) - p
 
 -- the text at the front of l, which stands at position p: a missing NUL or padding comes before the UTF-8 test
-unfoldable pub textOf : List ℕ → ℕ → Text
-textOf l p =
+unfoldable pub readText : List ℕ → ℕ → Text
+readText l p =
     cond (ltb (untilNul l) (length l))
     (cond (leb (reach p (untilNul l + 1)) (length l))
     (cond (utf8 (take (untilNul l) l)) (Found (untilNul l) (reach p (untilNul l + 1))) (Lacks Utf8))

@@ -4,8 +4,9 @@ ghost use mathlib.Core.Path.{_≡_};
 ghost use Prim.Native.Nat.{_+_, _≤_};
 ghost use lib.Dec.{ltb};
 ghost use lib.ListN.{length};
-ghost use Rattle.text.specs.Plain.{special, plain, Passed};
-ghost use Rattle.text.specs.Text.{untilNul, textOf, faultOf};
+ghost use Rattle.wire.specs.Limits.{longest};
+ghost use Rattle.text.specs.CodePlain.{special, plainOf, Passed};
+ghost use Rattle.text.specs.Text.{untilNul, readText, faultOf};
 
 // What a text lacks. The three are kept apart, though two have one number today.
 pub enum Lack {
@@ -48,7 +49,7 @@ fn is_special(byte: u8) -> bool
 // Whether one of the first `n` bytes is special. With no early exit, the compiled test takes all of them at once.
 fn any_special(input: &[u8], n: usize) -> bool
     requires { ⌜ n ≤ length (now input) ⌝ }
-    ensures { λ r. ⌜ r ≡ ltb (plain (now (input .entry))) n ⌝ }
+    ensures { λ r. ⌜ r ≡ ltb (plainOf (now (input .entry))) n ⌝ }
 {
     let mut any = false;
     let mut i = 0;
@@ -77,8 +78,8 @@ fn skip(input: &[u8], n: usize) -> usize
 }
 
 // How many bytes stand before the first special one; all of them where there is none. They are passed over 16, 4 and 1 at a time.
-fn plain(input: &[u8]) -> usize
-    ensures { λ r. ⌜ (r ≤ length (now (input .entry))) × (r ≡ plain (now (input .entry))) ⌝ }
+fn count_plain(input: &[u8]) -> usize
+    ensures { λ r. ⌜ (r ≤ length (now (input .entry))) × (r ≡ plainOf (now (input .entry))) ⌝ }
 {
     let front = skip(input, 16);
     let rest = &input[front..];
@@ -111,10 +112,10 @@ fn until_nul(input: &[u8]) -> usize
 //
 // Ruled out: `Lack::Utf8` for a text whose padding is missing too; padding looked at, so that a byte other than 0 is refused.
 pub fn read_osc_string(input: &[u8], pos: usize) -> Text
-    requires { ⌜ pos + length (now input) ≤ 65535 ⌝ }
-    ensures { λ r. ⌜ r ≡ textOf (now (input .entry)) pos ⌝ }
+    requires { ⌜ pos + length (now input) ≤ longest ⌝ }
+    ensures { λ r. ⌜ r ≡ readText (now (input .entry)) pos ⌝ }
 {
-    let plain = plain(input);
+    let plain = count_plain(input);
     let length = plain + until_nul(&input[plain..]);
     if length == input.len() {
         return Text::Lacks(Lack::Nul);

@@ -3,9 +3,11 @@ use mathlib.Core.Path.{_≡_, refl, sym, _∙_}
 use mathlib.Core.Bool.{Bool, true, false, true≢false, false≢true}
 use Rattle.utf8.specs.Utf8.{Decides}
 
+-- true decides what holds
 pub yes : {A : Type 0} → A → Decides true A
 yes a = record { sound = λ e. a; complete = λ x. refl }
 
+-- false decides what does not
 pub no : {A : Type 0} → (A → ⊥) → Decides false A
 no n = record { sound = λ e. absurd (false≢true e); complete = λ x. absurd (n x) }
 

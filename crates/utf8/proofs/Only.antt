@@ -4,7 +4,7 @@ use mathlib.Core.Bool.{Bool}
 use mathlib.Core.List.{List}
 use Prim.Native.Nat.{ℕ}
 use Rattle.utf8.specs.Utf8.{Octets, Decides}
-use Rattle.utf8.specs.Lead.{lead}
+use Rattle.utf8.specs.Lead.{leadOf}
 use Rattle.utf8.proofs.Grammar.{same-answer}
 
 -- two answers that meet the contract of `is_utf8` on the same bytes are equal
@@ -12,5 +12,5 @@ pub is-utf8-only : (s : List ℕ) (a b : Bool) → Decides a (Octets s) → Deci
 is-utf8-only s a b p q = same-answer p q
 
 -- two answers that meet the contract of `lead` on the same byte are equal
-pub lead-only : (first a b : ℕ) → a ≡ lead first → b ≡ lead first → a ≡ b
+pub lead-only : (first a b : ℕ) → a ≡ leadOf first → b ≡ leadOf first → a ≡ b
 lead-only first a b p q = p ∙ sym q

@@ -7,7 +7,7 @@ use lib.Dec.{eqb, ltb, eqb→eq, ltb→lt}
 use lib.ListN.{getD}
 use mir.Facts.{and-yes}
 use Rattle.utf8.specs.Derive.{step, whole}
-use Rattle.utf8.specs.States.{wants, classOf}
+use Rattle.utf8.specs.CodeStates.{wants, byteClass}
 use Rattle.utf8.proofs.Same.{same, same→eq, same-rows, same-rows→eq}
 use Rattle.utf8.proofs.Table.{below, at}
 
@@ -42,27 +42,27 @@ abbrev pub nextOf : ℕ → ℕ → ℕ
 nextOf q k = getD nexts (q * 16 + k) 0
 
 right-class : ℕ → Bool
-right-class x = ltb (getD classes x 0) 14 && eqb (getD classes x 0) (classOf x)
+right-class x = ltb (getD classes x 0) 14 && eqb (getD classes x 0) (byteClass x)
 
 -- the table of classes has the class of each octet, one of 14
-pub class-rule : (x : ℕ) → x < 256 → (getD classes x 0 < 14) × (getD classes x 0 ≡ classOf x)
+pub class-rule : (x : ℕ) → x < 256 → (getD classes x 0 < 14) × (getD classes x 0 ≡ byteClass x)
 unfolding right-class
 class-rule x h =
     let k : ℕ = getD classes x 0 in
-    let (small, same) = and-yes (ltb k 14) (eqb k (classOf x)) (at right-class 256 tt x h) in
-    (ltb→lt k 14 small, eqb→eq k (classOf x) same)
+    let (small, same) = and-yes (ltb k 14) (eqb k (byteClass x)) (at right-class 256 tt x h) in
+    (ltb→lt k 14 small, eqb→eq k (byteClass x) same)
 
 right-step : ℕ → ℕ → Bool
-right-step x q = ltb (nextOf q (classOf x)) 9 && same-rows (wants (nextOf q (classOf x))) (step (wants q) x)
+right-step x q = ltb (nextOf q (byteClass x)) 9 && same-rows (wants (nextOf q (byteClass x))) (step (wants q) x)
 
 right-steps : ℕ → Bool
 right-steps x = below (right-step x) 9
 
 -- the table of states has, in each state and on each octet's class, the state that waits for what the grammar's step leaves, one of 9
-pub step-rule : (q x : ℕ) → q < 9 → x < 256 → (nextOf q (classOf x) < 9) × (wants (nextOf q (classOf x)) ≡ step (wants q) x)
+pub step-rule : (q x : ℕ) → q < 9 → x < 256 → (nextOf q (byteClass x) < 9) × (wants (nextOf q (byteClass x)) ≡ step (wants q) x)
 unfolding right-step right-steps
 step-rule q x hq hx =
-    let n : ℕ = nextOf q (classOf x) in
+    let n : ℕ = nextOf q (byteClass x) in
     let (small, same) = and-yes (ltb n 9) (same-rows (wants n) (step (wants q) x))
     (at (right-step x) 9 (at right-steps 256 tt x hx) q hq) in
     (ltb→lt n 9 small, same-rows→eq (wants n) (step (wants q) x) same)

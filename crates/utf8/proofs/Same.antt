@@ -33,6 +33,7 @@ same-range→eq (to a b) (to c d) t =
 abbrev pub same-rows : List (List Range) → List (List Range) → Bool
 same-rows = same-list (same-list same-range)
 
+-- lists of rows that are told the same are equal
 pub same-rows→eq : (xs ys : List (List Range)) → T (same-rows xs ys) → xs ≡ ys
 same-rows→eq = same-list→eq (same-list same-range) (same-list→eq same-range same-range→eq)
 
@@ -42,6 +43,7 @@ same true b = b
 same false true = false
 same false false = true
 
+-- so are truth values
 pub same→eq : (a b : Bool) → T (same a b) → a ≡ b
 same→eq true true t = refl
 same→eq true false t = absurd t

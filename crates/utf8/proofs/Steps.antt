@@ -9,7 +9,7 @@ use lib.ListN.{length, drop, getD}
 use lib.Seq.{drop-cons, drop-length}
 use Rattle.utf8.specs.Utf8.{Range, Octets, Decides}
 use Rattle.utf8.specs.Derive.{run, step, utf8}
-use Rattle.utf8.specs.States.{wants}
+use Rattle.utf8.specs.CodeStates.{wants}
 use Rattle.utf8.proofs.Grammar.{octets}
 use Rattle.utf8.proofs.Rules.{classes, nextOf, class-rule, step-rule, end-rule}
 

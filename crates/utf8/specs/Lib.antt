@@ -1,5 +1,5 @@
-pub mod Highest
+pub mod CodeHighest
 pub mod Lead
 pub mod Utf8
+pub mod CodeStates
 pub mod Derive
-pub mod States

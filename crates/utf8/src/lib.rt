@@ -1,8 +1,8 @@
 // Whether bytes are UTF-8, and how many bytes a character has, by the grammar of RFC 3629, section 4.
 ghost use mathlib.Core.Path.{_≡_};
 ghost use Rattle.utf8.specs.Utf8.{Octets, Decides};
-ghost use Rattle.utf8.specs.Lead.{lead};
-ghost use Rattle.utf8.specs.Highest.{highest};
+ghost use Rattle.utf8.specs.Lead.{leadOf};
+ghost use Rattle.utf8.specs.CodeHighest.{highestOf};
 
 // The class of each byte value: how many of the grammar's limits (`limits`, in specs/States.antt) are at or below it.
 const CLASS: [u8; 256] = [
@@ -415,7 +415,7 @@ const NEXT: [u8; 144] = [
 
 // The greatest byte, and 0 where there is none. With no early exit, a compiled step takes many bytes.
 fn highest(s: &[u8]) -> u8
-    ensures { λ r. ⌜ r ≡ highest 0 (now (s .entry)) ⌝ }
+    ensures { λ r. ⌜ r ≡ highestOf 0 (now (s .entry)) ⌝ }
 {
     let mut top: u8 = 0;
     let mut i = 0;
@@ -458,7 +458,7 @@ pub fn is_utf8(s: &[u8]) -> bool
 // How many bytes the character has that begins with `first`.
 // Ruled out: 1 for C3, which begins two bytes; 3 for F0, which begins four.
 pub fn lead(first: u8) -> usize
-    ensures { λ r. ⌜ r ≡ lead first ⌝ }
+    ensures { λ r. ⌜ r ≡ leadOf first ⌝ }
 {
     if first < 0x80 {
         1

@@ -1,11 +1,11 @@
 -- Looking at a record, and at the text that its value names: document 01, "Looking at a record".
 use mathlib.Core.Bool.{cond, _&&_}
 use mathlib.Core.List.{List}
-use Prim.Native.Nat.{ℕ, _+_}
-use lib.Dec.{eqb, leb, ltb}
-use lib.ListN.{length, take, drop}
+use Prim.Native.Nat.{ℕ}
+use lib.Dec.{eqb, ltb}
 use Rattle.refusal.specs.declared.Refusal.the-variants.{BadTable}
-use Rattle.node.specs.Records.{kindAt, zerosAt, aAt, bAt, capacity}
+use Rattle.wire.specs.Part.{part, inside}
+use Rattle.node.specs.Records.{zerosAt, itemAt, capacity}
 use Rattle.node.specs.Rules.{ownRules}
 use Rattle.values.specs.Value.{valueOf}
 use Rattle.values.specs.declared.value.OscType.{OscType}
@@ -18,30 +18,28 @@ use Rattle.values.specs.declared.look.Looked.the-variants.{Value, Refuse
 unfoldable pub lookAt : List ℕ → ℕ → Looked
 lookAt t i =
     cond (ltb i (capacity t))
-    (cond (eqb (zerosAt t i) 0 && ownRules (kindAt t i) (aAt t i) (bAt t i))
-    (Value (valueOf (kindAt t i) (aAt t i) (bAt t i)))
-    (Refused BadTable))
+    (cond (eqb (zerosAt t i) 0 && ownRules (itemAt t i)) (Value (valueOf (itemAt t i))) (Refused BadTable))
     (Refused BadTable)
 
 -- a part of the packet, where its range is inside the packet; otherwise the whole label
-abbrev pub partOf : List ℕ → List ℕ → ℕ → ℕ → List ℕ
-partOf packet label offset n = cond (leb (offset + n) (length packet)) (take n (drop offset packet)) label
+abbrev pub partOr : List ℕ → List ℕ → ℕ → ℕ → List ℕ
+partOr packet label offset n = cond (inside packet offset n) (part packet offset n) label
 
 -- what `text_of` hands back: for an s, b or / that part of the packet; otherwise the whole label
-abbrev pub textOf : OscType → List ℕ → List ℕ → List ℕ
-textOf (Message offset n) packet label = partOf packet label offset n
-textOf (String offset n) packet label = partOf packet label offset n
-textOf (Blob offset n) packet label = partOf packet label offset n
-textOf (Bundle t) packet label = label
-textOf (Int n) packet label = label
-textOf (Float x v) packet label = label
-textOf (Time t) packet label = label
-textOf (Long n) packet label = label
-textOf (Double x v) packet label = label
-textOf (Char x) packet label = label
-textOf (Color x) packet label = label
-textOf (Midi x) packet label = label
-textOf (Bool x) packet label = label
-textOf Nil packet label = label
-textOf Inf packet label = label
-textOf Array packet label = label
+abbrev pub textNamed : OscType → List ℕ → List ℕ → List ℕ
+textNamed (Message offset n) packet label = partOr packet label offset n
+textNamed (String offset n) packet label = partOr packet label offset n
+textNamed (Blob offset n) packet label = partOr packet label offset n
+textNamed (Bundle t) packet label = label
+textNamed (Int n) packet label = label
+textNamed (Float x v) packet label = label
+textNamed (Time t) packet label = label
+textNamed (Long n) packet label = label
+textNamed (Double x v) packet label = label
+textNamed (Char x) packet label = label
+textNamed (Color x) packet label = label
+textNamed (Midi x) packet label = label
+textNamed (Bool x) packet label = label
+textNamed Nil packet label = label
+textNamed Inf packet label = label
+textNamed Array packet label = label

@@ -6,6 +6,8 @@ use mir.Val.{toZ}
 use lib.Dec.{eqb}
 use lib.Ieee.{binary32, binary64, ofBits}
 use Rattle.node.specs.declared.tags.Class.the-variants.{Blob}
+use Rattle.node.specs.Tags.{messageKind, bundleKind}
+use Rattle.node.specs.declared.record.Item.{Item}
 use Rattle.values.specs.declared.value.OscTime.{OscTime}
 use Rattle.values.specs.declared.value.OscColor.{OscColor}
 use Rattle.values.specs.declared.value.OscMidiMessage.{OscMidiMessage}
@@ -48,12 +50,16 @@ narrowOf k a =
     (cond (eqb k 109) (value.Midi (midiOf a)) (bareOf k)))))
 
 -- / # s b t h d, and those whose second field is 0
-unfoldable pub valueOf : ℕ → ℕ → ℕ → OscType
-valueOf k a b =
-    cond (eqb k 47) (value.Message a b)
-    (cond (eqb k 35) (value.Bundle (timeOf a b))
+unfoldable pub valueBy : ℕ → ℕ → ℕ → OscType
+valueBy k a b =
+    cond (eqb k messageKind) (value.Message a b)
+    (cond (eqb k bundleKind) (value.Bundle (timeOf a b))
     (cond (eqb k 115) (value.String a b)
     (cond (eqb k 98) (value.Blob a b)
     (cond (eqb k 116) (value.Time (timeOf a b))
     (cond (eqb k 104) (value.Long (toZ w64 (joinedOf a b)))
     (cond (eqb k 100) (value.Double (joinedOf a b) (ofBits binary64 (joinedOf a b))) (narrowOf k a)))))))
+
+-- the value of what a record says of its node
+abbrev pub valueOf : Item → OscType
+valueOf item = valueBy (item .kind) (item .a) (item .b)

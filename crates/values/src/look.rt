@@ -4,8 +4,10 @@ use crate::value::OscType;
 use node::record;
 use node::rules;
 use refusal::Refusal;
+use wire::lies_in;
+use wire::range;
 ghost use mathlib.Core.Path.{_≡_};
-ghost use Rattle.values.specs.Look.{lookAt, partOf, textOf};
+ghost use Rattle.values.specs.Look.{lookAt, partOr, textNamed};
 
 // What `look` answers.
 pub enum Looked {
@@ -19,27 +21,25 @@ pub enum Looked {
 pub fn look(table: &[u8], index: usize) -> Looked
     ensures { λ r. ⌜ r ≡ lookAt (now (table .entry)) index ⌝ }
 {
-    if record::capacity(table) <= index {
+    if record::capacity_of(table) <= index {
         return Looked::Refused(Refusal::BadTable);
     }
-    let found = record::read_record(table, index);
-    if found.zeros != 0 {
+    if record::zeros_at(table, index) != 0 {
         return Looked::Refused(Refusal::BadTable);
     }
-    if rules::own_rules(found.kind, found.a, found.b) {
-        return Looked::Value(value::value_of(found.kind, found.a, found.b));
+    let item = record::item_at(table, index);
+    if rules::own_rules(item) {
+        return Looked::Value(value::value_of(item));
     }
     Looked::Refused(Refusal::BadTable)
 }
 
-// `length` bytes of the packet from `offset` on, where they lie in it; else the label.
-fn part<'a>(packet: &'a [u8], label: &'a [u8], offset: u32, length: u32) -> &'a [u8]
-    ensures { λ r. ⌜ now r ≡ partOf (now (packet .entry)) (now (label .entry)) offset length ⌝ }
+// `count` bytes of the packet from `offset` on, where they lie in it; else the label.
+fn named_part<'a>(packet: &'a [u8], label: &'a [u8], offset: u32, count: u32) -> &'a [u8]
+    ensures { λ r. ⌜ now r ≡ partOr (now (packet .entry)) (now (label .entry)) offset count ⌝ }
 {
-    let from = offset as usize;
-    let to = from + length as usize;
-    if to <= packet.len() {
-        return &packet[from..to];
+    if lies_in(packet, offset, count) {
+        return range(packet, offset, count);
     }
     label
 }
@@ -48,12 +48,12 @@ fn part<'a>(packet: &'a [u8], label: &'a [u8], offset: u32, length: u32) -> &'a 
 //
 // Ruled out: a text cut short at the packet's end, in place of the label; an empty part for a value that names none.
 pub fn text_of<'a>(value: OscType, packet: &'a [u8], label: &'a [u8]) -> &'a [u8]
-    ensures { λ r. ⌜ now r ≡ textOf value (now (packet .entry)) (now (label .entry)) ⌝ }
+    ensures { λ r. ⌜ now r ≡ textNamed value (now (packet .entry)) (now (label .entry)) ⌝ }
 {
     match value {
-        OscType::Message { offset, length } => part(packet, label, offset, length),
-        OscType::String { offset, length } => part(packet, label, offset, length),
-        OscType::Blob { offset, length } => part(packet, label, offset, length),
+        OscType::Message { offset, length } => named_part(packet, label, offset, length),
+        OscType::String { offset, length } => named_part(packet, label, offset, length),
+        OscType::Blob { offset, length } => named_part(packet, label, offset, length),
         _ => label,
     }
 }

@@ -1,4 +1,7 @@
-// A record's kind and two fields as a value: types.rs, `OscType` and its parts.
+// What a record says of its node, as a value: types.rs, `OscType` and its parts.
+use node::record::Item;
+use node::tags::BUNDLE;
+use node::tags::MESSAGE;
 ghost use mathlib.Core.Path.{_≡_};
 ghost use Prim.Native.Nat.{_+_, _*_};
 ghost use mir.Syntax.{w32, w64};
@@ -171,15 +174,18 @@ fn narrow(kind: u8, a: u32) -> OscType
 }
 
 // The value of a record whose own rules hold.
-pub fn value_of(kind: u8, a: u32, b: u32) -> OscType
-    ensures { λ r. ⌜ r ≡ valueOf kind a b ⌝ }
+pub fn value_of(item: Item) -> OscType
+    ensures { λ r. ⌜ r ≡ valueOf item ⌝ }
 {
+    let kind = item.kind;
+    let a = item.a;
+    let b = item.b;
     match kind {
-        b'/' => OscType::Message {
+        MESSAGE => OscType::Message {
             offset: a,
             length: b,
         },
-        b'#' => OscType::Bundle(OscTime {
+        BUNDLE => OscType::Bundle(OscTime {
             seconds: a,
             fractional: b,
         }),

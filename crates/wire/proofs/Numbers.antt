@@ -23,6 +23,7 @@ write-on out i j x e h =
     = rw (set-split out j (x % 256) h) (drop-at (take j out) (x % 256 ∷ drop (suc j) out) j (length-take-le j out l)) in
     rw (d, e, add-one) (sym (append-snoc (bytes j (x / 256)) (x % 256) (drop (suc j) out)))
 
+-- the n lowest bytes of a number are n
 pub length-bytes : (n x : ℕ) → length (bytes n x) ≡ n
 unfolding bytes
 length-bytes zero x = refl
@@ -44,6 +45,7 @@ from-is (y ∷ s) x =
     let e : (0 * 256 + y) * p ≡ y * p = ap (λ (k : ℕ). k * p) (omega arith) in
     rw pow-suc (omega arith)
 
+-- a number of n + m bytes is that of the first n, moved up by m bytes, and that of the last m
 pub number-parts : (n m : ℕ) (s : List ℕ) (at : ℕ) → at + (n + m) ≤ length s
     → number (n + m) (drop at s) ≡ number n (drop at s) * 256 ^ m + number m (drop (at + n) s)
 unfolding number
@@ -54,6 +56,7 @@ number-parts n m s at h =
     ∙ from-is (take m (drop (at + n) s)) (from 0 (take n (drop at s)))
     ∙ ap (λ (k : ℕ). from 0 (take n (drop at s)) * 256 ^ k + from 0 (take m (drop (at + n) s))) l
 
+-- one byte more moves a number up by one byte
 pub number-more : (n : ℕ) (s : List ℕ) (at : ℕ) → at + n < length s
     → number (n + 1) (drop at s) ≡ number n (drop at s) * 256 + getD s (at + n) 0
 unfolding number
@@ -72,6 +75,7 @@ from-small (y ∷ l) (suc n) x i h b =
     let e : i + suc n ≡ suc i + n = omega arith in
     rw e (from-small l n (x * 256 + y) (suc i) (grows i x y h (b 0)) (λ j. b (suc j)))
 
+-- a number of n bytes is below 256 to the power of n
 pub number-small : (n : ℕ) (l : List ℕ) → ((j : ℕ) → getD l j 0 < 256) → number n l < 256 ^ n
 unfolding number
 number-small n l b = rw zero-add at (from-small l n 0 0 (omega (arith, pow-zero 256)) b)
@@ -88,6 +92,7 @@ from-bytes (suc n) x h =
     ∙ ap (λ (k : ℕ). k * 256 + x % 256) (from-bytes n (x / 256) (omega (arith, rw pow-suc at h)))
     ∙ div-add-mod' x 256
 
+-- what was written is read
 pub read-written : (n x : ℕ) (more : List ℕ) → x < 256 ^ n → number n (bytes n x ++ more) ≡ x
 unfolding number
 read-written n x more h = ap (from 0) (take-at (bytes n x) more n (length-bytes n x)) ∙ from-bytes n x h

@@ -8,5 +8,6 @@ use Rattle.wire.specs.Pad.{padOf}
 pub one-outcome : {A : Type 0} {x r s : A} → r ≡ x → s ≡ x → r ≡ s
 one-outcome e f = e ∙ sym f
 
+-- no second answer satisfies the contract of `pad`
 pub pad-only : (pos : ℕ) (r s : Padded) → r ≡ padOf pos → s ≡ padOf pos → r ≡ s
 pad-only pos r s = one-outcome

@@ -22,6 +22,7 @@ given-back s p k =
     let e : drop (length s - k) (drop k s) ≡ [] = drop-of-length-le (drop k s) h in
     ap (λ (l : List ℕ). take k s ++ (p ++ l)) e ∙ rw append-nil
 
+-- how long the part is that is lent
 pub length-lent : (s : List ℕ) (k : ℕ) → length (midOf k (length s - k) s) ≡ length s - k
 length-lent s k = rw lent (length-drop k s)
 
@@ -31,11 +32,13 @@ length-part s at n h = simp (length-take, length-drop) (omega arith)
 
 -- ---- a part of bytes is bytes
 
+-- the first bytes of bytes are bytes
 pub take-small : (n : ℕ) (l : List ℕ) → ((i : ℕ) → getD l i 0 < 256) → (i : ℕ) → getD (take n l) i 0 < 256
 take-small zero l h i = omega arith
 take-small (suc n) [] h i = omega arith
 take-small (suc n) (x ∷ l) h zero = h 0
 take-small (suc n) (x ∷ l) h (suc i) = take-small n l (λ j. h (suc j)) i
 
+-- and so are the last ones
 pub drop-small : (n : ℕ) (l : List ℕ) → ((i : ℕ) → getD l i 0 < 256) → (i : ℕ) → getD (drop n l) i 0 < 256
 drop-small n l h i = rw getD-drop (h (n + i))

@@ -22,12 +22,14 @@ pub wrote-one : {bs o₀ o p : List ℕ} → Wrote bs o₀ o → Wrote bs o₀ p
 wrote-one v w = v .left ∙ sym (w .left)
 
 module _ (bs o₀ o : List ℕ) (w : Wrote bs o₀ o) where
+  -- a writer leaves the length of the slice
   pub wrote-length : length o ≡ length o₀
   wrote-length = ap length (w .left) ∙ simp (length-append, length-drop) (omega (arith, w .room))
 
   take-wrote : take (length bs) o ≡ bs
   take-wrote = ap (take (length bs)) (w .left) ∙ take-at bs _ _ refl
 
+  -- and every byte after those that it wrote
   pub drop-wrote : drop (length bs) o ≡ drop (length bs) o₀
   drop-wrote = ap (drop (length bs)) (w .left) ∙ drop-at bs _ _ refl
 
@@ -59,6 +61,7 @@ pub wrote-lent : {bs o₀ o cs p : List ℕ} (k : ℕ) → Wrote bs o₀ o → l
     → Wrote (bs ++ cs) o₀ (putMid k (length o - k) o p)
 wrote-lent {bs} {o₀} {o} {cs} {p} k w e v = rw given-back (wrote-part bs o₀ o w k cs p e (rw lent at v))
 
+-- a slice whose later part came back from a writer is as long as before
 pub same-length : {cs p : List ℕ} (o : List ℕ) (k : ℕ) → Wrote cs (midOf k (length o - k) o) p
     → length (putMid k (length o - k) o p) ≡ length o
 same-length {cs} {p} o k v = same-len-mid k (length o - k) o p (wrote-length cs (midOf k (length o - k) o) p v)
@@ -106,16 +109,20 @@ wrote-over {o₀} {o} {p} hs was bs cs k w e s v =
 
 -- ---- the same laws for writers that answer a count
 
+-- a writer that answers a count leaves the length of the slice
 pub filled-length : {bs o₀ o : List ℕ} {k : ℕ} → Filled bs o₀ o k → length o ≡ length o₀
 filled-length f = wrote-length _ _ _ (f .wrote)
 
+-- the count is at most the length
 pub filled-le : {bs o₀ o : List ℕ} {k : ℕ} → Filled bs o₀ o k → k ≤ length o₀
 filled-le f = omega (arith, f .count, f .wrote .room)
 
+-- one byte more
 pub filled-set : {bs o₀ o : List ℕ} {k : ℕ} (x : ℕ) → Filled bs o₀ o k → k < length o₀ → Filled (bs ++ (x ∷ [])) o₀ (set o k x) (k + 1)
 filled-set {bs} {o₀} {o} {k} x f h =
     record { count = simp length-append (omega (arith, f .count)); wrote = wrote-set bs o₀ o (f .wrote) k x (sym (f .count)) h }
 
+-- what stands in front, then what a writer wrote that was lent the later part
 pub filled-lent : {bs o₀ o cs p : List ℕ} {k w : ℕ} → Filled bs o₀ o k → Filled cs (midOf k (length o - k) o) p w
     → Filled (bs ++ cs) o₀ (putMid k (length o - k) o p) (k + w)
 filled-lent {bs} {o₀} {o} {cs} {p} {k} {w} f g =

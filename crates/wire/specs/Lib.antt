@@ -1,3 +1,5 @@
+pub mod Limits
 pub mod Number
 pub mod Pad
+pub mod Part
 pub mod Wrote

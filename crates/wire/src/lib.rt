@@ -1,11 +1,22 @@
-// Big-endian numbers (nom's `be_u32` and `be_u64`), and the next multiple of 4 (encoder.rs, `pad`).
+// What stands on the wire: big-endian numbers (nom's `be_u32` and `be_u64`), ranges and copies of bytes, and the next multiple of 4
+// (encoder.rs, `pad`); and the limits of document 01.
 use refusal::Refusal;
 ghost use mathlib.Core.Path.{_≡_};
 ghost use Prim.Native.Nat.{_+_, _≤_, _<_};
 ghost use lib.ListN.{length, drop, getD};
 ghost use Rattle.wire.specs.Number.{number, bytes};
 ghost use Rattle.wire.specs.Pad.{padOf};
+ghost use Rattle.wire.specs.Part.{part, inside};
 ghost use Rattle.wire.specs.Wrote.{Wrote};
+
+// The most bytes of a decode input or of an encoded result.
+pub const LONGEST: usize = 65_535;
+
+// The most bytes of a packet that stands after a prefix.
+pub const LONGEST_FRAMED: usize = 65_531;
+
+// The highest depth limit, and the encoders'.
+pub const DEEPEST: usize = 64;
 
 // One byte, widened.
 fn byte_at(s: &[u8], at: usize) -> u32
@@ -60,6 +71,35 @@ pub fn put_u64(out: &mut [u8], x: u64)
     ensures { λ _. ⌜ Wrote (bytes 8 x) (now (out .entry)) (now (out .exit)) ⌝ }
 {
     put(out, 8, x);
+}
+
+// Whether a range lies in a slice. Both numbers are below 2^32, so no sum of 64 bits wraps.
+pub fn lies_in(s: &[u8], offset: u32, count: u32) -> bool
+    ensures { λ r. ⌜ r ≡ inside (now (s .entry)) offset count ⌝ }
+{
+    offset as usize + count as usize <= s.len()
+}
+
+// The part of a slice that a range names.
+pub fn range(s: &[u8], offset: u32, count: u32) -> &[u8]
+    requires { ⌜ offset + count ≤ length (now s) ⌝ }
+    ensures { λ r. ⌜ now r ≡ part (now (s .entry)) offset count ⌝ }
+{
+    let from = offset as usize;
+    let to = from + count as usize;
+    &s[from..to]
+}
+
+// The bytes over the first ones of out.
+pub fn copy(bytes: &[u8], out: &mut [u8])
+    requires { ⌜ length (now bytes) ≤ length (now out) ⌝ }
+    ensures { λ _. ⌜ Wrote (now (bytes .entry)) (now (out .entry)) (now (out .exit)) ⌝ }
+{
+    let mut i: usize = 0;
+    while i < bytes.len() {
+        out[i] = bytes[i];
+        i += 1;
+    }
 }
 
 // A padded position, or the refusal.

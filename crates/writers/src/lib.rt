@@ -1,10 +1,5 @@
 // The writers (encoder.rs, `encode_message` and what it calls): each fills the first bytes of the slice that it is lent, and
 // answers how many these are.
-use strings::encode_leaf_data;
-use strings::encode_pair_into;
-use strings::write;
-use strings::write_zeros;
-use wire::put_u32;
 use node::record::a_at;
 use node::record::b_at;
 use node::record::end_at;
@@ -12,6 +7,11 @@ use node::record::kind_at;
 use node::tags::Class;
 use node::tags::Sort;
 use node::tags::sort_of;
+use strings::encode_leaf_data;
+use strings::encode_pair_into;
+use strings::write;
+use strings::write_zeros;
+use wire::put_u32;
 ghost use mathlib.Core.Path.{_≡_};
 ghost use mathlib.Core.List.{[]};
 ghost use Prim.Native.Nat.{_+_, _≤_, _<_};

@@ -15,19 +15,8 @@ mod peer;
 mod port;
 mod report;
 mod spent;
+mod trees;
 mod work;
-
-/// The crate rosc.
-mod crate_rosc {
-    use rosc::{decoder, encoder, OscPacket, OscType};
-    include!("rosc_shaped.rs");
-}
-
-/// The port with rosc's types and signatures.
-mod compat {
-    use sennorbai::rosc_compat::{decoder, encoder, OscPacket, OscType};
-    include!("rosc_shaped.rs");
-}
 
 use inputs::Input;
 use work::TASKS;

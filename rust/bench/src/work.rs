@@ -2,7 +2,8 @@
 
 use crate::inputs::{Input, NON_ASCII};
 use crate::peer::{self, Peer};
-use crate::{compat, crate_rosc, port};
+use crate::port;
+use crate::trees::{compat, crate_rosc};
 use std::hint::black_box;
 
 /// Who does the work.

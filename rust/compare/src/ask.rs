@@ -1,5 +1,7 @@
 //! A call with all that it is given, and what it must answer and write.
 
+use crate::met::CALLS;
+
 /// The calls of the boundary, by the numbers that the recorded answers use.
 #[derive(Clone, Copy, Debug, PartialEq, Eq)]
 pub enum Call {
@@ -13,8 +15,8 @@ pub enum Call {
     Look = 7,
 }
 
-/// How many calls there are.
-pub const CALLS: usize = 8;
+// Each call has a name in the counts.
+const _: () = assert!(Call::Look as usize + 1 == CALLS.len());
 
 pub const DECODERS: [Call; 3] = [Call::Udp, Call::Tcp, Call::TcpVec];
 

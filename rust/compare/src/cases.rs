@@ -2,7 +2,7 @@
 
 use crate::ask::{Asked, Call, Due, DECODERS};
 use crate::judge::{self, Found};
-use crate::met::{Rule, Seen};
+use crate::met::{Met, Rule, Seen};
 use crate::peers::Peers;
 use crate::random::Random;
 use crate::table::RECORD;
@@ -53,6 +53,19 @@ impl Case {
         self.asked.number = judge::DEEPEST;
         self.asked.room = self.needed() + RECORD;
         judge::decode(&self.asked, &found, &mut self.due, &mut self.seen);
+    }
+
+    /// Counts its answer and what it has shown and, where it is no refusal, the kinds of its records.
+    pub fn count(&self, met: &mut Met) {
+        let (call, refusal) = (self.asked.call, self.due.refusal(self.asked.call));
+        met.count(call as usize, refusal, self.seen);
+        if refusal == 0 && call.decodes() {
+            self.due.wrote.chunks_exact(RECORD).for_each(|record| met.count_decoded(record[0]));
+        }
+        if refusal == 0 && call.encodes() {
+            let records = self.asked.first.chunks_exact(RECORD).take(self.asked.number as usize);
+            records.for_each(|record| met.count_encoded(record[0]));
+        }
     }
 
     /// A random case.

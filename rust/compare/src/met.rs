@@ -1,8 +1,5 @@
-//! How often each refusal, kind and rule was met.
-
-use crate::ask::{Asked, Call, Due, CALLS};
-use crate::compat::Outcome;
-use crate::table::RECORD;
+//! How often each refusal, kind and rule was met. It knows calls, refusals and kinds by their numbers alone, and no other module:
+//! whoever has a case tells what it was.
 
 macro_rules! rules {
     ($($name:ident $seldom:literal $words:literal,)*) => {
@@ -125,47 +122,52 @@ impl Seen {
 /// The kinds of document 01.
 pub const KINDS: &[u8] = b"/#sbifhdtcrmTFNI[";
 
+/// The calls by name, in the order of their numbers.
+pub const CALLS: [&str; 8] = ["udp", "tcp", "tcp_vec", "encode", "encode_tcp", "encode_string", "pad", "look"];
+
+/// How many of the calls `rosc_compat` has: all but the last.
+const SHARED: usize = 7;
+
 /// Numbers of refusals, 0 for an answer.
 const REFUSALS: usize = 15;
 
+/// How often each call gave each number.
+type Answers = [[u64; REFUSALS]; CALLS.len()];
+
 /// The counts of all cases.
 pub struct Met {
-    answers: [[u64; REFUSALS]; CALLS],
+    answers: Answers,
     decoded: [u64; 256],
     encoded: [u64; 256],
     rules: [u64; RULES.len()],
-    compat: [[u64; REFUSALS]; CALLS],
+    compat: Answers,
 }
-
-/// The calls by name.
-const NAMES: [&str; CALLS] = ["udp", "tcp", "tcp_vec", "encode", "encode_tcp", "encode_string", "pad", "look"];
 
 impl Met {
     pub fn new() -> Met {
-        let answers = [[0; REFUSALS]; CALLS];
+        let answers = [[0; REFUSALS]; CALLS.len()];
         Met { answers, decoded: [0; 256], encoded: [0; 256], rules: [0; RULES.len()], compat: answers }
     }
 
-    /// Counts a case that was for `rosc_compat`.
-    pub fn count_compat(&mut self, call: Call, outcome: Outcome) {
-        let number = match outcome {
-            Outcome::Same => 0,
-            Outcome::Refused(number) | Outcome::Limit(number) => number,
-        };
-        self.compat[call as usize][number as usize] += 1;
+    /// Counts a case of the boundary: the call, its refusal or 0, and what it has shown.
+    pub fn count(&mut self, call: usize, refusal: u8, seen: Seen) {
+        self.answers[call][refusal as usize] += 1;
+        seen.rules().for_each(|rule| self.rules[rule] += 1);
     }
 
-    pub fn count(&mut self, asked: &Asked, due: &Due, seen: Seen) {
-        let refusal = due.refusal(asked.call);
-        self.answers[asked.call as usize][refusal as usize] += 1;
-        seen.rules().for_each(|rule| self.rules[rule] += 1);
-        if refusal == 0 && asked.call.decodes() {
-            due.wrote.chunks_exact(RECORD).for_each(|record| self.decoded[record[0] as usize] += 1);
-        }
-        if refusal == 0 && asked.call.encodes() {
-            let records = asked.first.chunks_exact(RECORD).take(asked.number as usize);
-            records.for_each(|record| self.encoded[record[0] as usize] += 1);
-        }
+    /// Counts a record that was decoded, by its kind.
+    pub fn count_decoded(&mut self, kind: u8) {
+        self.decoded[kind as usize] += 1;
+    }
+
+    /// Counts a record that was encoded, by its kind.
+    pub fn count_encoded(&mut self, kind: u8) {
+        self.encoded[kind as usize] += 1;
+    }
+
+    /// Counts a case of `rosc_compat`: the call, and the number of its error or 0.
+    pub fn count_compat(&mut self, call: usize, error: u8) {
+        self.compat[call][error as usize] += 1;
     }
 
     pub fn add(&mut self, other: &Met) {
@@ -185,8 +187,8 @@ impl Met {
             lines.push((format!("refusal {refusal}"), 1, times));
         }
         for (call, answers) in self.answers.iter().enumerate() {
-            lines.push((format!("{}: answered", NAMES[call]), 1, answers[0]));
-            lines.push((format!("{}: refused", NAMES[call]), 1, answers[1..].iter().sum()));
+            lines.push((format!("{}: answered", CALLS[call]), 1, answers[0]));
+            lines.push((format!("{}: refused", CALLS[call]), 1, answers[1..].iter().sum()));
         }
         for kind in KINDS {
             lines.push((format!("kind {} decoded", *kind as char), 1, self.decoded[*kind as usize]));
@@ -199,8 +201,7 @@ impl Met {
 
     /// The counts of `rosc_compat`: the same by call, and its errors by number; 1 and 9 are its limits.
     fn compat_lines(&self) -> Vec<(String, u64, u64)> {
-        let calls =
-            (0..Call::Look as usize).map(|call| (format!("compat, {}: the same", NAMES[call]), 1, self.compat[call][0]));
+        let calls = (0..SHARED).map(|call| (format!("compat, {}: the same", CALLS[call]), 1, self.compat[call][0]));
         let errors = (1..=9).map(|number| {
             let times = self.compat.iter().map(|call| call[number]).sum();
             (format!("compat, error of {number}"), if number == 1 { 10 } else { 1 }, times)

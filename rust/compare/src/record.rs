@@ -108,8 +108,9 @@ struct Sample {
 
 impl Sample {
     /// Keeps a case if it is short enough and one of its buckets is not full.
-    fn offer(&mut self, asked: &Asked, due: &Due, seen: Seen) {
-        let all = buckets(asked, due, seen);
+    fn offer(&mut self, case: &Case) {
+        let (asked, due) = (&case.asked, &case.due);
+        let all = buckets(asked, due, case.seen);
         let size = 29 + asked.first.len() + asked.second.len() + due.wrote.len() + 4;
         let adds = all.iter().any(|bucket| self.full.get(bucket).copied().unwrap_or(0) < bucket.quota());
         if size > LONGEST_CASE || asked.room > MOST_ROOM || !adds {
@@ -117,7 +118,7 @@ impl Sample {
         }
         all.into_iter().for_each(|bucket| *self.full.entry(bucket).or_insert(0) += 1);
         self.put(asked, due);
-        self.met.count(asked, due, seen);
+        case.count(&mut self.met);
         self.cases += 1;
         self.longest = self.longest.max(size);
         self.most_room = self.most_room.max(asked.room);
@@ -145,14 +146,14 @@ fn choose(seed: u64) -> Sample {
     let mut case = Case::new();
     for (call, input) in EXAMPLES {
         case.ample(*call, input);
-        sample.offer(&case.asked, &case.due, case.seen);
+        sample.offer(&case);
     }
     let mut r = Random::new(seed, 0);
     for n in 0..LOOKED_AT {
         case.random(&mut r, &Peers::none());
-        sample.offer(&case.asked, &case.due, case.seen);
+        sample.offer(&case);
         if n % 10 == 0 && case.short(n / 10 * STEP) {
-            sample.offer(&case.asked, &case.due, case.seen);
+            sample.offer(&case);
         }
     }
     sample

@@ -80,10 +80,10 @@ impl Plan {
             // What `rosc_compat` has no place for is a case of the boundary still.
             let outcome = if r.one_in(COMPAT) { compat::compare(&case.asked) } else { Ok(None) };
             if let Some(outcome) = outcome.transpose() {
-                return outcome.map(|outcome| found.met.count_compat(case.asked.call, outcome)).err();
+                return outcome.map(|outcome| found.met.count_compat(case.asked.call as usize, outcome.number())).err();
             }
         }
-        found.met.count(&case.asked, &case.due, case.seen);
+        case.count(&mut found.met);
         bench.differs(&case.asked, &case.due)
     }
 

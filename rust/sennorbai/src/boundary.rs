@@ -7,7 +7,9 @@
 //! The functions of the crate's root take these answers apart and are what a program should call.
 #![allow(unsafe_code)]
 
-use crate::{Color, Midi, Refusal, Table, Time, Value, RECORD};
+use crate::limits::RECORD;
+use crate::refusal::Refusal;
+use crate::value::{Color, Midi, Time, Value};
 
 mod c {
     extern "C" {
@@ -118,10 +120,10 @@ impl<'a> Nodes<'a> {
 
     /// A table from anywhere, if it is well formed. The encoder's first test is that, and 11 is given for nothing else; with no
     /// room to write to it ends in another refusal.
-    pub fn check(table: Table<'a>) -> Result<Nodes<'a>, Refusal> {
-        match Refusal::settle(encode(table.bytes, table.count as u64, table.source, &mut [])) {
+    pub fn check(table: &'a [u8], count: usize, source: &'a [u8]) -> Result<Nodes<'a>, Refusal> {
+        match Refusal::settle(encode(table, count as u64, source, &mut [])) {
             Err(Refusal::BadTable) => Err(Refusal::BadTable),
-            _ => Ok(Nodes { records: &table.bytes.as_chunks().0[..table.count], source: table.source }),
+            _ => Ok(Nodes { records: &table.as_chunks().0[..count], source }),
         }
     }
 

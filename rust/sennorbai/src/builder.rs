@@ -1,6 +1,8 @@
 //! A builder of node tables over lent buffers.
 
-use crate::{Table, Time, Value, MOST, RECORD};
+use crate::limits::{MOST, RECORD};
+use crate::table::Table;
+use crate::value::{Time, Value};
 use core::fmt;
 
 /// Why a builder does not take a step. It is as it was before.

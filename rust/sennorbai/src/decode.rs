@@ -1,7 +1,8 @@
 //! The decoders over lent buffers.
 
 use crate::boundary::{Decoder, Nodes};
-use crate::{Packet, Packets, Refusal};
+use crate::refusal::Refusal;
+use crate::table::{Packet, Packets};
 
 /// What [`decode_tcp`] gives.
 #[derive(Clone, Copy, Debug)]

@@ -1,6 +1,8 @@
 //! The encoders over lent buffers.
 
-use crate::{boundary, Refusal, Table};
+use crate::boundary;
+use crate::refusal::Refusal;
+use crate::table::Table;
 
 /// Writes the one packet of a table over the first bytes of `out`, and lends them back. Later bytes are unchanged.
 ///

@@ -38,6 +38,7 @@ pub mod boundary;
 mod builder;
 mod decode;
 mod encode;
+mod limits;
 mod refusal;
 #[cfg(feature = "std")]
 pub mod rosc_compat;
@@ -47,18 +48,7 @@ mod value;
 pub use builder::{BuildError, Builder};
 pub use decode::{decode_tcp, decode_tcp_vec, decode_udp, Decoded};
 pub use encode::{encode, encode_string, encode_tcp, pad};
+pub use limits::{DEEPEST, LONGEST, MOST, RECORD};
 pub use refusal::Refusal;
 pub use table::{look, Packet, Packets, Record, Records, Siblings, Table};
 pub use value::{Color, Midi, Time, Value};
-
-/// The bytes of a record.
-pub const RECORD: usize = 16;
-
-/// The most records that a table may have.
-pub const MOST: usize = 65_535;
-
-/// The longest input and the longest result, in bytes.
-pub const LONGEST: usize = 65_535;
-
-/// The deepest nesting of bundles, and the highest depth limit.
-pub const DEEPEST: u64 = 64;

@@ -1,7 +1,8 @@
 //! Node tables: the records that a decoder wrote, read as typed values.
 
-use crate::boundary::Nodes;
-use crate::{boundary, Refusal, Value};
+use crate::boundary::{self, Nodes};
+use crate::refusal::Refusal;
+use crate::value::Value;
 use core::fmt;
 use core::iter::FusedIterator;
 
@@ -34,7 +35,7 @@ impl<'a> Table<'a> {
     /// # Ok::<(), Refusal>(())
     /// ```
     pub fn check(self) -> Result<Packet<'a>, Refusal> {
-        Ok(Packet { nodes: Nodes::check(self)?, left: 0 })
+        Ok(Packet { nodes: Nodes::check(self.bytes, self.count, self.source)?, left: 0 })
     }
 }
 

@@ -33,7 +33,8 @@ loop-again c =
       search needs,
       ⊎-elim
           (λ w. ap left (w .1) ∙ bracket-met tags (l .i) within (l .any) (sym (c .before .is-bracket .ensures) ∙ w .0 .taken) ∙ l .inv .1)
-          (λ w. ap left (w .1) ∙ bracket-not-met tags (l .i) within (l .any) (sym (c .before .is-bracket .ensures) ∙ w .0 .left) ∙ l .inv .1)
+          (λ w. ap left (w .1) ∙ bracket-not-met tags (l .i) within (l .any) (sym (c .before .is-bracket .ensures) ∙ w .0 .left)
+          ∙ l .inv .1)
           (c .if1 .came),
     )
 

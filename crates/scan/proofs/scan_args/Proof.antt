@@ -2,7 +2,7 @@
 use mathlib.Core.Path.{sym, _∙_}
 use native.Mathlib.Omega.{arith}
 use lib.ListN.{length}
-use Rattle.argument.proofs.Within.{given-within}
+use Rattle.scan.proofs.Passed.{used-within}
 use Rattle.scan.proofs.Turns.{Scanning, scanning-start, scanning-opens, scanning-closes, scanning-given, scanning-none}
 use Rattle.scan.proofs.Turns.{scanning-refused, scanning-end}
 use borrow.Author.Needs.{needs}
@@ -42,21 +42,21 @@ loop-again-2 c =
     let e = sym (c .before .enum-told2 .given .1) ∙ p3 .sort-of .ensures in
     scanning-closes (p7 .loop .inv) (p6 .loop-test .taken) e (c .if1 .left)
 
-read-osc-arg-requires : tie.Need-read-osc-arg-requires Inv-loop μ-loop
-read-osc-arg-requires c κs =
+pass-arg-requires : tie.Need-pass-arg-requires Inv-loop μ-loop
+pass-arg-requires c κs =
     let p7 = c .before .before .before .before .before .before .before in
     let p10 = p7 .before .before .before in
     omega (arith, p7 .loop .inv .ends, p10 .pre)
 
 sub-rest : tie.Need-sub-rest Inv-loop μ-loop
 sub-rest c =
-    let g = sym (c .before .used .given .1) ∙ c .before .before .before .read-osc-arg .ensures in
-    given-within _ _ _ _ g
+    let g = sym (c .before .used .given .1) ∙ c .before .before .before .pass-arg .ensures in
+    used-within _ _ _ _ _ g
 
 part-rest-start : tie.Need-part-rest-start Inv-loop μ-loop
 part-rest-start c =
-    let g = sym (c .before .used .given .1) ∙ c .before .before .before .read-osc-arg .ensures in
-    given-within _ _ _ _ g
+    let g = sym (c .before .used .given .1) ∙ c .before .before .before .pass-arg .ensures in
+    used-within _ _ _ _ _ g
 
 add-at : tie.Need-add-at Inv-loop μ-loop
 add-at c =
@@ -64,8 +64,8 @@ add-at c =
     let p4 = p2 .before .before in
     let p12 = p4 .before .before .before .before .before .before .before .before in
     let p15 = p12 .before .before .before in
-    let g = sym (p2 .used .given .1) ∙ p4 .read-osc-arg .ensures in
-    omega (arith, given-within _ _ _ _ g, p12 .loop .inv .ends, p15 .pre)
+    let g = sym (p2 .used .given .1) ∙ p4 .pass-arg .ensures in
+    omega (arith, used-within _ _ _ _ _ g, p12 .loop .inv .ends, p15 .pre)
 
 loop-again-3 : tie.Need-loop-again-3 Inv-loop μ-loop
 loop-again-3 c =
@@ -76,7 +76,7 @@ loop-again-3 c =
     let p11 = p8 .before .before .before in
     let p12 = p11 .before in
     let e = sym (p6 .class .given .1) ∙ p8 .sort-of .ensures in
-    let g = sym (p2 .used .given .1) ∙ p4 .read-osc-arg .ensures in
+    let g = sym (p2 .used .given .1) ∙ p4 .pass-arg .ensures in
     scanning-given (p12 .loop .inv) (p11 .loop-test .taken) e g
 
 returns-2 : tie.Need-returns-2 Inv-loop μ-loop
@@ -87,7 +87,7 @@ returns-2 c =
     let p10 = p7 .before .before .before in
     let p11 = p10 .before in
     let e = sym (p5 .class .given .1) ∙ p7 .sort-of .ensures in
-    scanning-refused (p11 .loop .inv) (p10 .loop-test .taken) e (sym (c .before .fault .given .1) ∙ p3 .read-osc-arg .ensures)
+    scanning-refused (p11 .loop .inv) (p10 .loop-test .taken) e (sym (c .before .fault .given .1) ∙ p3 .pass-arg .ensures)
 
 returns-3 : tie.Need-returns-3 Inv-loop μ-loop
 returns-3 c = scanning-end (c .before .loop .inv) (c .loop-test .left)
@@ -114,7 +114,7 @@ scan-args-spec =
     (λ c. search needs)
     loop-again-2
     (λ c. search needs)
-    read-osc-arg-requires
+    pass-arg-requires
     (λ c. search needs)
     sub-rest
     part-rest-start

@@ -7,23 +7,24 @@ use borrow.Author.Needs.{needs}
 use borrow.Author.Tests.{le-ltb}
 use lib.Dec.{ltb}
 use lib.ListN.{length}
-use Rattle.text.specs.Plain.{plain}
+use Rattle.text.specs.CodePlain.{plainOf}
 use Rattle.text.proofs.Passing.{met, not-met}
 use Rattle.text.proofs.any_special.Statement.{statement}
 use Rattle.text.proofs.any_special.Tie as tie
 
 abbrev Inv-loop : tie.InvT-loop
-Inv-loop input n any₀ i₀ any i = (i ≤ n) × (any ≡ ltb (plain input) i)
+Inv-loop input n any₀ i₀ any i = (i ≤ n) × (any ≡ ltb (plainOf input) i)
 
 abbrev μ-loop : tie.MeasureT-loop
 μ-loop input n any₀ i₀ any i = n - i
 
 loop-holds : tie.Need-loop-holds Inv-loop μ-loop
-loop-holds c = (search needs, sym (le-ltb (plain (c .before .args .input .now)) 0 (omega arith)))
+loop-holds c = (search needs, sym (le-ltb (plainOf (c .before .args .input .now)) 0 (omega arith)))
 
 loop-again : tie.Need-loop-again Inv-loop μ-loop
 loop-again c =
     let p4 = c .before .before .before .before in
+    let p4 = p4 in
     let p6 = p4 .before .before in
     let l = p4 .loop in
     let input = p6 .args .input .now in

@@ -5,7 +5,7 @@ use native.Mathlib.Omega.{arith}
 use borrow.Author.Needs.{needs}
 use lib.ListN.{length, length-drop}
 use Rattle.wire.proofs.Parts.{tail}
-use Rattle.text.specs.Plain.{Passed}
+use Rattle.text.specs.CodePlain.{Passed}
 use Rattle.text.proofs.Passing.{block}
 use Rattle.text.proofs.skip.Statement.{statement}
 use Rattle.text.proofs.skip.Tie as tie
@@ -25,6 +25,7 @@ any-special-requires c κs =
 loop-again : tie.Need-loop-again Inv-loop μ-loop
 loop-again c =
     let p4 = c .before .before .before .before in
+    let p4 = p4 in
     let p6 = p4 .before .before in
     let l = p4 .loop in
     let input = p6 .args .input .now in

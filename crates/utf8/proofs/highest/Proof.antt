@@ -5,13 +5,13 @@ use Prim.Native.Nat.{ℕ, _+_, _≤_, _-_}
 use native.Mathlib.Omega.{arith}
 use borrow.Author.Needs.{needs}
 use lib.ListN.{length, drop}
-use Rattle.utf8.specs.Highest.{highest}
+use Rattle.utf8.specs.CodeHighest.{highestOf}
 use Rattle.utf8.proofs.Plain.{higher, no-higher, at-end}
 use Rattle.utf8.proofs.highest.Statement.{statement}
 use Rattle.utf8.proofs.highest.Tie as tie
 
 abbrev Inv-loop : tie.InvT-loop
-Inv-loop s top₀ i₀ top i = (i ≤ length s) × (highest top (drop i s) ≡ highest 0 s)
+Inv-loop s top₀ i₀ top i = (i ≤ length s) × (highestOf top (drop i s) ≡ highestOf 0 s)
 
 abbrev μ-loop : tie.MeasureT-loop
 μ-loop s top₀ i₀ top i = length s - i
@@ -28,9 +28,9 @@ loop-again c =
     let s = p4 .args .s .now in (
       search needs,
       ⊎-elim
-          (λ w. ap (λ (top : ℕ). highest top (drop (l .i + 1) s)) (w .2) ∙ higher (l .top) s (l .i) (p2 .loop-test .taken) (w .0 .taken)
+          (λ w. ap (λ (top : ℕ). highestOf top (drop (l .i + 1) s)) (w .2) ∙ higher (l .top) s (l .i) (p2 .loop-test .taken) (w .0 .taken)
           ∙ l .inv .1)
-          (λ w. ap (λ (top : ℕ). highest top (drop (l .i + 1) s)) (w .1) ∙ no-higher (l .top) s (l .i) (p2 .loop-test .taken) (w .0 .left)
+          (λ w. ap (λ (top : ℕ). highestOf top (drop (l .i + 1) s)) (w .1) ∙ no-higher (l .top) s (l .i) (p2 .loop-test .taken) (w .0 .left)
           ∙ l .inv .1)
           (c .if1 .came),
     )

@@ -6,7 +6,7 @@ use native.Mathlib.Omega.{arith}
 use borrow.Author.Needs.{needs}
 use lib.ListN.{length, drop}
 use Rattle.utf8.specs.Derive.{run, utf8}
-use Rattle.utf8.specs.States.{wants}
+use Rattle.utf8.specs.CodeStates.{wants}
 use Rattle.utf8.proofs.Rules.{class-rule}
 use Rattle.utf8.proofs.Steps.{turn, answer}
 use Rattle.utf8.proofs.walk.Statement.{statement}

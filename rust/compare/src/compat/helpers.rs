@@ -1,7 +1,7 @@
 //! The helpers of `OscType`, `OscTime`, `OscMessage` and `OscArray`, one by one.
 
 use super::convert::{to_compat, to_rosc};
-use super::same_values;
+use super::same::same_values;
 use rosc::{OscMessage, OscPacket, OscTime, OscType};
 use sennorbai::rosc_compat as compat;
 use std::time::SystemTime;

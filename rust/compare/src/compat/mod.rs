@@ -3,13 +3,15 @@
 
 mod convert;
 mod helpers;
+mod same;
 
 use crate::ask::{Asked, Call};
 use crate::judge::{DEEPEST, LONGEST};
-use crate::table::{put_with_source, Reader};
+use crate::table::Reader;
 use crate::{oracle, rules};
 use convert::{to_compat, to_rosc};
-use rosc::{OscMessage, OscPacket, OscType};
+use rosc::OscPacket;
+use same::same_packets;
 use sennorbai::rosc_compat as compat;
 use std::io::Cursor;
 
@@ -19,6 +21,16 @@ pub enum Outcome {
     Same,
     Refused(u8),
     Limit(u8),
+}
+
+impl Outcome {
+    /// The number of the refusal or limit, 0 where there is none.
+    pub fn number(self) -> u8 {
+        match self {
+            Outcome::Same => 0,
+            Outcome::Refused(number) | Outcome::Limit(number) => number,
+        }
+    }
 }
 
 /// Compares the function that a case is for, if there is one that takes it; the words say what differs.
@@ -33,21 +45,6 @@ pub fn compare(asked: &Asked) -> Result<Option<Outcome>, String> {
         Call::Pad if asked.number <= u64::MAX - 3 => pad(asked.number).map(Some),
         _ => Ok(None),
     }
-}
-
-/// Whether two packets are the same, floats bit for bit.
-fn same_packets(one: &OscPacket, other: &OscPacket) -> bool {
-    let table = |packet: &OscPacket| {
-        let (mut table, mut source) = (Vec::new(), Vec::new());
-        put_with_source(&mut table, &mut source, packet);
-        (table, source)
-    };
-    table(one) == table(other)
-}
-
-fn same_values(one: &OscType, other: &OscType) -> bool {
-    let message = |value: &OscType| OscPacket::Message(OscMessage { addr: String::new(), args: vec![value.clone()] });
-    same_packets(&message(one), &message(other))
 }
 
 /// The class of an error, by document 01's numbers; limits are told apart by `Err`.

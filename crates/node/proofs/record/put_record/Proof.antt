@@ -1,4 +1,4 @@
--- `types::record::put_record` meets its contract. Each number goes into the later part of the slice, right after the one before.
+-- `node::record::put_record` meets its contract. Each number goes into the later part of the slice, right after the one before.
 use borrow.Author.Needs.{needs}
 use Rattle.node.proofs.Recorded.{record-written}
 use Rattle.node.proofs.record.put_record.Statement.{statement}
@@ -10,7 +10,8 @@ returns c =
     let p6 = p2 .before .before .before .before in
     let p10 = p6 .before .before .before .before in
     let p14 = p10 .before .before .before .before in
-    record-written _ _ _ _
+    let p17 = p14 .before .before .before in
+    record-written (p17 .args .item) _
     (p14 .put-kind .ensures)
     (p10 .put-u32 .ensures)
     (p6 .put-u322 .ensures)

@@ -1,7 +1,7 @@
--- `types::look::text_of` meets its contract. The kinds that name a range, and the others together.
+-- `values::look::text_of` meets its contract. The kinds that name a range, and the others together.
 use mathlib.Core.Path.{_∙_, sym, ap}
 use borrow.Author.Needs.{needs}
-use Rattle.values.specs.Look.{textOf}
+use Rattle.values.specs.Look.{textNamed}
 use Rattle.values.specs.declared.value.OscType.{OscType}
 use Rattle.values.proofs.Named.{unnamed}
 use Rattle.values.proofs.look.text_of.Statement.{statement}
@@ -12,21 +12,21 @@ returns c =
     let p2 = c .before .before in
     let p6 = p2 .before .before .before .before in
     let a = p6 .args in
-    c .part .ensures ∙ sym (ap (λ (v : OscType). textOf v (a .packet .now) (a .label .now)) (p2 .value .given .1))
+    c .named-part .ensures ∙ sym (ap (λ (v : OscType). textNamed v (a .packet .now) (a .label .now)) (p2 .value .given .1))
 
 returns-2 : tie.Need-returns-2
 returns-2 c =
     let p2 = c .before .before in
     let p6 = p2 .before .before .before .before in
     let a = p6 .args in
-    c .part2 .ensures ∙ sym (ap (λ (v : OscType). textOf v (a .packet .now) (a .label .now)) (p2 .value2 .given .1))
+    c .named-part2 .ensures ∙ sym (ap (λ (v : OscType). textNamed v (a .packet .now) (a .label .now)) (p2 .value2 .given .1))
 
 returns-3 : tie.Need-returns-3
 returns-3 c =
     let p2 = c .before .before in
     let p6 = p2 .before .before .before .before in
     let a = p6 .args in
-    c .part3 .ensures ∙ sym (ap (λ (v : OscType). textOf v (a .packet .now) (a .label .now)) (p2 .value3 .given .1))
+    c .named-part3 .ensures ∙ sym (ap (λ (v : OscType). textNamed v (a .packet .now) (a .label .now)) (p2 .value3 .given .1))
 
 returns-4 : tie.Need-returns-4
 returns-4 c =

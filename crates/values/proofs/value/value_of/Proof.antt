@@ -1,4 +1,4 @@
--- `types::value::value_of` meets its contract. Each arm by its key.
+-- `values::value::value_of` meets its contract. Each arm by its key.
 use mathlib.Core.Path.{_∙_, ap, ap₂}
 use mir.ValLaws.{toZ-ofZ}
 use mir.Val.{toZ}
@@ -6,48 +6,48 @@ use mir.Syntax.{w64}
 use lib.Ieee.{binary64, ofBits}
 use borrow.Author.Tests.{ne-eqb}
 use borrow.Author.Needs.{needs}
-use Rattle.values.specs.Value.{valueOf}
+use Rattle.values.specs.Value.{valueBy}
 use Rattle.values.specs.declared.value.OscType.the-variants.{Long, Double}
 use Rattle.values.proofs.value.value_of.Statement.{statement}
 use Rattle.values.proofs.value.value_of.Tie as tie
 
 returns : tie.Need-returns
-unfolding valueOf
+unfolding valueBy
 returns c = rw (c .match .keys1)
 
 returns-2 : tie.Need-returns-2
-unfolding valueOf
+unfolding valueBy
 returns-2 c = rw (c .match .keys2)
 
 returns-3 : tie.Need-returns-3
-unfolding valueOf
+unfolding valueBy
 returns-3 c = rw (c .match .keys3)
 
 returns-4 : tie.Need-returns-4
-unfolding valueOf
+unfolding valueBy
 returns-4 c = rw (c .match .keys4)
 
 returns-5 : tie.Need-returns-5
-unfolding valueOf
+unfolding valueBy
 returns-5 c = rw (c .match .keys5)
 
 returns-6 : tie.Need-returns-6
-unfolding valueOf
+unfolding valueBy
 returns-6 c =
     rw (c .before .before .match .keys6)
     (ap Long (toZ-ofZ w64 (c .signed64 .result) (record { sfits = c .signed64 .ok }) ∙ c .signed64 .ensures
     ∙ ap (toZ w64) (c .before .joined .ensures)))
 
 returns-7 : tie.Need-returns-7
-unfolding valueOf
+unfolding valueBy
 returns-7 c =
     rw (c .before .before .match .keys7)
     (ap₂ Double (c .before .joined2 .ensures) (c .float64 .ensures ∙ ap (ofBits binary64) (c .before .joined2 .ensures)))
 
 returns-8 : tie.Need-returns-8
-unfolding valueOf
+unfolding valueBy
 returns-8 c =
-    let k = c .before .before .args .kind in
+    let k = c .before .before .args .item .kind in
     let r = c .before .match .rest in
     rw (
       ne-eqb k 47 (r .0 .0 .0 .0 .0 .0 .1),

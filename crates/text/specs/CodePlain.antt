@@ -1,4 +1,4 @@
--- The bytes of a text that need no UTF-8 test: each is a character by itself.
+-- Describes code, and no part of the document: the bytes of a text that need no UTF-8 test, since each is a character by itself.
 use mathlib.Core.Path.{_≡_}
 use mathlib.Core.Bool.{Bool, true, cond}
 use mathlib.Core.List.{List, [], _∷_}
@@ -11,10 +11,10 @@ abbrev pub special : ℕ → Bool
 special b = cond (eqb b 0) true (ltb 0x7F b)
 
 -- how many bytes stand before the first special one; all of them where there is none
-abbrev pub plain : List ℕ → ℕ
-plain [] = 0
-plain (b ∷ l) = cond (special b) 0 (suc (plain l))
+abbrev pub plainOf : List ℕ → ℕ
+plainOf [] = 0
+plainOf (b ∷ l) = cond (special b) 0 (suc (plainOf l))
 
 -- none of the first n bytes is special
 abbrev pub Passed : ℕ → List ℕ → Type 0
-Passed n l = (n ≤ length l) × (plain l ≡ n + plain (drop n l))
+Passed n l = (n ≤ length l) × (plainOf l ≡ n + plainOf (drop n l))

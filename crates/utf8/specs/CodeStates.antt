@@ -1,4 +1,4 @@
--- The automaton's classes and states, in the words of the grammar of RFC 3629, section 4.
+-- Describes code, and no part of the document: the automaton's classes and states, in the words of the grammar of RFC 3629, section 4.
 use mathlib.Core.Bool.{Bool, true, false}
 use mathlib.Core.List.{List, [], _∷_}
 use Prim.Native.Nat.{ℕ, suc}
@@ -22,8 +22,8 @@ reached [] x = 0
 reached (l ∷ ls) x = more (leb l x) (reached ls x)
 
 -- the class of an octet (document 01, "How bytes are read": a class for each of the 256 byte values)
-abbrev pub classOf : ℕ → ℕ
-classOf x = reached limits x
+abbrev pub byteClass : ℕ → ℕ
+byteClass x = reached limits x
 
 -- what each state waits for: in the state 0 a character has just ended, in the state 8 nothing may come any more
 abbrev pub states : List (List (List Range))

@@ -1,14 +1,14 @@
--- `text::plain` meets its contract. The invariant: none of the bytes of `rest` before `at` is special.
+-- `text::count_plain` meets its contract. The invariant: none of the bytes of `rest` before `at` is special.
 use mathlib.Core.Path.{sym, _∙_}
 use Prim.Native.Nat.{_-_}
 use native.Mathlib.Omega.{arith}
 use borrow.Author.Needs.{needs}
 use lib.ListN.{length}
 use Rattle.wire.proofs.Parts.{length-part}
-use Rattle.text.specs.Plain.{Passed}
+use Rattle.text.specs.CodePlain.{Passed}
 use Rattle.text.proofs.Passing.{one-passed, all-passed, stops, ends}
-use Rattle.text.proofs.plain.Statement.{statement}
-use Rattle.text.proofs.plain.Tie as tie
+use Rattle.text.proofs.count_plain.Statement.{statement}
+use Rattle.text.proofs.count_plain.Tie as tie
 
 abbrev Inv-loop : tie.InvT-loop
 Inv-loop input front rest at₀ at = Passed at rest
@@ -19,6 +19,7 @@ abbrev μ-loop : tie.MeasureT-loop
 add-result : tie.Need-add-result Inv-loop μ-loop
 add-result c =
     let p4 = c .before .before .before .before in
+    let p4 = p4 in
     let p7 = p4 .before .before .before in
     let p9 = p7 .before .before in
     let l = p4 .loop in
@@ -49,6 +50,7 @@ loop-again c =
 add-result-2 : tie.Need-add-result-2 Inv-loop μ-loop
 add-result-2 c =
     let p4 = c .before .before .before .before in
+    let p4 = p4 in
     let p6 = p4 .before .before in
     let l = c .before .loop in
     omega (
@@ -62,11 +64,12 @@ add-result-2 c =
 returns-2 : tie.Need-returns-2 Inv-loop μ-loop
 returns-2 c =
     let p4 = c .before .before .before .before in
+    let p4 = p4 in
     let l = c .before .loop in
     all-passed _ _ (l .at) (p4 .skip .ensures) (l .inv) (ends _ (l .at) (omega arith))
 
-pub plain-spec : {M : Type 1} → statement M
-plain-spec =
+pub count-plain-spec : {M : Type 1} → statement M
+count-plain-spec =
     tie.close
     (tie.spec
     Inv-loop
