@@ -11,6 +11,7 @@ use Rattle.refusal.specs.declared.Refusal.{Refusal}
 use Rattle.refusal.specs.declared.Refusal.the-variants.{TooLong, DepthLimit}
 use Rattle.wire.proofs.Choices.{by-test, by-both}
 use Rattle.node.specs.Forest.{Forest, nil, node, size, depth, level}
+use Rattle.node.specs.declared.record.Item.{Item}
 use Rattle.node.specs.Records.{recordSize, stored}
 use Rattle.packet.specs.Packet.{Out, fault, one, readPacket}
 use Rattle.packet.proofs.Within.{Within, packet-in}
@@ -59,20 +60,20 @@ module _ (rule : List ℕ → Whole) (capacity limit : ℕ) (msg : List ℕ) whe
 
 -- ---- the first reading of one packet, and of one frame
 
-one-tree : (kind a b : ℕ) (f : Forest) → depth (node kind a b f nil) ≡ level kind (depth f)
+one-tree : (item : Item) (f : Forest) → depth (node item f nil) ≡ level (item .kind) (depth f)
 unfolding depth
-one-tree kind a b f = omega arith
+one-tree item f = omega arith
 
-one-size : (kind a b : ℕ) (f : Forest) → size (node kind a b f nil) ≡ 1 + size f
+one-size : (item : Item) (f : Forest) → size (node item f nil) ≡ 1 + size f
 unfolding size
-one-size kind a b f = omega arith
+one-size item f = omega arith
 
 total-single : (n limit : ℕ) (o : Out) → totalOfOne n (extent limit 0 o) ≡ totalOf limit (single n o)
 unfolding extent
 total-single n limit (fault k) = refl
-total-single n limit (one k a b f u) =
-    rw (one-tree k a b f, one-size k a b f, zero-add u)
-    (by-both (λ (x : Extent) (y : Total). totalOfOne n x ≡ y) (leb (level k (depth f)) limit) refl refl)
+total-single n limit (one item f u) =
+    rw (one-tree item f, one-size item f, zero-add u)
+    (by-both (λ (x : Extent) (y : Total). totalOfOne n x ≡ y) (leb (level (item .kind) (depth f)) limit) refl refl)
 
 -- the total of one packet is that of its extent
 pub udp-total : {r : Extent} (limit : ℕ) (msg : List ℕ) → r ≡ extent limit 0 (readPacket 0 msg 0)
@@ -98,7 +99,7 @@ tcp-total limit msg e = ap (totalOfFrame (length msg)) e ∙ total-first (length
 ends-in : (limit n : ℕ) (o : Out) → Within n o → EndsIn n (extent limit 0 o)
 unfolding extent
 ends-in limit n (fault k) w = tt
-ends-in limit n (one k a b f u) w = by-test (EndsIn n) (leb (level k (depth f)) limit) (λ _. omega arith) (λ _. tt)
+ends-in limit n (one item f u) w = by-test (EndsIn n) (leb (level (item .kind) (depth f)) limit) (λ _. omega arith) (λ _. tt)
 
 -- one packet ends in its input
 pub udp-ends : {r : Extent} (limit : ℕ) (msg : List ℕ) → r ≡ extent limit 0 (readPacket 0 msg 0) → EndsIn (length msg) r
@@ -113,7 +114,7 @@ frame-ends : (limit n : ℕ) (x : Frame) → FrameIn n x → FrameEnds n (frameE
 unfolding extent
 frame-ends limit n wait w = tt
 frame-ends limit n (read (fault k)) w = tt
-frame-ends limit n (read (one k a b f u)) w = by-test (EndsIn n) (leb (level k (depth f)) limit) (λ _. omega arith) (λ _. tt)
+frame-ends limit n (read (one item f u)) w = by-test (EndsIn n) (leb (level (item .kind) (depth f)) limit) (λ _. omega arith) (λ _. tt)
 
 -- a tree that ends in its input
 pub ends-tree : {x : Extent} {count next : ℕ} (n : ℕ) → x ≡ Tree count next → EndsIn n x → next ≤ n
@@ -175,7 +176,7 @@ unwritten f T e w = subst (λ (z : Decoded). T ≡ tabled z f T) (sym e) w
 
 single-tree : (n : ℕ) (o : Out) → forestOf (single n o) ≡ treeOf o
 single-tree n (fault k) = refl
-single-tree n (one k a b f u) = refl
+single-tree n (one item f u) = refl
 
 first-tree : (n : ℕ) (x : Frame) → forestOf (first n x) ≡ treeOf (framePacket x)
 first-tree n wait = refl
@@ -194,7 +195,7 @@ tcp-tree msg = first-tree (length msg) (readFrame 0 msg)
 single-known : {count : ℕ} (n : ℕ) (o : Out) → Accepted (single n o) → size (forestOf (single n o)) ≡ count → Known o count
 unfolding size
 single-known n (fault k) h e = absurd h
-single-known n (one k a b f u) h e = record { some = omega (arith, e); records = e }
+single-known n (one item f u) h e = record { some = omega (arith, e); records = e }
 
 -- a packet that was accepted is known
 pub udp-known : {count : ℕ} (msg : List ℕ) → Accepted (udp msg) → size (forestOf (udp msg)) ≡ count → Known (readPacket 0 msg 0) count

@@ -10,7 +10,7 @@ use Rattle.wire.specs.Number.{number, bytes}
 use Rattle.node.specs.Forest.{size, depth, snoc}
 use Rattle.node.specs.Records.{recordsOf, recordOf, stored}
 use Rattle.node.specs.Tags.{classOf, sortOf}
-use Rattle.text.specs.Text.{textOf}
+use Rattle.text.specs.Text.{readText}
 use Rattle.argument.specs.Argument.{readArg}
 use Rattle.arguments.specs.Arguments.{readTags}
 use Rattle.packet.specs.Packet.{readMessage, bundleBy, packetBy, elementBy, elementsBy, packetAt, readPacket}
@@ -70,7 +70,7 @@ pub record Proved : Type 0 where
 
 -- all of them hold
 pub proved : Proved
-unfolding decoded size depth snoc number bytes classOf sortOf textOf readArg readTags startOf sizeOf prefixOf readMessage bundleBy
+unfolding decoded size depth snoc number bytes classOf sortOf readText readArg readTags startOf sizeOf prefixOf readMessage bundleBy
     packetBy elementBy elementsBy packetAt readPacket udp readFrame tcp framesAt readFrames tcpVec stored recordsOf recordOf
 proved =
     record {
@@ -145,7 +145,7 @@ pub record Traps : Type 0 where
 
 -- all of them hold
 pub traps : Traps
-unfolding decoded size depth snoc number bytes classOf sortOf textOf readArg readTags startOf sizeOf prefixOf readMessage bundleBy
+unfolding decoded size depth snoc number bytes classOf sortOf readText readArg readTags startOf sizeOf prefixOf readMessage bundleBy
     packetBy elementBy elementsBy packetAt readPacket udp readFrame tcp framesAt readFrames tcpVec stored recordsOf recordOf
 traps =
     record {

@@ -13,6 +13,7 @@ use Rattle.refusal.specs.declared.Fault.{Fault}
 use Rattle.refusal.specs.declared.Fault.the-variants as faults
 use Rattle.wire.proofs.Choices.{by-test, by-le, by-both}
 use Rattle.node.specs.Forest.{Forest, nil, node, size, depth, level}
+use Rattle.node.specs.declared.record.Item.{Item}
 use Rattle.packet.specs.Heads.{prefixOf}
 use Rattle.packet.specs.Packet.{fault, one, readPacket}
 use Rattle.packet.specs.declared.Prefix.the-variants as prefix
@@ -74,30 +75,30 @@ abbrev pub following : ℕ → List ℕ → ℕ → Whole
 following base l u = remaining (base + u) (drop u l)
 
 -- a tree stands before the list after it
-pub frames-tree : {k a b u : ℕ} {f : Forest} (base : ℕ) (l : List ℕ) → readFrame base l ≡ read (one k a b f u)
-    → readFrames base l ≡ before k a b f (following base l u)
-frames-tree {k} {a} {b} {u} {f} base l e = frames-by base l e ∙ ends (leb (length l) u) refl
+pub frames-tree : {item : Item} {u : ℕ} {f : Forest} (base : ℕ) (l : List ℕ) → readFrame base l ≡ read (one item f u)
+    → readFrames base l ≡ before item f (following base l u)
+frames-tree {item} {u} {f} base l e = frames-by base l e ∙ ends (leb (length l) u) refl
   where
     ends : (t : Bool) → leb (length l) u ≡ t
-        → cond (leb (length l) u) (trees (node k a b f nil) 0) (before k a b f (readFrames (base + u) (drop u l))) ≡ before k a b f
+        → cond (leb (length l) u) (trees (node item f nil) 0) (before item f (readFrames (base + u) (drop u l))) ≡ before item f
         (following base l u)
     ends true h = rw (h, remaining-none (base + u) (drop u l) (omega (arith, leb-true (length l) u h, length-drop u l)))
     ends false h = rw (h, remaining-list (base + u) (drop u l) (omega (arith, leb-false (length l) u h, length-drop u l)))
 
 -- ---- counting
 
-total-before : (limit k a b : ℕ) (f : Forest) (w : Whole)
-    → totalOf limit (before k a b f w) ≡ cond (leb (level k (depth f)) limit) (added (1 + size f) false (totalOf limit w))
+total-before : (limit : ℕ) (item : Item) (f : Forest) (w : Whole)
+    → totalOf limit (before item f w) ≡ cond (leb (level (item .kind) (depth f)) limit) (added (1 + size f) false (totalOf limit w))
     (added 0 true (totalOf limit w))
 unfolding size depth
-total-before limit k a b f waiting = by-test (λ (x : Total). total.Waiting ≡ x) (leb (level k (depth f)) limit) (λ _. refl) (λ _. refl)
-total-before limit k a b f (refusal j) =
-    by-test (λ (x : Total). total.Refused j ≡ x) (leb (level k (depth f)) limit) (λ _. refl) (λ _. refl)
-total-before limit k a b f (trees g left) =
-    by-le (λ (x : Total). totalOf limit (trees (node k a b f g) left) ≡ x) (level k (depth f)) limit
-    (λ h. rw (max-low (level k (depth f)) (depth g) limit h)
+total-before limit item f waiting = by-test (λ (x : Total). total.Waiting ≡ x) (leb (level (item .kind) (depth f)) limit) (λ _. refl) (λ _. refl)
+total-before limit item f (refusal j) =
+    by-test (λ (x : Total). total.Refused j ≡ x) (leb (level (item .kind) (depth f)) limit) (λ _. refl) (λ _. refl)
+total-before limit item f (trees g left) =
+    by-le (λ (x : Total). totalOf limit (trees (node item f g) left) ≡ x) (level (item .kind) (depth f)) limit
+    (λ h. rw (max-low (level (item .kind) (depth f)) (depth g) limit h)
     (by-both (λ (x y : Total). x ≡ added (1 + size f) false y) (leb (depth g) limit) refl refl))
-    (λ h. let over : limit < max (level k (depth f)) (depth g) = omega arith in rw (lt-leb _ _ over)
+    (λ h. let over : limit < max (level (item .kind) (depth f)) (depth g) = omega arith in rw (lt-leb _ _ over)
     (by-test (λ (x : Total). total.Deep ≡ added 0 true x) (leb (depth g) limit) (λ _. refl) (λ _. refl)))
 
 added-none : (x : Total) → added 0 false x ≡ x
@@ -150,10 +151,10 @@ module _ (limit base : ℕ) (l : List ℕ) (c : ℕ) (deep : Bool) where
       added-refused : (t : Bool) → added c t (total.Refused k) ≡ total.Refused k
       added-refused true = refl
       added-refused false = refl
-  by-frame (read (one k a b f u)) e =
+  by-frame (read (one item f u)) e =
       ap (λ (w : Whole). added c deep (totalOf limit w)) (frames-tree base l e)
-      ∙ ap (added c deep) (total-before limit k a b f (following base l u))
-      ∙ rw (zero-add u) (by-both (λ (x : Total) (y : Extent). added c deep x ≡ onwardPacket y) (leb (level k (depth f)) limit)
+      ∙ ap (added c deep) (total-before limit item f (following base l u))
+      ∙ rw (zero-add u) (by-both (λ (x : Total) (y : Extent). added c deep x ≡ onwardPacket y) (leb (level (item .kind) (depth f)) limit)
       (added-more c (1 + size f) deep (totalOf limit (following base l u)))
       (added-deep c 0 deep (totalOf limit (following base l u))))
 
@@ -179,8 +180,8 @@ frame-extent-in : (limit m : ℕ) (x : Frame) → FrameIn m x → FrameExtentIn 
 unfolding extent
 frame-extent-in limit m wait w = tt
 frame-extent-in limit m (read (fault k)) w = tt
-frame-extent-in limit m (read (one k a b f u)) w =
-    by-test (PacketIn m) (leb (level k (depth f)) limit) (λ _. omega arith) (λ _. omega arith)
+frame-extent-in limit m (read (one item f u)) w =
+    by-test (PacketIn m) (leb (level (item .kind) (depth f)) limit) (λ _. omega arith) (λ _. omega arith)
 
 -- a packet that was measured takes its prefix, and lies in its frame
 packet-extent-in : {x : Extent} (limit base : ℕ) (l : List ℕ) → Packet x ≡ frameExtent limit (readFrame base l) → PacketIn (length l) x

@@ -10,6 +10,7 @@ use borrow.Rule.Slice.PartMut.{midOf, putMid}
 use Rattle.refusal.specs.declared.Fault.the-variants as faults
 use Rattle.wire.proofs.Parts.{tail, length-lent}
 use Rattle.node.specs.Forest.{Forest, nil, node, size}
+use Rattle.node.specs.declared.record.Item.{Item}
 use Rattle.node.specs.Records.{recordSize, stored}
 use Rattle.packet.specs.Packet.{fault, one, after, readPacket}
 use Rattle.decoder.specs.Framing.{Whole, trees, waiting, refusal, Frame, wait, read, prefixed, readFrame, before, framesAt}
@@ -60,15 +61,15 @@ unfolding tcpVec readFrames framesAt readFrame prefixOf
 accepted-some [] h = absurd h
 accepted-some (x ∷ msg) h = omega arith
 
-accepted-rest : (k a b : ℕ) (f : Forest) (w : Whole) → Accepted (before k a b f w) → Accepted w
-accepted-rest k a b f (trees g left) h = tt
-accepted-rest k a b f waiting h = h
-accepted-rest k a b f (refusal j) h = h
+accepted-rest : (item : Item) (f : Forest) (w : Whole) → Accepted (before item f w) → Accepted w
+accepted-rest item f (trees g left) h = tt
+accepted-rest item f waiting h = h
+accepted-rest item f (refusal j) h = h
 
-forest-before : (k a b : ℕ) (f : Forest) (w : Whole) → Accepted (before k a b f w) → forestOf (before k a b f w) ≡ node k a b f (forestOf w)
-forest-before k a b f (trees g left) h = refl
-forest-before k a b f waiting h = absurd h
-forest-before k a b f (refusal j) h = absurd h
+forest-before : (item : Item) (f : Forest) (w : Whole) → Accepted (before item f w) → forestOf (before item f w) ≡ node item f (forestOf w)
+forest-before item f (trees g left) h = refl
+forest-before item f waiting h = absurd h
+forest-before item f (refusal j) h = absurd h
 
 -- the frames of msg are written to T, which was T₀: c records have their place, and the frames from `at` on are left
 pub record Listing (msg T₀ T : List ℕ) (at c : ℕ) : Type 0 where
@@ -100,15 +101,15 @@ module _ (msg T₀ T : List ℕ) (at c : ℕ) (w : Listing msg T₀ T at c) (som
   here = remaining-list at (drop at msg) (omega (arith, length-drop at msg))
 
   -- by the next frame
-  here-tree : {k a b u : ℕ} {f : Forest} → readFrame at (drop at msg) ≡ read (one k a b f u)
-      → remaining at (drop at msg) ≡ before k a b f (remaining (at + u) (drop (at + u) msg))
-  here-tree {k} {a} {b} {u} {f} e = here ∙ frames-tree at (drop at msg) e ∙ rw (drop-drop u at msg)
+  here-tree : {item : Item} {u : ℕ} {f : Forest} → readFrame at (drop at msg) ≡ read (one item f u)
+      → remaining at (drop at msg) ≡ before item f (remaining (at + u) (drop (at + u) msg))
+  here-tree {item} {u} {f} e = here ∙ frames-tree at (drop at msg) e ∙ rw (drop-drop u at msg)
 
-  forest-tree : {k a b u : ℕ} {f : Forest} → readFrame at (drop at msg) ≡ read (one k a b f u)
-      → forestOf (remaining at (drop at msg)) ≡ node k a b f (forestOf (remaining (at + u) (drop (at + u) msg)))
-  forest-tree {k} {a} {b} {u} {f} e =
+  forest-tree : {item : Item} {u : ℕ} {f : Forest} → readFrame at (drop at msg) ≡ read (one item f u)
+      → forestOf (remaining at (drop at msg)) ≡ node item f (forestOf (remaining (at + u) (drop (at + u) msg)))
+  forest-tree {item} {u} {f} e =
       ap forestOf (here-tree e)
-      ∙ forest-before k a b f (remaining (at + u) (drop (at + u) msg)) (subst Accepted (here-tree e) (w .accepted))
+      ∙ forest-before item f (remaining (at + u) (drop (at + u) msg)) (subst Accepted (here-tree e) (w .accepted))
 
   -- there is room for the next frame
   pub next-fits : TableRoom (treeOf (framePacket (readFrame at (drop at msg)))) c later
@@ -118,7 +119,7 @@ module _ (msg T₀ T : List ℕ) (at c : ℕ) (w : Listing msg T₀ T at c) (som
       by-frame : (x : Frame) → readFrame at (drop at msg) ≡ x → TableRoom (treeOf (framePacket x)) c later
       by-frame wait e = record { fits = omega arith; low = omega (arith, w .low) }
       by-frame (read (fault k)) e = record { fits = omega arith; low = omega (arith, w .low) }
-      by-frame (read (one k a b f u)) e =
+      by-frame (read (one item f u)) e =
           record {
             fits = omega (arith, w .fits, ap size (forest-tree e), length-lent T (recordSize * c));
             low = omega
@@ -135,17 +136,17 @@ module _ (msg T₀ T : List ℕ) (at c : ℕ) (w : Listing msg T₀ T at c) (som
           → Wrote n next ≡ reread 0 (framePacket x) → (4 ≤ next) × (at + next ≤ length msg) × (c + n ≤ 65535)
       by-frame wait e i h = let z : _≡_ {A = ℕ} 0 1 = cc in absurd (omega arith)
       by-frame (read (fault k)) e i h = let z : _≡_ {A = ℕ} 0 1 = cc in absurd (omega arith)
-      by-frame (read (one k a b g u)) e i h =
+      by-frame (read (one item g u)) e i h =
           let en : n ≡ 1 + size g = cc in
           let ee : next ≡ 0 + u = cc in
           (omega arith, omega (arith, length-drop at msg), omega (arith, w .low, ap size (forest-tree e)))
 
-  listing-tree : {k a b u : ℕ} {g : Forest} {x : Reread} {Y : List ℕ} → readFrame at (drop at msg) ≡ read (one k a b g u)
+  listing-tree : {item : Item} {u : ℕ} {g : Forest} {x : Reread} {Y : List ℕ} → readFrame at (drop at msg) ≡ read (one item g u)
       → Fills (framePacket (readFrame at (drop at msg))) 0 c later x Y
       → Listing msg T₀ (putMid (recordSize * c) (length T - recordSize * c) T Y) (at + u) (c + (1 + size g))
   unfolding size
-  listing-tree {k} {a} {b} {u} {g} {x} {Y} e f =
-      let N = node k a b g nil in
+  listing-tree {item} {u} {g} {x} {Y} e f =
+      let N = node item g nil in
       let rest = remaining (at + u) (drop (at + u) msg) in
       let put : putMid (recordSize * c) (length T - recordSize * c) T Y ≡ completed T c c N
       = lent-stored T c c N (f .table ∙ ap (λ (y : Frame). stored c (treeOf (framePacket y)) later) e) in
@@ -153,12 +154,12 @@ module _ (msg T₀ T : List ℕ) (at c : ℕ) (w : Listing msg T₀ T at c) (som
       let long : length (putMid (recordSize * c) (length T - recordSize * c) T Y) ≡ length T
       = ap length put ∙ length-completed T c c N (omega (arith, w .fits)) in
       record {
-        accepted = accepted-rest k a b g rest (subst Accepted (here-tree e) (w .accepted));
+        accepted = accepted-rest item g rest (subst Accepted (here-tree e) (w .accepted));
         same = long ∙ w .same;
         fits = omega (arith, w .fits);
         low = omega (arith, w .low);
         left =
-            completed-turn T c (1 + size g) c k a b g (forestOf rest) (omega (arith, w .fits)) refl put
+            completed-turn T c (1 + size g) c item g (forestOf rest) (omega (arith, w .fits)) refl put
             ∙ ap (λ (h : Forest). completed T c c h) (sym (forest-tree e)) ∙ w .left;
       }
 
@@ -171,7 +172,7 @@ module _ (msg T₀ T : List ℕ) (at c : ℕ) (w : Listing msg T₀ T at c) (som
           → Listing msg T₀ (putMid (recordSize * c) (length T - recordSize * c) T Y) (at + next) (c + n)
       by-frame wait e h = let z : _≡_ {A = ℕ} 0 1 = cc in absurd (omega arith)
       by-frame (read (fault k)) e h = let z : _≡_ {A = ℕ} 0 1 = cc in absurd (omega arith)
-      by-frame (read (one k a b g u)) e h =
+      by-frame (read (one item g u)) e h =
           let en : n ≡ 1 + size g = cc in let e0 : next ≡ 0 + u = cc in let ee : next ≡ u = e0 ∙ zero-add u in
           rw (en, ee) (listing-tree e f)
 
@@ -186,7 +187,7 @@ module _ (msg T₀ T : List ℕ) (at c : ℕ) (w : Listing msg T₀ T at c) (som
           lent-stored T c c nil (f .table ∙ ap (λ (y : Frame). stored c (treeOf (framePacket y)) later) e)
           ∙ ap (λ (y : Whole). completed T c c (forestOf y)) (sym (here ∙ frames-by at (drop at msg) e)) ∙ w .left
       by-frame (read (fault k)) e h = absurd (subst Accepted (here ∙ frames-by at (drop at msg) e) (w .accepted))
-      by-frame (read (one k a b g u)) e h = let z : _≡_ {A = ℕ} 0 1 = cc in absurd (omega arith)
+      by-frame (read (one item g u)) e h = let z : _≡_ {A = ℕ} 0 1 = cc in absurd (omega arith)
 
 -- `&msg[at..]` is what is left
 pub fills-tail : {p i : ℕ} {x : Reread} {T Y : List ℕ} (msg : List ℕ) (at : ℕ)

@@ -20,11 +20,11 @@ use Rattle.decoder.specs.Framing.{Whole, trees, Frame, wait, read, prefi
 abbrev pub FrameIn : ℕ → Frame → Type 0
 FrameIn m wait = Unit {0}
 FrameIn m (read (fault k)) = Unit {0}
-FrameIn m (read (one k a b f u)) = (5 + size f ≤ u) × (u ≤ m)
+FrameIn m (read (one item f u)) = (5 + size f ≤ u) × (u ≤ m)
 
 after-in : (m : ℕ) (o : Out) → 4 ≤ m → Within (m - 4) o → FrameIn m (read (after 4 o))
 after-in m (fault k) h w = tt
-after-in m (one k a b f u) h w = omega arith
+after-in m (one item f u) h w = omega arith
 
 prefixed-in : (base : ℕ) (l : List ℕ) (x : Prefix) → PrefixIn (length l) x → FrameIn (length l) (prefixed base l x)
 prefixed-in base l prefix.Ready w = after-in (length l) (readPacket base (drop 4 l) 4) w (rw length-drop at (packet-in base (drop 4 l) 4))
@@ -41,8 +41,8 @@ after-cong : (go go' : ℕ → List ℕ → Whole) (base : ℕ) (l : List ℕ) (
     → afterFrame go base l x ≡ afterFrame go' base l x
 after-cong go go' base l wait w h = refl
 after-cong go go' base l (read (fault k)) w h = refl
-after-cong go go' base l (read (one k a b f u)) w h =
-    ap (λ (x : Whole). cond (leb (length l) u) (trees (node k a b f nil) 0) (before k a b f x))
+after-cong go go' base l (read (one item f u)) w h =
+    ap (λ (x : Whole). cond (leb (length l) u) (trees (node item f nil) 0) (before item f x))
     (h (base + u) (drop u l) (omega (arith, length-drop u l)))
 
 frames-same : (n m base : ℕ) (l : List ℕ) → length l < n → length l < m → framesAt n base l ≡ framesAt m base l

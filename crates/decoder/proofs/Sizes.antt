@@ -4,6 +4,7 @@ use mathlib.Core.List.{List}
 use native.Mathlib.Omega.{arith}
 use lib.ListN.{length, drop, length-drop}
 use Rattle.node.specs.Forest.{Forest, size}
+use Rattle.node.specs.declared.record.Item.{Item}
 use Rattle.wire.proofs.Choices.{by-le}
 use Rattle.packet.specs.Packet.{Out, fault, one, readPacket}
 use Rattle.decoder.specs.Framing.{Whole, trees, waiting, refusal, single, udp, Frame, wait, read, readFrame, first, tcp, before}
@@ -32,7 +33,7 @@ nodes-in n (refusal k) h = omega arith
 single-in : (n : ℕ) (o : Out) → Within n o → WholeIn n (single n o)
 unfolding size
 single-in n (fault k) w = tt
-single-in n (one kind a b f used) w = omega arith
+single-in n (one item f used) w = omega arith
 
 -- the nodes and the bytes left of one packet
 pub udp-in : (msg : List ℕ) → WholeIn (length msg) (udp msg)
@@ -43,7 +44,7 @@ first-in : (n : ℕ) (x : Frame) → FrameIn n x → WholeIn n (first n x)
 unfolding size
 first-in n wait w = tt
 first-in n (read (fault k)) w = tt
-first-in n (read (one kind a b f used)) w = omega arith
+first-in n (read (one item f used)) w = omega arith
 
 -- the nodes and the bytes left of one frame
 pub tcp-in : (msg : List ℕ) → WholeIn (length msg) (tcp msg)
@@ -52,11 +53,11 @@ tcp-in msg = first-in (length msg) (readFrame 0 msg) (frame-in 0 msg)
 
 -- ---- a list of packets
 
-before-in : (kind a b : ℕ) (f : Forest) (m n : ℕ) (x : Whole) → 1 + size f + m ≤ n → WholeIn m x → WholeIn n (before kind a b f x)
+before-in : (item : Item) (f : Forest) (m n : ℕ) (x : Whole) → 1 + size f + m ≤ n → WholeIn m x → WholeIn n (before item f x)
 unfolding size
-before-in kind a b f m n (trees g left) h w = omega arith
-before-in kind a b f m n waiting h w = tt
-before-in kind a b f m n (refusal k) h w = tt
+before-in item f m n (trees g left) h w = omega arith
+before-in item f m n waiting h w = tt
+before-in item f m n (refusal k) h w = tt
 
 after-in : (go : ℕ → List ℕ → Whole) (base : ℕ) (l : List ℕ) (x : Frame) → ((q : ℕ) (m : List ℕ) → WholeIn (length m) (go q m))
     → FrameIn (length l) x
@@ -64,9 +65,9 @@ after-in : (go : ℕ → List ℕ → Whole) (base : ℕ) (l : List ℕ) (x : Fr
 unfolding size
 after-in go base l wait h w = omega arith
 after-in go base l (read (fault k)) h w = tt
-after-in go base l (read (one kind a b f used)) h w =
+after-in go base l (read (one item f used)) h w =
     by-le (WholeIn (length l)) (length l) used (λ g. omega arith)
-    (λ g. before-in kind a b f (length (drop used l)) (length l) (go (base + used) (drop used l)) (omega (arith, length-drop used l))
+    (λ g. before-in item f (length (drop used l)) (length l) (go (base + used) (drop used l)) (omega (arith, length-drop used l))
     (h (base + used) (drop used l)))
 
 frames-in : (n base : ℕ) (l : List ℕ) → WholeIn (length l) (framesAt n base l)

@@ -7,6 +7,7 @@ use lib.ListN.{length, drop}
 use Rattle.refusal.specs.declared.Fault.{Fault}
 use Rattle.refusal.specs.declared.Fault.the-variants.{RunsOut}
 use Rattle.node.specs.Forest.{Forest, nil, node}
+use Rattle.node.specs.declared.record.Item.{Item}
 use Rattle.packet.specs.Heads.{prefixOf}
 use Rattle.packet.specs.Packet.{Out, fault, one, after, readPacket}
 use Rattle.packet.specs.declared.Prefix.{Prefix}
@@ -23,7 +24,7 @@ pub data Whole : Type 0 where
 -- one packet of n bytes of input
 abbrev pub single : ℕ → Out → Whole
 single n (fault k) = refusal k
-single n (one kind a b inside used) = trees (node kind a b inside nil) (n - used)
+single n (one item inside used) = trees (node item inside nil) (n - used)
 
 -- `decode_udp`: a packet from all of the input
 unfoldable pub udp : List ℕ → Whole
@@ -54,16 +55,16 @@ unfoldable pub tcp : List ℕ → Whole
 tcp msg = first (length msg) (readFrame 0 msg)
 
 -- a tree before others; any refusal refuses the whole call
-abbrev pub before : ℕ → ℕ → ℕ → Forest → Whole → Whole
-before kind a b inside (trees rest left) = trees (node kind a b inside rest) left
-before kind a b inside waiting = waiting
-before kind a b inside (refusal k) = refusal k
+abbrev pub before : Item → Forest → Whole → Whole
+before item inside (trees rest left) = trees (node item inside rest) left
+before item inside waiting = waiting
+before item inside (refusal k) = refusal k
 
 -- the list whose first frame holds this packet: it ends where nothing is left
 abbrev pub afterPacket : (ℕ → List ℕ → Whole) → ℕ → List ℕ → Out → Whole
 afterPacket go base l (fault k) = refusal k
-afterPacket go base l (one kind a b inside used) =
-    cond (leb (length l) used) (trees (node kind a b inside nil) 0) (before kind a b inside (go (base + used) (drop used l)))
+afterPacket go base l (one item inside used) =
+    cond (leb (length l) used) (trees (node item inside nil) 0) (before item inside (go (base + used) (drop used l)))
 
 -- rule 7: repeat until nothing is left or Waiting; what waits is left over
 abbrev pub afterFrame : (ℕ → List ℕ → Whole) → ℕ → List ℕ → Frame → Whole

@@ -7,23 +7,23 @@ use native.Mathlib.Omega.{arith}
 use lib.ListN.{length, take, drop}
 use borrow.Rule.Slice.PartMut.{midOf, putMid}
 use Rattle.refusal.specs.declared.Fault.{Fault}
-use Rattle.wire.specs.Number.{number}
 use Rattle.wire.specs.Wrote as number
 use Rattle.wire.proofs.Parts.{tail, length-lent}
 use Rattle.wire.proofs.Writers.{wrote-lent}
 use Rattle.node.specs.Forest.{Forest, nil, node, size}
-use Rattle.node.specs.Records.{recordSize, recordOf, recordsOf, stored}
+use Rattle.node.specs.declared.record.Item.{Item}
+use Rattle.node.specs.Records.{recordSize, mostRecords, recordOf, recordsOf, stored, TableRoom}
 use Rattle.node.proofs.Recorded.{length-record}
-use Rattle.text.specs.Text.{textOf}
+use Rattle.text.specs.Text.{readText}
 use Rattle.text.specs.declared.Text.the-variants.{Found}
 use Rattle.arguments.specs.Arguments.{Args, refused, args, readArgs}
 use Rattle.arguments.specs.CodeReadings.{measured, keptOf, ArgsRoom}
 use Rattle.arguments.specs.declared.Measured.the-variants as measure
-use Rattle.packet.specs.Packet.{Out, fault, one, Elements, upto, after, messageWith, readMessage, bundleWith, filling}
+use Rattle.packet.specs.Packet.{Out, fault, one, Elements, upto, after, messageItem, messageWith, readMessage, bundleItem, bundleWith, filling}
 use Rattle.packet.specs.Heads.{tagsIn}
 use Rattle.packet.specs.Packet.{readPacket, readElements, readBundle, readElement, usedBy, treesIn}
 use Rattle.packet.specs.Heads.{startOf, sizeOf}
-use Rattle.fill.specs.CodeFill.{treeOf, reread, TableRoom, Fills, Known}
+use Rattle.fill.specs.CodeFill.{treeOf, reread, Fills, Known}
 use Rattle.packet.specs.declared.Start.the-variants as start
 use Rattle.packet.specs.declared.ElementSize.the-variants as sized
 use Rattle.fill.specs.declared.Reread.{Reread}
@@ -51,11 +51,11 @@ known-refused {k} {o} {count} w e =
 
 reread-after : (p n : ℕ) (o : Out) → reread (p + n) o ≡ reread p (after n o)
 reread-after p n (fault k) = refl
-reread-after p n (one k a b f u) = rw add-assoc
+reread-after p n (one item f u) = rw add-assoc
 
 tree-after : (n : ℕ) (o : Out) → treeOf (after n o) ≡ treeOf o
 tree-after n (fault k) = refl
-tree-after n (one k a b f u) = refl
+tree-after n (one item f u) = refl
 
 -- what o' is after n more bytes
 module _ {o : Out} (n : ℕ) (o' : Out) (e : o ≡ after n o') where
@@ -79,13 +79,14 @@ module _ {o : Out} (n : ℕ) (o' : Out) (e : o ≡ after n o') where
 -- ---- packets
 
 module _ (base : ℕ) (l rest : List ℕ) (p : ℕ) where
-  module _ {n used : ℕ} (e : start.Message n used ≡ startOf l p) (s : rest ≡ drop used l) where
+  module _ {n used : ℕ} {item : Item} (e : start.Message n used ≡ startOf l p) (d : item ≡ messageItem (base + p) n)
+      (s : rest ≡ drop used l) where
     -- the message that the packet is
     abbrev message : Out
-    message = readMessage base (base + p) n rest (p + used)
+    message = readMessage base item rest (p + used)
 
     message-packet : readPacket base l p ≡ after used message
-    message-packet = starts-message base l p e ∙ rw s
+    message-packet = starts-message base l p e ∙ rw (s, d)
 
     -- room for the packet is room for its message
     pub message-room : {i : ℕ} {T : List ℕ} → TableRoom (treeOf (readPacket base l p)) i T → TableRoom (treeOf message) i T
@@ -128,11 +129,11 @@ endsAt q Nothing = Nothing
 
 reread-filling : (p n : ℕ) (o : Out) → endsAt (p + n) (reread p o) ≡ reread p (filling n o)
 reread-filling p n (fault k) = refl
-reread-filling p n (one k a b f u) = refl
+reread-filling p n (one item f u) = refl
 
 tree-filling : (n : ℕ) (o : Out) → treeOf (filling n o) ≡ treeOf o
 tree-filling n (fault k) = refl
-tree-filling n (one k a b f u) = refl
+tree-filling n (one item f u) = refl
 
 module _ {n : ℕ} (base : ℕ) (l part : List ℕ) (p : ℕ) (e : sized.Holds n ≡ sizeOf l) (s : part ≡ take n (drop 4 l)) where
   packet-element : readElement base l p ≡ filling n (readPacket base part (p + 4))
@@ -156,64 +157,64 @@ module _ {n : ℕ} (base : ℕ) (l part : List ℕ) (p : ℕ) (e : sized.Holds n
 -- ---- messages
 
 -- a message's own record and its arguments', where it is accepted
-module _ {count : ℕ} (offset n : ℕ) (o : Args) (k : Known (messageWith offset n o) count) where
+module _ {count : ℕ} (item : Item) (o : Args) (k : Known (messageWith item o) count) where
   -- room for the message leaves room for its arguments in what follows its own record
-  pub put-room : {i : ℕ} {T P : List ℕ} → TableRoom (treeOf (messageWith offset n o)) i T → length P ≡ length T - recordSize
+  pub put-room : {i : ℕ} {T P : List ℕ} → TableRoom (treeOf (messageWith item o)) i T → length P ≡ length T - recordSize
       → ArgsRoom o (i + 1) P
   unfolding size
   put-room {i} {T} {P} w e = by-args o (k .some) (k .records) (w .fits) (w .low)
     where
-      by-args : (o : Args) → 1 ≤ count → size (treeOf (messageWith offset n o)) ≡ count
-          → recordSize * size (treeOf (messageWith offset n o)) ≤ length T
-          → i + size (treeOf (messageWith offset n o)) ≤ 65535 → ArgsRoom o (i + 1) P
+      by-args : (o : Args) → 1 ≤ count → size (treeOf (messageWith item o)) ≡ count
+          → recordSize * size (treeOf (messageWith item o)) ≤ length T
+          → i + size (treeOf (messageWith item o)) ≤ mostRecords → ArgsRoom o (i + 1) P
       by-args (refused j) h c f l = absurd (omega arith)
-      by-args (args f u) h c g l = record { accepted = tt; fits = omega arith; low = omega arith }
+      by-args (args f u) h c g l = record { accepted = tt; room = record { fits = omega arith; low = omega arith } }
 
   -- its record was written, and after that its arguments'
-  pub put-stored : {T T₁ P : List ℕ} (i : ℕ) → number.Wrote (recordOf 47 (i + count) offset n) T T₁
+  pub put-stored : {T T₁ P : List ℕ} (i : ℕ) → number.Wrote (recordOf item (i + count)) T T₁
       → number.Wrote (recordsOf (i + 1) (keptOf o)) (midOf recordSize (length T₁ - recordSize) T₁) P
-      → putMid recordSize (length T₁ - recordSize) T₁ P ≡ stored i (treeOf (messageWith offset n o)) T
+      → putMid recordSize (length T₁ - recordSize) T₁ P ≡ stored i (treeOf (messageWith item o)) T
   unfolding size
   put-stored {T} {T₁} {P} i w v =
-      by-args o (k .some) (k .records) (wrote-lent recordSize w (length-record 47 (i + count) offset n) v)
+      by-args o (k .some) (k .records) (wrote-lent recordSize w (length-record item (i + count)) v)
     where
-      by-args : (o : Args) → 1 ≤ count → size (treeOf (messageWith offset n o)) ≡ count
-          → number.Wrote (recordOf 47 (i + count) offset n ++ recordsOf (i + 1) (keptOf o)) T
+      by-args : (o : Args) → 1 ≤ count → size (treeOf (messageWith item o)) ≡ count
+          → number.Wrote (recordOf item (i + count) ++ recordsOf (i + 1) (keptOf o)) T
           (putMid recordSize (length T₁ - recordSize) T₁ P)
-          → putMid recordSize (length T₁ - recordSize) T₁ P ≡ stored i (treeOf (messageWith offset n o)) T
+          → putMid recordSize (length T₁ - recordSize) T₁ P ≡ stored i (treeOf (messageWith item o)) T
       by-args (refused j) h c w = absurd (omega arith)
       by-args (args f u) h c w =
           let z : i + count ≡ i + 1 + size f = omega arith in
-          wrote-stored i (node 47 offset n f nil) (rw (z, node-records i 47 offset n f) at w)
+          wrote-stored i (node item f nil) (rw (z, node-records i item f) at w)
 
-module _ {m used : ℕ} {tags rest : List ℕ} (base offset n : ℕ) (l : List ℕ) (p : ℕ) (e : Found m used ≡ textOf l p)
+module _ {m used : ℕ} {tags rest : List ℕ} (base : ℕ) (item : Item) (l : List ℕ) (p : ℕ) (e : Found m used ≡ readText l p)
     (t : tags ≡ tagsIn (take m l)) (s : rest ≡ drop used l) where
   -- the message by its arguments
   abbrev given : Out
-  given = messageWith offset n (readArgs base tags rest (p + used))
+  given = messageWith item (readArgs base tags rest (p + used))
 
-  with-args : readMessage base offset n l p ≡ after used given
-  with-args = types-found base offset n l p e ∙ rw (t, s)
+  with-args : readMessage base item l p ≡ after used given
+  with-args = types-found base item l p e ∙ rw (t, s)
 
   -- a message is refused with its arguments
-  pub args-refused : {k : Fault} → measure.Refused k ≡ measured (readArgs base tags rest (p + used)) → readMessage base offset n l p ≡ fault k
+  pub args-refused : {k : Fault} → measure.Refused k ≡ measured (readArgs base tags rest (p + used)) → readMessage base item l p ≡ fault k
   unfolding measured
   args-refused {k} g = with-args ∙ by-args (readArgs base tags rest (p + used)) g
     where
-      by-args : (o : Args) → measure.Refused k ≡ measured o → after used (messageWith offset n o) ≡ fault k
+      by-args : (o : Args) → measure.Refused k ≡ measured o → after used (messageWith item o) ≡ fault k
       by-args (refused j) g = let z : k ≡ j = cc in rw z
       by-args (args f u) g = let z : _≡_ {A = ℕ} 0 1 = cc in absurd (omega arith)
 
   -- room for a message, by its arguments
-  pub args-room : {i : ℕ} {T : List ℕ} → TableRoom (treeOf (readMessage base offset n l p)) i T → TableRoom (treeOf given) i T
+  pub args-room : {i : ℕ} {T : List ℕ} → TableRoom (treeOf (readMessage base item l p)) i T → TableRoom (treeOf given) i T
   args-room w = room-after used given with-args w
 
   -- what is known of a message, by its arguments
-  pub args-known : {count : ℕ} → Known (readMessage base offset n l p) count → Known given count
+  pub args-known : {count : ℕ} → Known (readMessage base item l p) count → Known given count
   args-known k = known-after used given with-args k
 
   -- a message is written where its record and its arguments' are
-  pub args-stored : {T' : List ℕ} (i : ℕ) (T : List ℕ) → T' ≡ stored i (treeOf given) T → T' ≡ stored i (treeOf (readMessage base offset n l p)) T
+  pub args-stored : {T' : List ℕ} (i : ℕ) (T : List ℕ) → T' ≡ stored i (treeOf given) T → T' ≡ stored i (treeOf (readMessage base item l p)) T
   args-stored i T w = stored-after used given with-args i T w
 
   module _ {count taken : ℕ} (g : measure.Kept count taken ≡ measured (readArgs base tags rest (p + used))) where
@@ -222,7 +223,7 @@ module _ {m used : ℕ} {tags rest : List ℕ} (base offset n : ℕ) (l : List �
     unfolding measured size
     kept-known = by-args (readArgs base tags rest (p + used)) g
       where
-        by-args : (o : Args) → measure.Kept count taken ≡ measured o → Known (messageWith offset n o) (1 + count)
+        by-args : (o : Args) → measure.Kept count taken ≡ measured o → Known (messageWith item o) (1 + count)
         by-args (refused j) g = let z : _≡_ {A = ℕ} 0 1 = cc in absurd (omega arith)
         by-args (args f u) g = let z : count ≡ size f = cc in record { some = omega arith; records = omega arith }
 
@@ -231,13 +232,13 @@ module _ {m used : ℕ} {tags rest : List ℕ} (base offset n : ℕ) (l : List �
     kept-answer = by-args (readArgs base tags rest (p + used)) g
       where
         by-args : (o : Args) → measure.Kept count taken ≡ measured o
-            → Wrote (1 + count) (p + used + taken) ≡ reread (p + used) (messageWith offset n o)
+            → Wrote (1 + count) (p + used + taken) ≡ reread (p + used) (messageWith item o)
         by-args (refused j) g = let z : _≡_ {A = ℕ} 0 1 = cc in absurd (omega arith)
         by-args (args f u) g = let z : count ≡ size f = cc in let y : taken ≡ u = cc in rw (z, y)
 
     -- the answer of a message that was written
     pub message-fills : {T' : List ℕ} (i : ℕ) (T : List ℕ) → T' ≡ stored i (treeOf given) T
-        → Fills (readMessage base offset n l p) p i T (Wrote (1 + count) (p + used + taken)) T'
+        → Fills (readMessage base item l p) p i T (Wrote (1 + count) (p + used + taken)) T'
     message-fills i T w = fills-after used given with-args (record { answered = kept-answer; table = w })
 
 -- ---- bundles
@@ -245,17 +246,17 @@ module _ {m used : ℕ} {tags rest : List ℕ} (base offset n : ℕ) (l : List �
 module _ (base : ℕ) (l : List ℕ) (p : ℕ) where
   -- room for the bundle's own record and for those of its elements
   pub contents-room : {i : ℕ} {T : List ℕ} → 8 ≤ length l → TableRoom (treeOf (readBundle base l p)) i T
-      → TableRoom (node 35 0 0 (treesIn (contents base l p)) nil) i T
+      → TableRoom (node (bundleItem l) (treesIn (contents base l p)) nil) i T
   unfolding size
   contents-room {i} {T} h w = by-elements (contents base l p) (rw (bundle-long base l p h) at w)
     where
-      by-elements : (k : Elements) → TableRoom (treeOf (bundleWith (number 4 l) (number 4 (drop 4 l)) k)) i T
-          → TableRoom (node 35 0 0 (treesIn k) nil) i T
+      by-elements : (k : Elements) → TableRoom (treeOf (bundleWith (bundleItem l) k)) i T
+          → TableRoom (node (bundleItem l) (treesIn k) nil) i T
       by-elements (upto f u) v = record { fits = v .fits; low = v .low }
 
 is-none : (p : ℕ) (o : Out) → Nothing ≡ reread p o → treeOf o ≡ nil
 is-none p (fault k) e = refl
-is-none p (one k a b f u) e = let z : _≡_ {A = ℕ} 0 1 = cc in absurd (omega arith)
+is-none p (one item f u) e = let z : _≡_ {A = ℕ} 0 1 = cc in absurd (omega arith)
 
 -- what is written of the next element is among what is written of all that are left
 next-room : (base : ℕ) (m : List ℕ) (q : ℕ) → size (treeOf (readElement base m q)) ≤ size (treesIn (readElements base m q))
@@ -264,7 +265,7 @@ next-room base m q = by-out (readElement base m q) refl
   where
     by-out : (o : Out) → readElement base m q ≡ o → size (treeOf o) ≤ size (treesIn (readElements base m q))
     by-out (fault k) e = omega arith
-    by-out (one k a b f u) e = omega (arith, ap size (first-trees base m q e))
+    by-out (one item f u) e = omega (arith, ap size (first-trees base m q e))
 
 -- an element that was written, and one of which nothing was
 tree-step : {n next : ℕ} (base : ℕ) (m : List ℕ) (q : ℕ) → Wrote n next ≡ reread (q + 4) (readElement base m q) → Stepped base m q n next
@@ -272,19 +273,19 @@ tree-step {n} {next} base m q h = by-out (readElement base m q) refl h
   where
     by-out : (o : Out) → readElement base m q ≡ o → Wrote n next ≡ reread (q + 4) o → Stepped base m q n next
     by-out (fault k) e g = let z : _≡_ {A = ℕ} 0 1 = cc in absurd (omega arith)
-    by-out (one k a b f u) e g = let en : n ≡ 1 + size f = cc in let ee : next ≡ q + 4 + u = cc in rw (en, ee) (stepped base m q e)
+    by-out (one item f u) e g = let en : n ≡ 1 + size f = cc in let ee : next ≡ q + 4 + u = cc in rw (en, ee) (stepped base m q e)
 
 no-step : (base : ℕ) (m : List ℕ) (q : ℕ) → Nothing ≡ reread (q + 4) (readElement base m q) → readElements base m q ≡ upto nil 0
 no-step base m q h = by-out (readElement base m q) refl h
   where
     by-out : (o : Out) → readElement base m q ≡ o → Nothing ≡ reread (q + 4) o → readElements base m q ≡ upto nil 0
     by-out (fault k) e g = ended base m q e
-    by-out (one k a b f u) e g = let z : _≡_ {A = ℕ} 0 1 = cc in absurd (omega arith)
+    by-out (one item f u) e g = let z : _≡_ {A = ℕ} 0 1 = cc in absurd (omega arith)
 
-with-elements : {c q : ℕ} {Z : List ℕ} (p i x y : ℕ) (T : List ℕ) (k : Elements) → c ≡ 1 + size (treesIn k) → q ≡ p + (8 + usedBy k)
-    → Z ≡ stored i (node 35 x y (treesIn k) nil) T
-    → Fills (bundleWith x y k) p i T (Wrote c q) Z
-with-elements p i x y T (upto f u) ec eq et = record { answered = rw (ec, eq); table = et }
+with-elements : {c q : ℕ} {Z : List ℕ} (p i : ℕ) (item : Item) (T : List ℕ) (k : Elements) → c ≡ 1 + size (treesIn k) → q ≡ p + (8 + usedBy k)
+    → Z ≡ stored i (node item (treesIn k) nil) T
+    → Fills (bundleWith item k) p i T (Wrote c q) Z
+with-elements p i item T (upto f u) ec eq et = record { answered = rw (ec, eq); table = et }
 
 -- the bundle l at p is written to T, which was T₀, from index i on: c records have their place, and the elements from m on, at q, are left
 pub record Filling (base : ℕ) (l : List ℕ) (p i : ℕ) (T₀ T m : List ℕ) (q c : ℕ) : Type 0 where
@@ -298,14 +299,14 @@ pub filling-start : (base : ℕ) (l : List ℕ) (p i : ℕ) (T : List ℕ) → F
 filling-start base l p i T = record { counted = counted-start base l p; some = omega arith; same = refl; left = rw (tail l 8) }
 
 module _ (base : ℕ) (l : List ℕ) (p i : ℕ) (T₀ T m : List ℕ) (q c : ℕ) (w : Filling base l p i T₀ T m q c)
-    (r : TableRoom (node 35 0 0 (treesIn (contents base l p)) nil) i T₀) where
+    (r : TableRoom (node (bundleItem l) (treesIn (contents base l p)) nil) i T₀) where
   -- the table that is lent for the next element
   abbrev later : List ℕ
   later = midOf (recordSize * c) (length T - recordSize * c) T
 
   -- records that have their place fit
   pub filling-fits : (recordSize * (c + size (treesIn (readElements base m q))) ≤ length T) ×
-      (i + (c + size (treesIn (readElements base m q))) ≤ 65535)
+      (i + (c + size (treesIn (readElements base m q))) ≤ mostRecords)
   unfolding size
   filling-fits = (omega (arith, r .fits), omega (arith, r .low))
 
@@ -322,12 +323,12 @@ module _ (base : ℕ) (l : List ℕ) (p i : ℕ) (T₀ T m : List ℕ) (q c : �
       → Stepped base m q n next
   filling-step f z = tree-step base m q (sym z ∙ f .answered)
 
-  filling-one : {k a b u : ℕ} {g : Forest} {x : Reread} {Y : List ℕ} → readElement base m q ≡ one k a b g u
+  filling-one : {item : Item} {u : ℕ} {g : Forest} {x : Reread} {Y : List ℕ} → readElement base m q ≡ one item g u
       → Fills (readElement base m q) (q + 4) (i + c) later x Y
       → Filling base l p i T₀ (putMid (recordSize * c) (length T - recordSize * c) T Y)
       (take (length m - (q + 4 + u - q)) (drop (q + 4 + u - q) m)) (q + 4 + u) (c + (1 + size g))
-  filling-one {k} {a} {b} {u} {g} {x} {Y} e f =
-      let N = node k a b g nil in
+  filling-one {item} {u} {g} {x} {Y} e f =
+      let N = node item g nil in
       let put : putMid (recordSize * c) (length T - recordSize * c) T Y ≡ completed T c (i + c) N
       = lent-stored T c (i + c) N (f .table ∙ ap (λ (o : Out). stored (i + c) (treeOf o) later) e) in
       let fit : recordSize * (c + size N) ≤ length T = omega
@@ -339,7 +340,7 @@ module _ (base : ℕ) (l : List ℕ) (p i : ℕ) (T₀ T m : List ℕ) (q c : �
         same = ap length put ∙ length-completed T c (i + c) N fit ∙ w .same;
         left =
             rw (tail m (q + 4 + u - q), sum, first-rest base m q e)
-            (completed-turn T c (1 + size g) (i + c) k a b g (treesIn (readElements base (drop (4 + u) m) (q + (4 + u)))) (omega arith) refl put
+            (completed-turn T c (1 + size g) (i + c) item g (treesIn (readElements base (drop (4 + u) m) (q + (4 + u)))) (omega arith) refl put
             ∙ ap (λ (h : Forest). completed T c (i + c) h) (sym (first-trees base m q e)) ∙ w .left);
       }
 
@@ -353,24 +354,24 @@ module _ (base : ℕ) (l : List ℕ) (p i : ℕ) (T₀ T m : List ℕ) (q c : �
           → Filling base l p i T₀ (putMid (recordSize * c) (length T - recordSize * c) T Y)
           (take (length m - (next - q)) (drop (next - q) m)) next (c + n)
       by-out (fault k) e h = let z : _≡_ {A = ℕ} 0 1 = cc in absurd (omega arith)
-      by-out (one k a b g u) e h = let en : n ≡ 1 + size g = cc in let ee : next ≡ q + 4 + u = cc in rw (en, ee) (filling-one e f)
+      by-out (one item g u) e h = let en : n ≡ 1 + size g = cc in let ee : next ≡ q + 4 + u = cc in rw (en, ee) (filling-one e f)
 
   -- no element follows: the bundle's own record is written
-  pub filling-done : {x : Reread} {a b : ℕ} {Y Z : List ℕ} → 8 ≤ length l → Fills (readElement base m q) (q + 4) (i + c) later x Y → x ≡ Nothing
-      → a ≡ number 4 l → b ≡ number 4 (drop 4 l)
-      → number.Wrote (recordOf 35 (i + c) a b) (putMid (recordSize * c) (length T - recordSize * c) T Y) Z
+  pub filling-done : {x : Reread} {item : Item} {Y Z : List ℕ} → 8 ≤ length l → Fills (readElement base m q) (q + 4) (i + c) later x Y
+      → x ≡ Nothing → item ≡ bundleItem l
+      → number.Wrote (recordOf item (i + c)) (putMid (recordSize * c) (length T - recordSize * c) T Y) Z
       → Fills (readBundle base l p) p i T₀ (Wrote c q) Z
   unfolding size
-  filling-done {x} {a} {b} {Y} {Z} h f z ea eb v =
+  filling-done {x} {item} {Y} {Z} h f z e v =
       let none : readElements base m q ≡ upto nil 0 = no-step base m q (sym z ∙ f .answered) in
       let flat : treesIn (readElements base m q) ≡ nil = ap treesIn none in
-      let no-tree : treeOf (readElement base m q) ≡ treesIn (readElements base m q) = is-none (q + 4) (readElement base m q) (sym z ∙ f .answered)
-      ∙ sym flat in
+      let no-tree : treeOf (readElement base m q) ≡ treesIn (readElements base m q)
+      = is-none (q + 4) (readElement base m q) (sym z ∙ f .answered) ∙ sym flat in
       let no-size : size (treesIn (readElements base m q)) ≡ 0 = ap size flat in
       let no-use : usedBy (readElements base m q) ≡ 0 = ap usedBy none in
       let put : putMid (recordSize * c) (length T - recordSize * c) T Y ≡ completed T₀ 1 (i + 1) (treesIn (contents base l p))
       = lent-stored T c (i + c) (treesIn (readElements base m q)) (f .table ∙ ap (λ (g : Forest). stored (i + c) g later) no-tree) ∙ w .left in
-      let tab : Z ≡ stored i (node 35 a b (treesIn (contents base l p)) nil) T₀
-      = completed-node T₀ i 35 a b (i + c) (treesIn (contents base l p)) (omega (arith, r .fits)) put (omega (arith, w .counted)) v in
-      rw (bundle-long base l p h, ← ea, ← eb)
-      (with-elements p i a b T₀ (contents base l p) (omega (arith, w .counted)) (omega (arith, w .counted)) tab)
+      let tab : Z ≡ stored i (node item (treesIn (contents base l p)) nil) T₀
+      = completed-node T₀ i item (i + c) (treesIn (contents base l p)) (omega (arith, r .fits)) put (omega (arith, w .counted)) v in
+      rw (bundle-long base l p h, ← e)
+      (with-elements p i item T₀ (contents base l p) (omega (arith, w .counted)) (omega (arith, w .counted)) tab)

@@ -1,11 +1,10 @@
--- What the second reading of a packet answers and leaves in a table that has room. These describe code, not the document.
+-- Describes code, and no part of the document: what the second reading of a packet answers and leaves in a table that has room.
 -- A position that is answered is the one after the last byte that was read.
 use mathlib.Core.Path.{_≡_}
 use mathlib.Core.List.{List}
-use Prim.Native.Nat.{ℕ, _+_, _*_, _≤_}
-use lib.ListN.{length}
+use Prim.Native.Nat.{ℕ, _+_, _≤_}
 use Rattle.node.specs.Forest.{Forest, nil, node, size}
-use Rattle.node.specs.Records.{recordSize, stored}
+use Rattle.node.specs.Records.{stored}
 use Rattle.packet.specs.Packet.{Out, fault, one}
 use Rattle.fill.specs.declared.Reread.{Reread}
 use Rattle.fill.specs.declared.Reread.the-variants.{Wrote, Nothing}
@@ -13,17 +12,12 @@ use Rattle.fill.specs.declared.Reread.the-variants.{Wrote, Nothing}
 -- the tree that is written: none of a packet that is refused
 abbrev pub treeOf : Out → Forest
 treeOf (fault k) = nil
-treeOf (one kind a b inside used) = node kind a b inside nil
+treeOf (one item inside used) = node item inside nil
 
 -- what the second reading of a packet at position p answers
 abbrev pub reread : ℕ → Out → Reread
 reread p (fault k) = Nothing
-reread p (one kind a b inside used) = Wrote (1 + size inside) (p + used)
-
--- a table has room for a forest's records, the first of which has index i
-pub record TableRoom (f : Forest) (i : ℕ) (table : List ℕ) : Type 0 where
-  pub fits : recordSize * size f ≤ length table
-  pub low : i + size f ≤ 65535
+reread p (one item inside used) = Wrote (1 + size inside) (p + used)
 
 -- a packet at position p was written to a table, from index i on
 pub record Fills (o : Out) (p i : ℕ) (before : List ℕ) (answer : Reread) (after : List ℕ) : Type 0 where

@@ -1,17 +1,18 @@
 // The second reading of a packet: its records are written to the front of a table that has room for them.
 use arguments::Measured;
 use node::record;
+use node::record::Item;
 use packet::ElementSize;
 use packet::Start;
 use text::Text;
-use wire::be_u32;
 ghost use mathlib.Core.Path.{_≡_};
 ghost use Prim.Native.Nat.{_+_, _≤_};
 ghost use lib.ListN.{length};
+ghost use Rattle.wire.specs.Limits.{longest};
 ghost use Rattle.arguments.specs.Arguments.{readArgs};
 ghost use Rattle.packet.specs.Packet.{messageWith, readMessage, readPacket, readBundle, readElement};
-ghost use Rattle.node.specs.Records.{stored};
-ghost use Rattle.fill.specs.CodeFill.{treeOf, TableRoom, Fills, Known};
+ghost use Rattle.node.specs.Records.{stored, TableRoom};
+ghost use Rattle.fill.specs.CodeFill.{treeOf, Fills, Known};
 
 // What the second reading of a packet answers.
 pub enum Reread {
@@ -29,19 +30,18 @@ pub fn decode_packet(
     table: &mut [u8],
     index: usize,
 ) -> Reread
-    requires { ⌜ base + pos + length (now input) ≤ 65535 ⌝ }
+    requires { ⌜ base + pos + length (now input) ≤ longest ⌝ }
     requires { ⌜ TableRoom (treeOf (readPacket base (now input) pos)) index (now table) ⌝ }
     ensures { λ r. ⌜ Fills (readPacket base (now (input .entry)) pos) pos index (now (table .entry)) r (now (table .exit)) ⌝ }
 {
     match packet::read_start(input, pos) {
         Start::Message { length, used } => {
-            let offset = base + pos;
+            let item = packet::message_item(base + pos, length);
             decode_message(
                 &input[used..],
                 base,
                 pos + used,
-                offset,
-                length,
+                item,
                 table,
                 index,
             )
@@ -51,20 +51,19 @@ pub fn decode_packet(
     }
 }
 
-// What follows the address of a message, whose `n` bytes stand at `offset`. Its arguments are measured before the first
+// What follows the address of the message with these own numbers. Its arguments are measured before the first
 // record is written: in a bundle the message may be refused.
 fn decode_message(
     input: &[u8],
     base: usize,
     pos: usize,
-    offset: usize,
-    n: usize,
+    item: Item,
     table: &mut [u8],
     index: usize,
 ) -> Reread
-    requires { ⌜ (base + pos + length (now input) ≤ 65535) × (offset ≤ 65535) × (n ≤ 65535) ⌝ }
-    requires { ⌜ TableRoom (treeOf (readMessage base offset n (now input) pos)) index (now table) ⌝ }
-    ensures { λ r. ⌜ Fills (readMessage base offset n (now (input .entry)) pos) pos index (now (table .entry)) r (now (table .exit)) ⌝ }
+    requires { ⌜ base + pos + length (now input) ≤ longest ⌝ }
+    requires { ⌜ TableRoom (treeOf (readMessage base item (now input) pos)) index (now table) ⌝ }
+    ensures { λ r. ⌜ Fills (readMessage base item (now (input .entry)) pos) pos index (now (table .entry)) r (now (table .exit)) ⌝ }
 {
     match text::read_osc_string(input, pos) {
         Text::Found { length, used } => {
@@ -77,8 +76,7 @@ fn decode_message(
                         rest,
                         base,
                         pos + used,
-                        offset,
-                        n,
+                        item,
                         table,
                         index,
                         1 + count,
@@ -97,7 +95,7 @@ fn decode_message(
 
 // What follows "#bundle". The bundle's own record is written last, when its end is known.
 fn decode_bundle(input: &[u8], base: usize, pos: usize, table: &mut [u8], index: usize) -> Reread
-    requires { ⌜ base + pos + length (now input) ≤ 65535 ⌝ }
+    requires { ⌜ base + pos + length (now input) ≤ longest ⌝ }
     requires { ⌜ TableRoom (treeOf (readBundle base (now input) pos)) index (now table) ⌝ }
     ensures { λ r. ⌜ Fills (readBundle base (now (input .entry)) pos) pos index (now (table .entry)) r (now (table .exit)) ⌝ }
 {
@@ -121,13 +119,8 @@ fn decode_bundle(input: &[u8], base: usize, pos: usize, table: &mut [u8], index:
                 at = next;
             }
             Reread::Nothing => {
-                record::put_record(
-                    table,
-                    b'#',
-                    (index + count) as u32,
-                    be_u32(input, 0),
-                    be_u32(input, 4),
-                );
+                let end = index + count;
+                record::put_record(table, packet::bundle_item(input), end as u32);
                 return Reread::Wrote { count, next: at };
             }
         }
@@ -142,7 +135,7 @@ fn read_bundle_element(
     table: &mut [u8],
     index: usize,
 ) -> Reread
-    requires { ⌜ base + pos + length (now input) ≤ 65535 ⌝ }
+    requires { ⌜ base + pos + length (now input) ≤ longest ⌝ }
     requires { ⌜ TableRoom (treeOf (readElement base (now input) pos)) index (now table) ⌝ }
     ensures { λ r. ⌜ Fills (readElement base (now (input .entry)) pos) (pos + 4) index (now (table .entry)) r (now (table .exit)) ⌝ }
 {
@@ -169,20 +162,19 @@ pub fn write_packet(
     index: usize,
     count: usize,
 )
-    requires { ⌜ base + pos + length (now input) ≤ 65535 ⌝ }
+    requires { ⌜ base + pos + length (now input) ≤ longest ⌝ }
     requires { ⌜ TableRoom (treeOf (readPacket base (now input) pos)) index (now table) ⌝ }
     requires { ⌜ Known (readPacket base (now input) pos) count ⌝ }
     ensures { λ _. ⌜ now (table .exit) ≡ stored index (treeOf (readPacket base (now (input .entry)) pos)) (now (table .entry)) ⌝ }
 {
     match packet::read_start(input, pos) {
         Start::Message { length, used } => {
-            let offset = base + pos;
+            let item = packet::message_item(base + pos, length);
             write_message(
                 &input[used..],
                 base,
                 pos + used,
-                offset,
-                length,
+                item,
                 table,
                 index,
                 count,
@@ -200,16 +192,15 @@ fn write_message(
     input: &[u8],
     base: usize,
     pos: usize,
-    offset: usize,
-    n: usize,
+    item: Item,
     table: &mut [u8],
     index: usize,
     count: usize,
 )
-    requires { ⌜ (base + pos + length (now input) ≤ 65535) × (offset ≤ 65535) × (n ≤ 65535) ⌝ }
-    requires { ⌜ TableRoom (treeOf (readMessage base offset n (now input) pos)) index (now table) ⌝ }
-    requires { ⌜ Known (readMessage base offset n (now input) pos) count ⌝ }
-    ensures { λ _. ⌜ now (table .exit) ≡ stored index (treeOf (readMessage base offset n (now (input .entry)) pos)) (now (table .entry)) ⌝ }
+    requires { ⌜ base + pos + length (now input) ≤ longest ⌝ }
+    requires { ⌜ TableRoom (treeOf (readMessage base item (now input) pos)) index (now table) ⌝ }
+    requires { ⌜ Known (readMessage base item (now input) pos) count ⌝ }
+    ensures { λ _. ⌜ now (table .exit) ≡ stored index (treeOf (readMessage base item (now (input .entry)) pos)) (now (table .entry)) ⌝ }
 {
     match text::read_osc_string(input, pos) {
         Text::Found { length, used } => {
@@ -219,8 +210,7 @@ fn write_message(
                 &input[used..],
                 base,
                 pos + used,
-                offset,
-                n,
+                item,
                 table,
                 index,
                 count,
@@ -236,19 +226,17 @@ fn put_message(
     input: &[u8],
     base: usize,
     pos: usize,
-    offset: usize,
-    n: usize,
+    item: Item,
     table: &mut [u8],
     index: usize,
     count: usize,
 )
-    requires { ⌜ (base + pos + length (now input) ≤ 65535) × (offset ≤ 65535) × (n ≤ 65535) ⌝ }
-    requires { ⌜ TableRoom (treeOf (messageWith offset n (readArgs base (now tags) (now input) pos))) index (now table) ⌝ }
-    requires { ⌜ Known (messageWith offset n (readArgs base (now tags) (now input) pos)) count ⌝ }
-    ensures { λ _. ⌜ now (table .exit) ≡ stored index (treeOf (messageWith offset n (readArgs base (now (tags .entry)) (now (input .entry)) pos))) (now (table .entry)) ⌝ }
+    requires { ⌜ base + pos + length (now input) ≤ longest ⌝ }
+    requires { ⌜ TableRoom (treeOf (messageWith item (readArgs base (now tags) (now input) pos))) index (now table) ⌝ }
+    requires { ⌜ Known (messageWith item (readArgs base (now tags) (now input) pos)) count ⌝ }
+    ensures { λ _. ⌜ now (table .exit) ≡ stored index (treeOf (messageWith item (readArgs base (now (tags .entry)) (now (input .entry)) pos))) (now (table .entry)) ⌝ }
 {
-    let end = index + count;
-    record::put_record(table, b'/', end as u32, offset as u32, n as u32);
+    record::put_record(table, item, (index + count) as u32);
     let later = &mut table[record::RECORD_SIZE..];
     arguments::read_osc_args(tags, input, base, pos, later, index + 1);
 }

@@ -13,13 +13,14 @@ use Rattle.refusal.specs.declared.Fault.the-variants as faults
 use Rattle.wire.proofs.Choices.{by-test, by-le, by-both}
 use Rattle.wire.proofs.Parts.{tail}
 use Rattle.node.specs.Forest.{Forest, nil, size, depth, level}
-use Rattle.text.specs.Text.{textOf}
+use Rattle.node.specs.declared.record.Item.{Item}
+use Rattle.text.specs.Text.{readText}
 use Rattle.text.specs.declared.Text.the-variants.{Found}
 use Rattle.arguments.specs.Arguments.{Args, refused, args, readArgs}
 use Rattle.arguments.specs.CodeReadings.{measured}
 use Rattle.arguments.specs.declared.Measured.{Measured}
 use Rattle.arguments.specs.declared.Measured.the-variants as measure
-use Rattle.packet.specs.Packet.{Out, fault, one, Elements, upto, after, messageWith, readMessage, bundleWith, filling}
+use Rattle.packet.specs.Packet.{Out, fault, one, Elements, upto, after, messageItem, messageWith, readMessage, bundleItem, bundleWith, filling}
 use Rattle.packet.specs.Heads.{tagsIn}
 use Rattle.packet.specs.Packet.{readPacket, readElements, readBundle, readElement, usedBy, treesIn}
 use Rattle.packet.specs.Heads.{startOf, sizeOf}
@@ -49,31 +50,31 @@ messageExtent p (measure.Refused k) = Refused k
 pub extent-after : (room p n : ℕ) (o : Out) → extent room (p + n) o ≡ extent room p (after n o)
 unfolding extent
 extent-after room p n (fault k) = refl
-extent-after room p n (one k a b f u) = rw add-assoc
+extent-after room p n (one item f u) = rw add-assoc
 
-extent-message : (room p offset n : ℕ) (o : Args) → messageExtent p (measured o) ≡ extent room p (messageWith offset n o)
+extent-message : (room p offset n : ℕ) (o : Args) → messageExtent p (measured o) ≡ extent room p (messageWith (messageItem offset n) o)
 unfolding extent measured
 extent-message room p offset n (refused k) = refl
 extent-message room p offset n (args f u) = rw (leb·zero room)
 
 module _ (base offset n room : ℕ) (l : List ℕ) (p : ℕ) where
   -- the extent of a message is that of its arguments, after the type text
-  pub message-exit : {m used : ℕ} {x : Measured} {tags rest : List ℕ} → Found m used ≡ textOf l p → tags ≡ tagsIn (take m l)
+  pub message-exit : {m used : ℕ} {x : Measured} {tags rest : List ℕ} → Found m used ≡ readText l p → tags ≡ tagsIn (take m l)
       → rest ≡ drop used l
-      → x ≡ measured (readArgs base tags rest (p + used)) → messageExtent (p + used) x ≡ extent room p (readMessage base offset n l p)
+      → x ≡ measured (readArgs base tags rest (p + used)) → messageExtent (p + used) x ≡ extent room p (readMessage base (messageItem offset n) l p)
   message-exit {m} {used} {x} e t s g =
       let y : x ≡ measured (readArgs base (tagsIn (take m l)) (drop used l) (p + used)) = rw (t, s) at g in
       ap (messageExtent (p + used)) y
       ∙ extent-message room (p + used) offset n (readArgs base (tagsIn (take m l)) (drop used l) (p + used))
       ∙ extent-after room p used _
-      ∙ ap (extent room p) (sym (types-found base offset n l p e))
+      ∙ ap (extent room p) (sym (types-found base (messageItem offset n) l p e))
 
 -- ---- packets
 
 module _ (base room : ℕ) (l rest : List ℕ) (p : ℕ) where
   -- the extent of a packet that starts with an address is its message's
   pub packet-by-message : {n used : ℕ} {r : Extent} → start.Message n used ≡ startOf l p → rest ≡ drop used l
-      → r ≡ extent room (p + used) (readMessage base (base + p) n rest (p + used)) → r ≡ extent room p (readPacket base l p)
+      → r ≡ extent room (p + used) (readMessage base (messageItem (base + p) n) rest (p + used)) → r ≡ extent room p (readPacket base l p)
   packet-by-message {n} {used} e s g =
       g ∙ extent-after room p used _ ∙ ap (extent room p) (rw s (sym (starts-message base l p e)))
 
@@ -94,7 +95,7 @@ upTo q (Refused k) = Refused k
 extent-filling : (room p n : ℕ) (o : Out) → upTo (p + n) (extent room p o) ≡ extent room p (filling n o)
 unfolding extent
 extent-filling room p n (fault k) = refl
-extent-filling room p n (one k a b f u) = by-both (λ (x y : Extent). upTo (p + n) x ≡ y) (leb (level k (depth f)) room) refl refl
+extent-filling room p n (one item f u) = by-both (λ (x y : Extent). upTo (p + n) x ≡ y) (leb (level (item .kind) (depth f)) room) refl refl
 
 -- the extent of an element is that of its packet, which ends where the element ends
 pub element-by-packet : {n : ℕ} {r : Extent} (base room : ℕ) (l part : List ℕ) (p : ℕ) → sized.Holds n ≡ sizeOf l → part ≡ take n (drop 4 l)
@@ -114,7 +115,7 @@ ExtentIn p m (Refused k) = Unit {0}
 pub extent-in : (room p m : ℕ) (o : Out) → Within m o → ExtentIn p m (extent room p o)
 unfolding extent
 extent-in room p m (fault k) w = tt
-extent-in room p m (one k a b f u) w = by-test (ExtentIn p m) (leb (level k (depth f)) room) (λ _. omega arith) (λ _. tt)
+extent-in room p m (one item f u) w = by-test (ExtentIn p m) (leb (level (item .kind) (depth f)) room) (λ _. omega arith) (λ _. tt)
 
 -- a tree has a record at least, no more than bytes, and ends within its part
 pub tree-in : {c next : ℕ} (room p m : ℕ) (o : Out) → Within m o → Tree c next ≡ extent room p o → (1 ≤ c) × (p + c ≤ next) × (next ≤ p + m)
@@ -122,11 +123,11 @@ tree-in room p m o w e = subst (ExtentIn p m) (sym e) (extent-in room p m o w)
 
 -- ---- bundles
 
-extent-bundle : (room p a b : ℕ) (k : Elements)
-    → extent room p (bundleWith a b k) ≡ cond (leb (depth (treesIn k) + 1) room) (Tree (1 + size (treesIn k)) (p + (8 + usedBy k)))
+extent-bundle : (room p : ℕ) (l : List ℕ) (k : Elements)
+    → extent room p (bundleWith (bundleItem l) k) ≡ cond (leb (depth (treesIn k) + 1) room) (Tree (1 + size (treesIn k)) (p + (8 + usedBy k)))
     (Deep (p + (8 + usedBy k)))
 unfolding extent
-extent-bundle room p a b (upto f u) = refl
+extent-bundle room p l (upto f u) = refl
 
 module _ (base : ℕ) (l : List ℕ) (p : ℕ) where
   -- too deep: where its elements end
@@ -134,14 +135,14 @@ module _ (base : ℕ) (l : List ℕ) (p : ℕ) where
       → x ≡ p + 8 + usedBy (contents base l p) → Deep x ≡ extent room p (readBundle base l p)
   bundle-deep {x} room h d e =
       let u : x ≡ p + (8 + usedBy (contents base l p)) = omega arith in
-      sym (ap (extent room p) (bundle-long base l p h) ∙ extent-bundle room p _ _ (contents base l p) ∙ rw (lt-leb _ _ d, u))
+      sym (ap (extent room p) (bundle-long base l p h) ∙ extent-bundle room p l (contents base l p) ∙ rw (lt-leb _ _ d, u))
 
   bundle-tree : {c x : ℕ} (room : ℕ) → 8 ≤ length l → depth (treesIn (contents base l p)) + 1 ≤ room
       → c ≡ 1 + size (treesIn (contents base l p)) → x ≡ p + 8 + usedBy (contents base l p)
       → Tree c x ≡ extent room p (readBundle base l p)
   bundle-tree {c} {x} room h d ec e =
       let u : x ≡ p + (8 + usedBy (contents base l p)) = omega arith in
-      sym (ap (extent room p) (bundle-long base l p h) ∙ extent-bundle room p _ _ (contents base l p) ∙ rw (le-leb _ _ d, u, ec))
+      sym (ap (extent room p) (bundle-long base l p h) ∙ extent-bundle room p l (contents base l p) ∙ rw (le-leb _ _ d, u, ec))
 
 -- what is left of a bundle in which `room` levels may be opened yet
 pub record Going (base : ℕ) (l : List ℕ) (p room : ℕ) (m : List ℕ) (q c : ℕ) : Type 0 where
@@ -166,15 +167,15 @@ pub record Turned (base : ℕ) (m : List ℕ) (q room c next : ℕ) : Type 0 whe
   pub deep : leb (depth (treesIn (readElements base m q))) room ≡ leb (depth (treesIn (readElements base (drop (next - q) m) next))) room
 
 module _ (base : ℕ) (m : List ℕ) (q room : ℕ) where
-  turned-one : (k a b n : ℕ) (f : Forest) → readElement base m q ≡ one k a b f n → level k (depth f) ≤ room
+  turned-one : (item : Item) (n : ℕ) (f : Forest) → readElement base m q ≡ one item f n → level (item .kind) (depth f) ≤ room
       → Turned base m q room (1 + size f) (q + 4 + n)
   unfolding depth
-  turned-one k a b n f e h =
+  turned-one item n f e h =
       let g = readElements base (drop (4 + n) m) (q + (4 + n)) in
       record {
         step = stepped base m q e;
         deep = rw (first-rest base m q e)
-            (ap (λ (x : Forest). leb (depth x) room) (first-trees base m q e) ∙ max-low (level k (depth f)) (depth (treesIn g)) room h);
+            (ap (λ (x : Forest). leb (depth x) room) (first-trees base m q e) ∙ max-low (level (item .kind) (depth f)) (depth (treesIn g)) room h);
       }
 
   -- an element that is a tree
@@ -184,9 +185,9 @@ module _ (base : ℕ) (m : List ℕ) (q room : ℕ) where
     where
       by-out : (o : Out) → readElement base m q ≡ o → Tree c next ≡ extent room (q + 4) o → Turned base m q room c next
       by-out (fault k) e g = let z : _≡_ {A = ℕ} 0 1 = cc in absurd (omega arith)
-      by-out (one k a b f n) e g =
-          by-le (λ (x : Extent). Tree c next ≡ x → Turned base m q room c next) (level k (depth f)) room
-          (λ s i. let ec : c ≡ 1 + size f = cc in let en : next ≡ q + 4 + n = cc in rw (ec, en) (turned-one k a b n f e s))
+      by-out (one item f n) e g =
+          by-le (λ (x : Extent). Tree c next ≡ x → Turned base m q room c next) (level (item .kind) (depth f)) room
+          (λ s i. let ec : c ≡ 1 + size f = cc in let en : next ≡ q + 4 + n = cc in rw (ec, en) (turned-one item n f e s))
           (λ s i. let z : _≡_ {A = ℕ} 0 1 = cc in absurd (omega arith))
           g
 
@@ -197,8 +198,8 @@ module _ (base : ℕ) (m : List ℕ) (q room : ℕ) where
     where
       by-out : (o : Out) → readElement base m q ≡ o → Deep next ≡ extent room (q + 4) o → leb (depth (treesIn (readElements base m q))) room ≡ false
       by-out (fault k) e g = let z : _≡_ {A = ℕ} 0 1 = cc in absurd (omega arith)
-      by-out (one k a b f n) e g =
-          by-le (λ (x : Extent). Deep next ≡ x → leb (depth (treesIn (readElements base m q))) room ≡ false) (level k (depth f)) room
+      by-out (one item f n) e g =
+          by-le (λ (x : Extent). Deep next ≡ x → leb (depth (treesIn (readElements base m q))) room ≡ false) (level (item .kind) (depth f)) room
           (λ s i. let z : _≡_ {A = ℕ} 0 1 = cc in absurd (omega arith))
           (λ s i. lt-leb (depth (treesIn (readElements base m q))) room (omega (arith, ap depth (first-trees base m q e))))
           g
@@ -210,8 +211,8 @@ module _ (base : ℕ) (m : List ℕ) (q room : ℕ) where
     where
       by-out : (o : Out) → readElement base m q ≡ o → Refused k ≡ extent room (q + 4) o → readElements base m q ≡ upto nil 0
       by-out (fault j) e g = ended base m q e
-      by-out (one j a b f n) e g =
-          by-le (λ (x : Extent). Refused k ≡ x → readElements base m q ≡ upto nil 0) (level j (depth f)) room
+      by-out (one item f n) e g =
+          by-le (λ (x : Extent). Refused k ≡ x → readElements base m q ≡ upto nil 0) (level (item .kind) (depth f)) room
           (λ s i. let z : _≡_ {A = ℕ} 0 1 = cc in absurd (omega arith))
           (λ s i. let z : _≡_ {A = ℕ} 0 1 = cc in absurd (omega arith))
           g

@@ -10,7 +10,8 @@ use Rattle.refusal.specs.declared.Fault.{Fault}
 use Rattle.wire.proofs.Choices.{by-test}
 use Rattle.wire.proofs.Parts.{tail}
 use Rattle.node.specs.Forest.{level, depth}
-use Rattle.packet.specs.Packet.{Out, fault, one, Elements, upto, after, readMessage, bundleWith, filling, readPacket, readElements}
+use Rattle.node.specs.declared.record.Item.{Item}
+use Rattle.packet.specs.Packet.{Out, fault, one, Elements, upto, after, messageItem, readMessage, bundleWith, filling, readPacket, readElements}
 use Rattle.packet.specs.Heads.{startOf, sizeOf}
 use Rattle.packet.specs.Packet.{readBundle, readElement, usedBy}
 use Rattle.measure.specs.CodeMeasure.{extent, skimmed, accepted}
@@ -33,21 +34,21 @@ isTree (Refused k) = false
 extent-tree : (room p : ℕ) (o : Out) → isTree (extent room p o) ≡ accepted o
 unfolding extent
 extent-tree room p (fault k) = refl
-extent-tree room p (one k a b f u) = by-test (λ (x : Extent). isTree x ≡ true) (leb (level k (depth f)) room) (λ _. refl) (λ _. refl)
+extent-tree room p (one item f u) = by-test (λ (x : Extent). isTree x ≡ true) (leb (level (item .kind) (depth f)) room) (λ _. refl) (λ _. refl)
 
 after-accepted : (n : ℕ) (o : Out) → accepted o ≡ accepted (after n o)
 after-accepted n (fault k) = refl
-after-accepted n (one k a b f u) = refl
+after-accepted n (one item f u) = refl
 
-with-accepted : (a b : ℕ) (k : Elements) → true ≡ accepted (bundleWith a b k)
-with-accepted a b (upto f u) = refl
+with-accepted : (item : Item) (k : Elements) → true ≡ accepted (bundleWith item k)
+with-accepted item (upto f u) = refl
 
 module _ (base : ℕ) (l : List ℕ) (p : ℕ) where
   -- a message is accepted where its first reading is a tree
   pub is-message : {n used : ℕ} {r : Extent} (rest : List ℕ) → start.Message n used ≡ startOf l p → rest ≡ drop used l
-      → r ≡ extent 0 (p + used) (readMessage base (base + p) n rest (p + used)) → isTree r ≡ accepted (readPacket base l p)
+      → r ≡ extent 0 (p + used) (readMessage base (messageItem (base + p) n) rest (p + used)) → isTree r ≡ accepted (readPacket base l p)
   is-message {n} {used} {r} rest e s g =
-      let o = readMessage base (base + p) n (drop used l) (p + used) in
+      let o = readMessage base (messageItem (base + p) n) (drop used l) (p + used) in
       let is : r ≡ extent 0 (p + used) o = rw s at g in
       ap isTree is ∙ extent-tree 0 (p + used) o ∙ after-accepted used o ∙ ap accepted (sym (starts-message base l p e))
 
@@ -56,7 +57,7 @@ module _ (base : ℕ) (l : List ℕ) (p : ℕ) where
     pub is-bundle : 8 ≤ length l - used → true ≡ accepted (readPacket base l p)
     is-bundle h =
         let long : 8 ≤ length (drop used l) = omega (arith, length-drop used l) in
-        with-accepted _ _ (readElements base (drop 8 (drop used l)) (p + used + 8))
+        with-accepted _ (readElements base (drop 8 (drop used l)) (p + used + 8))
         ∙ ap accepted (sym (bundle-long base (drop used l) (p + used) long)) ∙ after-accepted used (readBundle base (drop used l) (p + used))
         ∙ ap accepted (sym (starts-bundle base l p e))
 
@@ -75,7 +76,7 @@ module _ (base : ℕ) (l : List ℕ) (p : ℕ) where
 
   filling-skimmed : (n : ℕ) (o : Out) → cond (accepted o) (Takes n) Fails ≡ skimmed (filling n o)
   filling-skimmed n (fault k) = refl
-  filling-skimmed n (one k a b f u) = refl
+  filling-skimmed n (one item f u) = refl
 
   -- an element is accepted where its packet is
   pub skim-packet : {n : ℕ} {r : Bool} (part : List ℕ) → sized.Holds n ≡ sizeOf l → part ≡ take n (drop 4 l)
@@ -101,7 +102,7 @@ module _ (base : ℕ) (l : List ℕ) (p : ℕ) where
           (p + usedBy (readElements base l p) ≡ p + (4 + n) + usedBy
           (readElements base (take (length l - (4 + n)) (drop (4 + n) l)) (p + (4 + n))))
       by-out (fault k) e g = let z : _≡_ {A = ℕ} 0 1 = cc in absurd (omega arith)
-      by-out (one k a b f u) e g =
+      by-out (one item f u) e g =
           let eu : n ≡ u = cc in
           let w = first-in base l p e in
           rw (eu, tail l (4 + u)) (omega arith, omega (arith, first-used base l p e))
@@ -112,4 +113,4 @@ module _ (base : ℕ) (l : List ℕ) (p : ℕ) where
     where
       by-out : (o : Out) → readElement base l p ≡ o → Fails ≡ skimmed o → p ≡ p + usedBy (readElements base l p)
       by-out (fault k) e g = omega (arith, ap usedBy (ended base l p e))
-      by-out (one k a b f u) e g = let z : _≡_ {A = ℕ} 0 1 = cc in absurd (omega arith)
+      by-out (one item f u) e g = let z : _≡_ {A = ℕ} 0 1 = cc in absurd (omega arith)

@@ -7,7 +7,8 @@ use text::Text;
 ghost use mathlib.Core.Path.{_≡_};
 ghost use Prim.Native.Nat.{ℕ, _+_, _≤_};
 ghost use lib.ListN.{length};
-ghost use Rattle.packet.specs.Packet.{readMessage, readPacket, readElements, readBundle, readElement, usedBy};
+ghost use Rattle.wire.specs.Limits.{longest};
+ghost use Rattle.packet.specs.Packet.{messageItem, readMessage, readPacket, readElements, readBundle, readElement, usedBy};
 ghost use Rattle.measure.specs.CodeMeasure.{extent, skimmed, accepted};
 
 // What the first reading of a packet answers; `next` is the position after its last byte.
@@ -28,7 +29,7 @@ pub enum Skimmed {
 
 // A packet at `pos`; `room` levels of bundles may be opened yet.
 pub fn measure_packet(input: &[u8], pos: usize, room: usize) -> Extent
-    requires { ⌜ pos + length (now input) ≤ 65535 ⌝ }
+    requires { ⌜ pos + length (now input) ≤ longest ⌝ }
     ensures { λ r. ⌜ ((base : ℕ) → r ≡ extent room pos (readPacket base (now (input .entry)) pos)) ⌝ }
 {
     match packet::read_start(input, pos) {
@@ -40,8 +41,8 @@ pub fn measure_packet(input: &[u8], pos: usize, room: usize) -> Extent
 
 // What follows the address of a message: the type text, then the data.
 pub fn measure_message(input: &[u8], pos: usize) -> Extent
-    requires { ⌜ pos + length (now input) ≤ 65535 ⌝ }
-    ensures { λ r. ⌜ ((base offset n room : ℕ) → r ≡ extent room pos (readMessage base offset n (now (input .entry)) pos)) ⌝ }
+    requires { ⌜ pos + length (now input) ≤ longest ⌝ }
+    ensures { λ r. ⌜ ((base offset n room : ℕ) → r ≡ extent room pos (readMessage base (messageItem offset n) (now (input .entry)) pos)) ⌝ }
 {
     match text::read_osc_string(input, pos) {
         Text::Found { length, used } => {
@@ -61,7 +62,7 @@ pub fn measure_message(input: &[u8], pos: usize) -> Extent
 // What follows "#bundle". Where the limit is reached, or was passed in an element, no bundle is opened any more: the
 // elements that are left say where the bundle ends.
 fn measure_bundle(input: &[u8], pos: usize, room: usize) -> Extent
-    requires { ⌜ pos + length (now input) ≤ 65535 ⌝ }
+    requires { ⌜ pos + length (now input) ≤ longest ⌝ }
     ensures { λ r. ⌜ ((base : ℕ) → r ≡ extent room pos (readBundle base (now (input .entry)) pos)) ⌝ }
 {
     if input.len() < 8 {
@@ -94,7 +95,7 @@ fn measure_bundle(input: &[u8], pos: usize, room: usize) -> Extent
 
 // An element: a size and that many bytes, which hold a packet.
 fn measure_element(input: &[u8], pos: usize, room: usize) -> Extent
-    requires { ⌜ pos + length (now input) ≤ 65535 ⌝ }
+    requires { ⌜ pos + length (now input) ≤ longest ⌝ }
     ensures { λ r. ⌜ ((base : ℕ) → r ≡ extent room (pos + 4) (readElement base (now (input .entry)) pos)) ⌝ }
 {
     match packet::read_size(input) {
@@ -114,7 +115,7 @@ fn measure_element(input: &[u8], pos: usize, room: usize) -> Extent
 
 // The position after the elements that are accepted. No bundle in them is opened.
 fn skim_elements(input: &[u8], pos: usize) -> usize
-    requires { ⌜ pos + length (now input) ≤ 65535 ⌝ }
+    requires { ⌜ pos + length (now input) ≤ longest ⌝ }
     ensures { λ r. ⌜ ((base : ℕ) → r ≡ pos + usedBy (readElements base (now (input .entry)) pos)) ⌝ }
 {
     let mut rest = input;
@@ -132,7 +133,7 @@ fn skim_elements(input: &[u8], pos: usize) -> usize
 
 // Whether an element is accepted.
 fn skim_element(input: &[u8], pos: usize) -> Skimmed
-    requires { ⌜ pos + length (now input) ≤ 65535 ⌝ }
+    requires { ⌜ pos + length (now input) ≤ longest ⌝ }
     ensures { λ r. ⌜ ((base : ℕ) → r ≡ skimmed (readElement base (now (input .entry)) pos)) ⌝ }
 {
     match packet::read_size(input) {
@@ -148,7 +149,7 @@ fn skim_element(input: &[u8], pos: usize) -> Skimmed
 
 // Whether a packet is accepted: a bundle is, once its time tag is read.
 fn is_packet(input: &[u8], pos: usize) -> bool
-    requires { ⌜ pos + length (now input) ≤ 65535 ⌝ }
+    requires { ⌜ pos + length (now input) ≤ longest ⌝ }
     ensures { λ r. ⌜ ((base : ℕ) → r ≡ accepted (readPacket base (now (input .entry)) pos)) ⌝ }
 {
     match packet::read_start(input, pos) {

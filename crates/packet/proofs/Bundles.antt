@@ -7,10 +7,10 @@ use borrow.Author.Tests.{le-leb, lt-leb}
 use lib.ListN.{length, take, drop, length-drop}
 use Rattle.refusal.specs.declared.Fault.{Fault}
 use Rattle.refusal.specs.declared.Fault.the-variants.{RunsOut}
-use Rattle.wire.specs.Number.{number}
 use Rattle.wire.proofs.Parts.{tail}
 use Rattle.node.specs.Forest.{Forest, nil, node, size}
-use Rattle.packet.specs.Packet.{fault, one, Elements, upto, bundleWith, bundleBy, joined, goOn, readElements}
+use Rattle.node.specs.declared.record.Item.{Item}
+use Rattle.packet.specs.Packet.{fault, one, Elements, upto, bundleItem, bundleWith, bundleBy, joined, goOn, readElements}
 use Rattle.packet.specs.Packet.{readBundle, readElement, usedBy, treesIn}
 use Rattle.packet.proofs.Knot.{elements-by}
 use Rattle.packet.proofs.Within.{Within, element-in, elements-in}
@@ -28,41 +28,41 @@ module _ (base : ℕ) (l : List ℕ) (p : ℕ) where
   bundle-short h = rw (bundleBy, lt-leb 8 (length l) h)
 
   -- a bundle with its time tag
-  pub bundle-long : 8 ≤ length l → readBundle base l p ≡ bundleWith (number 4 l) (number 4 (drop 4 l)) (contents base l p)
+  pub bundle-long : 8 ≤ length l → readBundle base l p ≡ bundleWith (bundleItem l) (contents base l p)
   unfolding readBundle bundleBy
   bundle-long h = rw (bundleBy, le-leb 8 (length l) h)
 
 -- ---- elements by the first one
 
-joined-trees : (k a b : ℕ) (f : Forest) (n : ℕ) (g : Elements) → treesIn (joined k a b f n g) ≡ node k a b f (treesIn g)
-joined-trees k a b f n (upto g u) = refl
+joined-trees : (item : Item) (f : Forest) (n : ℕ) (g : Elements) → treesIn (joined item f n g) ≡ node item f (treesIn g)
+joined-trees item f n (upto g u) = refl
 
-joined-used : (k a b : ℕ) (f : Forest) (n : ℕ) (g : Elements) → usedBy (joined k a b f n g) ≡ 4 + n + usedBy g
-joined-used k a b f n (upto g u) = refl
+joined-used : (item : Item) (f : Forest) (n : ℕ) (g : Elements) → usedBy (joined item f n g) ≡ 4 + n + usedBy g
+joined-used item f n (upto g u) = refl
 
 module _ (base : ℕ) (m : List ℕ) (q : ℕ) where
   -- an element that fails ends them
   pub ended : {k : Fault} → readElement base m q ≡ fault k → readElements base m q ≡ upto nil 0
   ended e = elements-by base m q ∙ ap (goOn (λ l p. readElements base l p) m q) e
 
-  module _ {k a b n : ℕ} {f : Forest} (e : readElement base m q ≡ one k a b f n) where
+  module _ {item : Item} {n : ℕ} {f : Forest} (e : readElement base m q ≡ one item f n) where
     -- the elements after the first
     abbrev rest : Elements
     rest = readElements base (drop (4 + n) m) (q + (4 + n))
 
-    first-one : readElements base m q ≡ joined k a b f n rest
+    first-one : readElements base m q ≡ joined item f n rest
     first-one = elements-by base m q ∙ ap (goOn (λ l p. readElements base l p) m q) e
 
     -- the first element's tree stands before the others
-    pub first-trees : treesIn (readElements base m q) ≡ node k a b f (treesIn rest)
-    first-trees = ap treesIn first-one ∙ joined-trees k a b f n rest
+    pub first-trees : treesIn (readElements base m q) ≡ node item f (treesIn rest)
+    first-trees = ap treesIn first-one ∙ joined-trees item f n rest
 
     -- the first element takes its size and 4 bytes
     pub first-used : usedBy (readElements base m q) ≡ 4 + n + usedBy rest
-    first-used = ap usedBy first-one ∙ joined-used k a b f n rest
+    first-used = ap usedBy first-one ∙ joined-used item f n rest
 
     -- the first element lies in what it is read from
-    pub first-in : Within (length m - 4) (one k a b f n)
+    pub first-in : Within (length m - 4) (one item f n)
     first-in = subst (Within (length m - 4)) e (element-in base m q)
 
     -- what is read after the first element, counted from its end
@@ -79,10 +79,10 @@ pub record Stepped (base : ℕ) (m : List ℕ) (q n next : ℕ) : Type 0 where
   pub high : next ≤ q + length m
 
 -- an element is one step
-pub stepped : {k a b u : ℕ} {f : Forest} (base : ℕ) (m : List ℕ) (q : ℕ) → readElement base m q ≡ one k a b f u
+pub stepped : {item : Item} {u : ℕ} {f : Forest} (base : ℕ) (m : List ℕ) (q : ℕ) → readElement base m q ≡ one item f u
     → Stepped base m q (1 + size f) (q + 4 + u)
 unfolding size
-stepped {k} {a} {b} {u} {f} base m q e =
+stepped {item} {u} {f} base m q e =
     let w = first-in base m q e in
     record {
       nodes = rw (first-rest base m q e) (ap size (first-trees base m q e));

@@ -14,15 +14,18 @@ use Rattle.refusal.specs.declared.Fault.the-variants as faults
 use Rattle.wire.specs.Number.{number}
 use Rattle.wire.proofs.Choices.{by-test, by-le}
 use Rattle.wire.proofs.Parts.{tail}
-use Rattle.utf8.specs.Lead.{lead}
+use Rattle.utf8.specs.Lead.{leadOf}
 use Rattle.utf8.specs.Derive.{utf8}
 use Rattle.utf8.proofs.Chars.{lead-within}
-use Rattle.text.specs.Text.{textOf, faultOf}
+use Rattle.node.specs.Tags.{messageKind, bundleKind}
+use Rattle.node.specs.declared.record.Item.{Item}
+use Rattle.text.specs.Text.{readText, faultOf}
 use Rattle.text.specs.declared.Text.{Text}
 use Rattle.text.specs.declared.Text.the-variants.{Found, Lacks}
 use Rattle.text.specs.declared.Lack.{Lack}
 use Rattle.text.proofs.Within.{found-in}
 use Rattle.packet.specs.Heads.{bundleWord, sameBytes, startBy, startOf, tagsIn, sizeOf, prefixOf}
+use Rattle.packet.specs.Packet.{bundleItem}
 use Rattle.packet.specs.declared.Start.{Start}
 use Rattle.packet.specs.declared.Start.the-variants.{Message, Bundle, Refused}
 use Rattle.packet.specs.declared.ElementSize.{ElementSize}
@@ -39,26 +42,26 @@ module _ (l : List ℕ) (p : ℕ) where
   start-empty h = rw (eq-eqb (length l) 0 h)
 
   module _ (h : length l ≡ 0 → ⊥) where
-    start-text : startBy l (textOf l p) ≡ startOf l p
+    start-text : startBy l (readText l p) ≡ startOf l p
     unfolding startOf
     start-text = rw (startOf, ne-eqb (length l) 0 h)
 
     -- a first text that is lacking is the packet's refusal
-    pub start-lacks : {k : Lack} → Lacks k ≡ textOf l p → Refused (faultOf k) ≡ startOf l p
+    pub start-lacks : {k : Lack} → Lacks k ≡ readText l p → Refused (faultOf k) ≡ startOf l p
     start-lacks e = ap (startBy l) e ∙ start-text
 
-    module _ {n used : ℕ} (e : Found n used ≡ textOf l p) where
+    module _ {n used : ℕ} (e : Found n used ≡ readText l p) where
       -- a text that a '/' leads is an address
-      pub start-message : getD l 0 0 ≡ 47 → Message n used ≡ startOf l p
-      start-message f = rw (← start-text, ← e, eq-eqb (getD l 0 0) 47 f)
+      pub start-message : getD l 0 0 ≡ messageKind → Message n used ≡ startOf l p
+      start-message f = rw (← start-text, ← e, eq-eqb (getD l 0 0) messageKind f)
 
       -- the text "#bundle" starts a bundle
-      pub start-bundle : (getD l 0 0 ≡ 47 → ⊥) → sameBytes (take n l) bundleWord ≡ true → Bundle used ≡ startOf l p
-      start-bundle f b = rw (← start-text, ← e, ne-eqb (getD l 0 0) 47 f, b)
+      pub start-bundle : (getD l 0 0 ≡ messageKind → ⊥) → sameBytes (take n l) bundleWord ≡ true → Bundle used ≡ startOf l p
+      start-bundle f b = rw (← start-text, ← e, ne-eqb (getD l 0 0) messageKind f, b)
 
       -- any other text is refused
-      pub start-other : (getD l 0 0 ≡ 47 → ⊥) → sameBytes (take n l) bundleWord ≡ false → Refused faults.BadStart ≡ startOf l p
-      start-other f b = rw (← start-text, ← e, ne-eqb (getD l 0 0) 47 f, b)
+      pub start-other : (getD l 0 0 ≡ messageKind → ⊥) → sameBytes (take n l) bundleWord ≡ false → Refused faults.BadStart ≡ startOf l p
+      start-other f b = rw (← start-text, ← e, ne-eqb (getD l 0 0) messageKind f, b)
 
 -- a first text has a byte at least, and lies in the m bytes of its packet
 abbrev pub StartIn : ℕ → Start → Type 0
@@ -69,13 +72,13 @@ StartIn m (Refused k) = Unit {0}
 -- what a packet starts with lies in it
 pub start-within : (l : List ℕ) (p : ℕ) → StartIn (length l) (startOf l p)
 unfolding startOf
-start-within l p = by-test (StartIn (length l)) (eqb (length l) 0) (λ _. tt) (λ _. by-found (textOf l p) refl)
+start-within l p = by-test (StartIn (length l)) (eqb (length l) 0) (λ _. tt) (λ _. by-found (readText l p) refl)
   where
-    by-found : (t : Text) → t ≡ textOf l p → StartIn (length l) (startBy l t)
+    by-found : (t : Text) → t ≡ readText l p → StartIn (length l) (startBy l t)
     by-found (Lacks k) e = tt
     by-found (Found n used) e =
         let w = found-in l p e in
-        by-test (StartIn (length l)) (eqb (getD l 0 0) 47) (λ _. (w .0, w .1))
+        by-test (StartIn (length l)) (eqb (getD l 0 0) messageKind) (λ _. (w .0, w .1))
         (λ _. by-test (StartIn (length l)) (sameBytes (take n l) bundleWord) (λ _. (omega arith, w .1)) (λ _. tt))
 
 -- an address lies in its packet
@@ -85,6 +88,11 @@ message-start-in l p e = subst (StartIn (length l)) (sym e) (start-within l p)
 -- "#bundle" lies in its packet
 pub bundle-start-in : {used : ℕ} (l : List ℕ) (p : ℕ) → Bundle used ≡ startOf l p → (0 < used) × (used ≤ length l)
 bundle-start-in l p e = subst (StartIn (length l)) (sym e) (start-within l p)
+
+-- a bundle's own numbers are its time tag
+pub time-tag : {a b : ℕ} (l : List ℕ) → a ≡ number 4 l → b ≡ number 4 (drop 4 l)
+    → _≡_ {A = Item} (record { kind = bundleKind; a = a; b = b }) (bundleItem l)
+time-tag l p q = rw (p, q)
 
 -- ---- the size of an element
 
@@ -157,13 +165,13 @@ pub no-types : (t : List ℕ) → length t ≡ 0 → t ≡ tagsIn t
 no-types [] h = refl
 no-types (x ∷ t) h = absurd (omega arith)
 
-module _ {n : ℕ} (t : List ℕ) (h : length t ≡ 0 → ⊥) (e : n ≡ lead (getD t 0 0)) where
+module _ {n : ℕ} (t : List ℕ) (h : length t ≡ 0 → ⊥) (e : n ≡ leadOf (getD t 0 0)) where
   -- the first character lies in its text
   pub first-in : utf8 t ≡ true → n ≤ length t
-  first-in u = let w : lead (getD t 0 0) ≤ length t = lead-within t u (omega arith) in rw e w
+  first-in u = let w : leadOf (getD t 0 0) ≤ length t = lead-within t u (omega arith) in rw e w
 
 -- what follows the first character is the tags
-pub first-skipped : {n : ℕ} (t : List ℕ) → (length t ≡ 0 → ⊥) → n ≡ lead (getD t 0 0) → take (length t - n) (drop n t) ≡ tagsIn t
+pub first-skipped : {n : ℕ} (t : List ℕ) → (length t ≡ 0 → ⊥) → n ≡ leadOf (getD t 0 0) → take (length t - n) (drop n t) ≡ tagsIn t
 first-skipped [] h e = absurd (h refl)
 first-skipped {n} (x ∷ t) h e = tail (x ∷ t) n ∙ ap (λ (k : ℕ). drop k (x ∷ t)) e
 
@@ -174,7 +182,7 @@ types-tags l n e = rw sub-zero at e
 -- there are no more tags than bytes of type text
 pub tags-few : (t : List ℕ) → length (tagsIn t) ≤ length t
 tags-few [] = omega arith
-tags-few (x ∷ t) = omega (arith, length-drop (lead x) (x ∷ t))
+tags-few (x ∷ t) = omega (arith, length-drop (leadOf x) (x ∷ t))
 
 -- there are no more tags than bytes of type text, and no more data than bytes after it
 pub args-fit : {tags : List ℕ} (l : List ℕ) (n used : ℕ) → tags ≡ tagsIn (take (n - 0) (drop 0 l))

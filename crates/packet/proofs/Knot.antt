@@ -9,9 +9,8 @@ use lib.Dec.{leb}
 use lib.ListN.{length, take, drop, length-drop, length-take}
 use Rattle.refusal.specs.declared.Fault.{Fault}
 use Rattle.refusal.specs.declared.Fault.the-variants.{RunsOut}
-use Rattle.wire.specs.Number.{number}
 use Rattle.packet.specs.Heads.{startOf, sizeOf}
-use Rattle.packet.specs.Packet.{Out, fault, one, Elements, after, readMessage, bundleWith, bundleBy, filling, heldBy, elementBy}
+use Rattle.packet.specs.Packet.{Out, fault, one, Elements, after, messageItem, readMessage, bundleItem, bundleWith, bundleBy, filling, heldBy, elementBy}
 use Rattle.packet.specs.Packet.{joined, goOn, elementsBy, startedBy, packetBy, packetAt, elementsAt, readPacket, readElements}
 use Rattle.packet.specs.Packet.{readBundle, readElement}
 use Rattle.packet.specs.declared.Start.{Start}
@@ -29,7 +28,7 @@ bundle-cong : (es es' : List ℕ → ℕ → Elements) (l : List ℕ) (p : ℕ) 
     → bundleBy es l p ≡ bundleBy es' l p
 unfolding bundleBy
 bundle-cong es es' l p e =
-    ap (λ (k : Elements). cond (leb 8 (length l)) (bundleWith (number 4 l) (number 4 (drop 4 l)) k) (fault RunsOut)) e
+    ap (λ (k : Elements). cond (leb 8 (length l)) (bundleWith (bundleItem l) k) (fault RunsOut)) e
 
 held-cong : (pk pk' : List ℕ → ℕ → Out) (l : List ℕ) (p : ℕ) (s : ElementSize) → Agree pk pk' l → heldBy pk l p s ≡ heldBy pk' l p s
 held-cong pk pk' l p (size.Holds n) h = ap (filling n) (h _ _ (omega (arith, length-take n (drop 4 l), length-drop 4 l)))
@@ -37,7 +36,7 @@ held-cong pk pk' l p size.RunsOut h = refl
 
 on-cong : (es es' : List ℕ → ℕ → Elements) (l : List ℕ) (p : ℕ) (o : Out) → Agree es es' l → goOn es l p o ≡ goOn es' l p o
 on-cong es es' l p (fault k) h = refl
-on-cong es es' l p (one k a b f n) h = ap (joined k a b f n) (h _ _ (omega (arith, length-drop (4 + n) l)))
+on-cong es es' l p (one item f n) h = ap (joined item f n) (h _ _ (omega (arith, length-drop (4 + n) l)))
 
 elements-cong : (pk pk' : List ℕ → ℕ → Out) (es es' : List ℕ → ℕ → Elements) (l : List ℕ) (p : ℕ) → Agree pk pk' l → Agree es es' l
     → elementsBy pk es l p ≡ elementsBy pk' es' l p
@@ -116,7 +115,7 @@ module _ (base : ℕ) where
 
     -- an address starts a message
     pub starts-message : {n used : ℕ} → Message n used ≡ startOf l p
-        → readPacket base l p ≡ after used (readMessage base (base + p) n (drop used l) (p + used))
+        → readPacket base l p ≡ after used (readMessage base (messageItem (base + p) n) (drop used l) (p + used))
     starts-message e = started e
 
     -- "#bundle" starts a bundle

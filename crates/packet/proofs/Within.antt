@@ -6,7 +6,8 @@ use native.Mathlib.Omega.{arith}
 use lib.ListN.{length, take, drop, length-drop, length-take}
 use Rattle.wire.proofs.Choices.{by-le}
 use Rattle.node.specs.Forest.{Forest, size}
-use Rattle.text.specs.Text.{textOf, faultOf}
+use Rattle.node.specs.declared.record.Item.{Item}
+use Rattle.text.specs.Text.{readText, faultOf}
 use Rattle.text.specs.declared.Text.{Text}
 use Rattle.text.specs.declared.Text.the-variants.{Found, Lacks}
 use Rattle.text.specs.declared.Lack.{Lack}
@@ -15,7 +16,7 @@ use Rattle.arguments.specs.Arguments.{Args, refused, args, readArgs}
 use Rattle.arguments.specs.CodeReadings.{keptOf}
 use Rattle.arguments.proofs.Counts.{kept-few, args-within}
 use Rattle.packet.specs.Heads.{startOf, tagsIn, sizeOf}
-use Rattle.packet.specs.Packet.{Out, fault, one, Elements, upto, after, messageWith, typesThen, readMessage, bundleWith, bundleBy}
+use Rattle.packet.specs.Packet.{Out, fault, one, Elements, upto, after, messageItem, messageWith, typesThen, readMessage, bundleWith, bundleBy}
 use Rattle.packet.specs.Packet.{filling, heldBy, elementBy, joined, goOn, elementsBy, startedBy, packetBy, packetAt, elementsAt}
 use Rattle.packet.specs.Packet.{readPacket, readElements, readElement, usedBy, treesIn}
 use Rattle.packet.specs.declared.Start.{Start}
@@ -29,7 +30,7 @@ use Rattle.packet.proofs.Heads.{StartIn, start-within, SizeIn, size-wit
 -- a tree that was read from m bytes
 abbrev pub Within : ℕ → Out → Type 0
 Within m (fault k) = Unit {0}
-Within m (one k a b f u) = (1 + size f ≤ u) × (u ≤ m)
+Within m (one item f u) = (1 + size f ≤ u) × (u ≤ m)
 
 -- elements that were read from m bytes
 abbrev ElementsIn : ℕ → Elements → Type 0
@@ -37,55 +38,55 @@ ElementsIn m (upto f u) = (size f ≤ u) × (u ≤ m)
 
 after-in : (n m : ℕ) (o : Out) → n ≤ m → Within (m - n) o → Within m (after n o)
 after-in n m (fault k) h w = tt
-after-in n m (one k a b f u) h w = omega arith
+after-in n m (one item f u) h w = omega arith
 
 -- the arguments, after u bytes of type text
-arguments-in : (offset n t u j m : ℕ) (o : Args) → t < u → u + j ≤ m → size (keptOf o) ≤ t → ((f : Forest) (v : ℕ) → args f v ≡ o → v ≤ j)
-    → Within m (after u (messageWith offset n o))
-arguments-in offset n t u j m (refused k) h g few low = tt
-arguments-in offset n t u j m (args f v) h g few low = omega (arith, low f v refl)
+arguments-in : (item : Item) (t u j m : ℕ) (o : Args) → t < u → u + j ≤ m → size (keptOf o) ≤ t → ((f : Forest) (v : ℕ) → args f v ≡ o → v ≤ j)
+    → Within m (after u (messageWith item o))
+arguments-in item t u j m (refused k) h g few low = tt
+arguments-in item t u j m (args f v) h g few low = omega (arith, low f v refl)
 
-module _ (base offset n : ℕ) (l : List ℕ) (p : ℕ) where
+module _ (base : ℕ) (item : Item) (l : List ℕ) (p : ℕ) where
   -- a message with a type text
-  pub types-found : {m used : ℕ} → Found m used ≡ textOf l p
-      → readMessage base offset n l p ≡ after used (messageWith offset n (readArgs base (tagsIn (take m l)) (drop used l) (p + used)))
+  pub types-found : {m used : ℕ} → Found m used ≡ readText l p
+      → readMessage base item l p ≡ after used (messageWith item (readArgs base (tagsIn (take m l)) (drop used l) (p + used)))
   unfolding readMessage
-  types-found e = sym (ap (typesThen base offset n l p) e)
+  types-found e = sym (ap (typesThen base item l p) e)
 
   -- a message whose type text is lacking
-  pub types-lack : {k : Lack} → Lacks k ≡ textOf l p → readMessage base offset n l p ≡ fault (faultOf k)
+  pub types-lack : {k : Lack} → Lacks k ≡ readText l p → readMessage base item l p ≡ fault (faultOf k)
   unfolding readMessage
-  types-lack e = sym (ap (typesThen base offset n l p) e)
+  types-lack e = sym (ap (typesThen base item l p) e)
 
-  message-in : Within (length l) (readMessage base offset n l p)
-  message-in = by-text (textOf l p) refl
+  message-in : Within (length l) (readMessage base item l p)
+  message-in = by-text (readText l p) refl
     where
-      by-text : (t : Text) → t ≡ textOf l p → Within (length l) (readMessage base offset n l p)
+      by-text : (t : Text) → t ≡ readText l p → Within (length l) (readMessage base item l p)
       by-text (Lacks k) e = rw (types-lack e) tt
       by-text (Found m used) e =
           let w = found-in l p e in
           let text = take m l in
           let tags = tagsIn text in
           rw (types-found e)
-          (arguments-in offset n (length tags) used (length (drop used l)) (length l) (readArgs base tags (drop used l) (p + used))
+          (arguments-in item (length tags) used (length (drop used l)) (length l) (readArgs base tags (drop used l) (p + used))
           (omega (arith, tags-few text, length-take m l)) (omega (arith, length-drop used l))
           (kept-few base tags (drop used l) (p + used)) (λ f v e. args-within base tags (drop used l) (p + used) e))
 
-bundle-with-in : (a b : ℕ) (k : Elements) (m : ℕ) → 8 ≤ m → ElementsIn (m - 8) k → Within m (bundleWith a b k)
-bundle-with-in a b (upto f u) m h w = omega arith
+bundle-with-in : (item : Item) (k : Elements) (m : ℕ) → 8 ≤ m → ElementsIn (m - 8) k → Within m (bundleWith item k)
+bundle-with-in item (upto f u) m h w = omega arith
 
 bundle-by-in : (es : List ℕ → ℕ → Elements) (l : List ℕ) (p : ℕ) → ElementsIn (length (drop 8 l)) (es (drop 8 l) (p + 8))
     → Within (length l) (bundleBy es l p)
 unfolding bundleBy
 bundle-by-in es l p w =
-    by-le (Within (length l)) 8 (length l) (λ h. bundle-with-in _ _ (es (drop 8 l) (p + 8)) (length l) h (rw length-drop at w)) (λ h. tt)
+    by-le (Within (length l)) 8 (length l) (λ h. bundle-with-in _ (es (drop 8 l) (p + 8)) (length l) h (rw length-drop at w)) (λ h. tt)
 
 module _ (base : ℕ) where
   started-in : (es : List ℕ → ℕ → Elements) (l : List ℕ) (p : ℕ) (s : Start) → ((m : List ℕ) (q : ℕ) → ElementsIn (length m) (es m q))
       → StartIn (length l) s → Within (length l) (startedBy base es l p s)
   started-in es l p (Message n used) h w =
-      after-in used (length l) (readMessage base (base + p) n (drop used l) (p + used)) (w .1)
-      (rw length-drop at (message-in base (base + p) n (drop used l) (p + used)))
+      after-in used (length l) (readMessage base (messageItem (base + p) n) (drop used l) (p + used)) (w .1)
+      (rw length-drop at (message-in base (messageItem (base + p) n) (drop used l) (p + used)))
   started-in es l p (Bundle used) h w =
       after-in used (length l) (bundleBy es (drop used l) (p + used)) (w .1)
       (rw length-drop at (bundle-by-in es (drop used l) (p + used) (h _ _)))
@@ -100,7 +101,7 @@ module _ (base : ℕ) where
 
 filling-in : (n j m : ℕ) (o : Out) → j ≤ n → n ≤ m → Within j o → Within m (filling n o)
 filling-in n j m (fault k) h g w = tt
-filling-in n j m (one k a b f u) h g w = omega arith
+filling-in n j m (one item f u) h g w = omega arith
 
 held-in : (pk : List ℕ → ℕ → Out) (l : List ℕ) (p : ℕ) (s : ElementSize) → ((m : List ℕ) (q : ℕ) → Within (length m) (pk m q))
     → SizeIn (length l) s → Within (length l - 4) (heldBy pk l p s)
@@ -113,17 +114,17 @@ element-by-in : (pk : List ℕ → ℕ → Out) (l : List ℕ) (p : ℕ) → ((m
 unfolding elementBy
 element-by-in pk l p h = held-in pk l p (sizeOf l) h (size-within l)
 
-joined-in : (k a b : ℕ) (f : Forest) (n m : ℕ) (g : Elements) → Within (m - 4) (one k a b f n) → ElementsIn (m - (4 + n)) g
-    → ElementsIn m (joined k a b f n g)
+joined-in : (item : Item) (f : Forest) (n m : ℕ) (g : Elements) → Within (m - 4) (one item f n) → ElementsIn (m - (4 + n)) g
+    → ElementsIn m (joined item f n g)
 unfolding size
-joined-in k a b f n m (upto g u) w v = omega arith
+joined-in item f n m (upto g u) w v = omega arith
 
 on-in : (es : List ℕ → ℕ → Elements) (l : List ℕ) (p : ℕ) (o : Out) → ((m : List ℕ) (q : ℕ) → ElementsIn (length m) (es m q))
     → Within (length l - 4) o → ElementsIn (length l) (goOn es l p o)
 unfolding size
 on-in es l p (fault k) h w = omega arith
-on-in es l p (one k a b f n) h w =
-    joined-in k a b f n (length l) (es (drop (4 + n) l) (p + (4 + n))) w (rw length-drop at (h (drop (4 + n) l) (p + (4 + n))))
+on-in es l p (one item f n) h w =
+    joined-in item f n (length l) (es (drop (4 + n) l) (p + (4 + n))) w (rw length-drop at (h (drop (4 + n) l) (p + (4 + n))))
 
 module _ (base : ℕ) where
   mutual

@@ -7,8 +7,9 @@ use lib.Dec.{leb, eqb}
 use lib.ListN.{length, getD, take, drop}
 use Rattle.refusal.specs.declared.Fault.the-variants as fault
 use Rattle.wire.specs.Number.{number}
-use Rattle.utf8.specs.Lead.{lead}
-use Rattle.text.specs.Text.{textOf, faultOf}
+use Rattle.utf8.specs.Lead.{leadOf}
+use Rattle.node.specs.Tags.{messageKind, bundleKind}
+use Rattle.text.specs.Text.{readText, faultOf}
 use Rattle.text.specs.declared.Text.{Text}
 use Rattle.text.specs.declared.Text.the-variants.{Found, Lacks}
 use Rattle.packet.specs.declared.Start.{Start}
@@ -18,9 +19,9 @@ use Rattle.packet.specs.declared.ElementSize.the-variants.{Holds, RunsOu
 use Rattle.packet.specs.declared.Prefix.{Prefix}
 use Rattle.packet.specs.declared.Prefix.the-variants as prefix
 
--- "#bundle"
+-- "#bundle": its first character is also the kind of a bundle
 abbrev pub bundleWord : List ℕ
-bundleWord = 35 ∷ 98 ∷ 117 ∷ 110 ∷ 100 ∷ 108 ∷ 101 ∷ []
+bundleWord = bundleKind ∷ 98 ∷ 117 ∷ 110 ∷ 100 ∷ 108 ∷ 101 ∷ []
 
 -- two lists of bytes are the same
 abbrev pub sameBytes : List ℕ → List ℕ → Bool
@@ -33,17 +34,17 @@ sameBytes (x ∷ l) (y ∷ m) = cond (eqb x y) (sameBytes l m) false
 abbrev pub startBy : List ℕ → Text → Start
 startBy l (Lacks lack) = Refused (faultOf lack)
 startBy l (Found n used) =
-    cond (eqb (getD l 0 0) 47) (Message n used) (cond (sameBytes (take n l) bundleWord) (Bundle used) (Refused fault.BadStart))
+    cond (eqb (getD l 0 0) messageKind) (Message n used) (cond (sameBytes (take n l) bundleWord) (Bundle used) (Refused fault.BadStart))
 
 -- what a packet starts with; a packet of no bytes is refusal 2
 unfoldable pub startOf : List ℕ → ℕ → Start
-startOf l p = cond (eqb (length l) 0) (Refused fault.Empty) (startBy l (textOf l p))
+startOf l p = cond (eqb (length l) 0) (Refused fault.Empty) (startBy l (readText l p))
 
 -- the tags of a type text (rule 2): none of an empty one; else its first character is skipped, whatever it is and however many
 -- bytes it has
 abbrev pub tagsIn : List ℕ → List ℕ
 tagsIn [] = []
-tagsIn (x ∷ text) = drop (lead x) (x ∷ text)
+tagsIn (x ∷ text) = drop (leadOf x) (x ∷ text)
 
 -- the size of an element (rule 5): 4 bytes, and that many bytes follow it
 unfoldable pub sizeOf : List ℕ → ElementSize

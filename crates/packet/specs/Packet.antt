@@ -9,8 +9,10 @@ use lib.ListN.{length, take, drop}
 use Rattle.refusal.specs.declared.Fault.{Fault}
 use Rattle.refusal.specs.declared.Fault.the-variants.{Empty, RunsOut}
 use Rattle.wire.specs.Number.{number}
+use Rattle.node.specs.Tags.{messageKind, bundleKind}
 use Rattle.node.specs.Forest.{Forest, nil, node}
-use Rattle.text.specs.Text.{textOf, faultOf}
+use Rattle.node.specs.declared.record.Item.{Item}
+use Rattle.text.specs.Text.{readText, faultOf}
 use Rattle.text.specs.declared.Text.{Text}
 use Rattle.text.specs.declared.Text.the-variants.{Found, Lacks}
 use Rattle.arguments.specs.Arguments.{Args, refused, args, readArgs}
@@ -23,7 +25,7 @@ use Rattle.packet.specs.declared.ElementSize.the-variants as size
 -- what a packet is read as: one node and how many bytes it took; or the fault
 pub data Out : Type 0 where
   fault : Fault → Out
-  one : (kind a b : ℕ) (inside : Forest) (used : ℕ) → Out
+  one : (item : Item) (inside : Forest) (used : ℕ) → Out
 
 -- what the elements of a bundle are read as: they never fail
 pub data Elements : Type 0 where
@@ -32,39 +34,46 @@ pub data Elements : Type 0 where
 -- n more bytes were read before
 abbrev pub after : ℕ → Out → Out
 after n (fault k) = fault k
-after n (one kind a b inside used) = one kind a b inside (n + used)
+after n (one item inside used) = one item inside (n + used)
 
 -- ---- messages (rule 2)
 
--- the message whose address of n bytes stands at `offset`, with these arguments
-abbrev pub messageWith : ℕ → ℕ → Args → Out
-messageWith offset n (refused k) = fault k
-messageWith offset n (args kept used) = one 47 offset n kept used
+-- the own numbers of a message whose address of n bytes stands at `offset`
+abbrev pub messageItem : ℕ → ℕ → Item
+messageItem offset n = record { kind = messageKind; a = offset; b = n }
+
+-- the message with these own numbers and arguments
+abbrev pub messageWith : Item → Args → Out
+messageWith item (refused k) = fault k
+messageWith item (args kept used) = one item kept used
 
 -- the type text, then the data
-abbrev pub typesThen : ℕ → ℕ → ℕ → List ℕ → ℕ → Text → Out
-typesThen base offset n l p (Lacks lack) = fault (faultOf lack)
-typesThen base offset n l p (Found m used) = after used (messageWith offset n (readArgs base (tagsIn (take m l)) (drop used l) (p + used)))
+abbrev pub typesThen : ℕ → Item → List ℕ → ℕ → Text → Out
+typesThen base item l p (Lacks lack) = fault (faultOf lack)
+typesThen base item l p (Found m used) = after used (messageWith item (readArgs base (tagsIn (take m l)) (drop used l) (p + used)))
 
--- what follows the address of n bytes that stands at `offset`
-unfoldable pub readMessage : ℕ → ℕ → ℕ → List ℕ → ℕ → Out
-readMessage base offset n l p = typesThen base offset n l p (textOf l p)
+-- what follows the address of the message with these own numbers
+unfoldable pub readMessage : ℕ → Item → List ℕ → ℕ → Out
+readMessage base item l p = typesThen base item l p (readText l p)
 
 -- ---- bundles (rule 5)
 
--- the bundle with this time tag and these elements
-abbrev pub bundleWith : ℕ → ℕ → Elements → Out
-bundleWith seconds fractional (upto inside used) = one 35 seconds fractional inside (8 + used)
+-- the own numbers of a bundle whose time tag stands at the front of l: seconds and fractional
+abbrev pub bundleItem : List ℕ → Item
+bundleItem l = record { kind = bundleKind; a = number 4 l; b = number 4 (drop 4 l) }
+
+-- the bundle with these own numbers and elements
+abbrev pub bundleWith : Item → Elements → Out
+bundleWith item (upto inside used) = one item inside (8 + used)
 
 -- what follows "#bundle": an 8-byte time tag, then elements
 unfoldable pub bundleBy : (List ℕ → ℕ → Elements) → List ℕ → ℕ → Out
-bundleBy elements l p =
-    cond (leb 8 (length l)) (bundleWith (number 4 l) (number 4 (drop 4 l)) (elements (drop 8 l) (p + 8))) (fault RunsOut)
+bundleBy elements l p = cond (leb 8 (length l)) (bundleWith (bundleItem l) (elements (drop 8 l) (p + 8))) (fault RunsOut)
 
 -- an element's packet: it takes the whole element, and bytes left inside are dropped
 abbrev pub filling : ℕ → Out → Out
 filling n (fault k) = fault k
-filling n (one kind a b inside used) = one kind a b inside n
+filling n (one item inside used) = one item inside n
 
 -- the bytes of an element hold one packet
 abbrev pub heldBy : (List ℕ → ℕ → Out) → List ℕ → ℕ → ElementSize → Out
@@ -76,13 +85,13 @@ unfoldable pub elementBy : (List ℕ → ℕ → Out) → List ℕ → ℕ → O
 elementBy packet l p = heldBy packet l p (sizeOf l)
 
 -- an element before others
-abbrev pub joined : ℕ → ℕ → ℕ → Forest → ℕ → Elements → Elements
-joined kind a b inside n (upto rest used) = upto (node kind a b inside rest) (4 + n + used)
+abbrev pub joined : Item → Forest → ℕ → Elements → Elements
+joined item inside n (upto rest used) = upto (node item inside rest) (4 + n + used)
 
 -- the first element that fails, for any fault, ends the bundle with success
 abbrev pub goOn : (List ℕ → ℕ → Elements) → List ℕ → ℕ → Out → Elements
 goOn elements l p (fault k) = upto nil 0
-goOn elements l p (one kind a b inside n) = joined kind a b inside n (elements (drop (4 + n) l) (p + (4 + n)))
+goOn elements l p (one item inside n) = joined item inside n (elements (drop (4 + n) l) (p + (4 + n)))
 
 -- the elements of a bundle
 unfoldable pub elementsBy : (List ℕ → ℕ → Out) → (List ℕ → ℕ → Elements) → List ℕ → ℕ → Elements
@@ -92,7 +101,7 @@ elementsBy packet elements l p = goOn elements l p (elementBy packet l p)
 
 -- the packet that starts so
 abbrev pub startedBy : ℕ → (List ℕ → ℕ → Elements) → List ℕ → ℕ → Start → Out
-startedBy base elements l p (start.Message n used) = after used (readMessage base (base + p) n (drop used l) (p + used))
+startedBy base elements l p (start.Message n used) = after used (readMessage base (messageItem (base + p) n) (drop used l) (p + used))
 startedBy base elements l p (start.Bundle used) = after used (bundleBy elements (drop used l) (p + used))
 startedBy base elements l p (start.Refused k) = fault k
 

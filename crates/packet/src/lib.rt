@@ -1,4 +1,7 @@
 // What stands at the front of a packet, of an element of a bundle, and of a frame of a TCP stream.
+use node::record::Item;
+use node::tags::BUNDLE;
+use node::tags::MESSAGE;
 use refusal::Fault;
 use text::Text;
 use wire::be_u32;
@@ -6,7 +9,9 @@ ghost use mathlib.Core.Path.{_≡_};
 ghost use mathlib.Core.Bool.{true};
 ghost use Prim.Native.Nat.{_+_, _≤_};
 ghost use lib.ListN.{length};
+ghost use Rattle.wire.specs.Limits.{longest};
 ghost use Rattle.utf8.specs.Derive.{utf8};
+ghost use Rattle.packet.specs.Packet.{messageItem, bundleItem};
 ghost use Rattle.packet.specs.Heads.{sameBytes, startOf, tagsIn, sizeOf, prefixOf};
 
 // What a packet starts with; `used` bytes are the first text's.
@@ -55,7 +60,7 @@ fn same(a: &[u8], b: &[u8]) -> bool
 
 // The first text of a packet decides what it is.
 pub fn read_start(input: &[u8], pos: usize) -> Start
-    requires { ⌜ pos + length (now input) ≤ 65535 ⌝ }
+    requires { ⌜ pos + length (now input) ≤ longest ⌝ }
     ensures { λ r. ⌜ r ≡ startOf (now (input .entry)) pos ⌝ }
 {
     if input.len() == 0 {
@@ -63,7 +68,7 @@ pub fn read_start(input: &[u8], pos: usize) -> Start
     }
     match text::read_osc_string(input, pos) {
         Text::Found { length, used } => {
-            if input[0] == b'/' {
+            if input[0] == MESSAGE {
                 return Start::Message { length, used };
             }
             if same(&input[0..length], b"#bundle") {
@@ -112,4 +117,28 @@ pub fn read_prefix(input: &[u8]) -> Prefix
         return Prefix::Waiting;
     }
     Prefix::Ready
+}
+
+// The own numbers of a message whose address of `n` bytes stands at `offset`.
+pub fn message_item(offset: usize, n: usize) -> Item
+    requires { ⌜ (offset ≤ longest) × (n ≤ longest) ⌝ }
+    ensures { λ r. ⌜ r ≡ messageItem offset n ⌝ }
+{
+    Item {
+        kind: MESSAGE,
+        a: offset as u32,
+        b: n as u32,
+    }
+}
+
+// The own numbers of a bundle, whose time tag `input` starts with.
+pub fn bundle_item(input: &[u8]) -> Item
+    requires { ⌜ 8 ≤ length (now input) ⌝ }
+    ensures { λ r. ⌜ r ≡ bundleItem (now (input .entry)) ⌝ }
+{
+    Item {
+        kind: BUNDLE,
+        a: be_u32(input, 0),
+        b: be_u32(input, 4),
+    }
 }

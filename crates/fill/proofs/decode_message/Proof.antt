@@ -94,15 +94,15 @@ put-message-requires c κs =
     let w = found-in l (a .pos) e in
     let t = types-tags l (p9 .length .given .0 .0) (p6 .tags-in .ensures) in
     let s = tail l (p9 .length .given .0 .1 .0) in (
-      (rw s (omega (arith, p14 .pre .0, length-drop (p9 .length .given .0 .1 .0) l)), search needs, search needs),
+      rw s (omega (arith, p14 .pre .0, length-drop (p9 .length .given .0 .1 .0) l)),
       (
-        args-room (a .base) (a .offset) (a .n) l (a .pos) e t s (p14 .pre .1),
-        kept-known (a .base) (a .offset) (a .n) l (a .pos) e t s (sym (p2 .count .given .1) ∙ p4 .measure-osc-args .ensures (a .base)),
+        args-room (a .base) (a .item) l (a .pos) e t s (p14 .pre .1),
+        kept-known (a .base) (a .item) l (a .pos) e t s (sym (p2 .count .given .1) ∙ p4 .measure-osc-args .ensures (a .base)),
       ),
     )
 
-add-t25 : tie.Need-add-t25
-add-t25 c =
+add-t24 : tie.Need-add-t24
+add-t24 c =
     let p5 = c .before .before .before .before .before in
     let p7 = p5 .before .before in
     let p9 = p7 .before .before in
@@ -117,17 +117,17 @@ add-t25 c =
       args-fit l (p12 .length .given .0 .0) (p12 .length .given .0 .1 .0) (p9 .tags-in .ensures),
     )
 
-add-t28 : tie.Need-add-t28
-add-t28 c =
+add-t27 : tie.Need-add-t27
+add-t27 c =
     let p12 = c .before .before .before .before .before .before .before .before .before .before .before .before in
     let p14 = p12 .before .before in
     let p17 = p14 .before .before .before in
     let a = p17 .args in
     let w = found-in (a .input .now) (a .pos) (sym (p12 .length .given .1) ∙ p14 .read-osc-string .ensures) in
-    omega (arith, p17 .pre .0 .0)
+    omega (arith, p17 .pre .0)
 
-add-t29 : tie.Need-add-t29
-add-t29 c =
+add-t28 : tie.Need-add-t28
+add-t28 c =
     let p5 = c .before .before .before .before .before in
     let p7 = p5 .before .before in
     let p9 = p7 .before .before in
@@ -141,7 +141,7 @@ add-t29 c =
       arith,
       measured-within (a .base) _ _ _ (sym (p5 .count .given .1) ∙ p7 .measure-osc-args .ensures (a .base)),
       args-fit l (p12 .length .given .0 .0) (p12 .length .given .0 .1 .0) (p9 .tags-in .ensures),
-      p17 .pre .0 .0,
+      p17 .pre .0,
     )
 
 returns : tie.Need-returns
@@ -155,7 +155,7 @@ returns c =
     let p17 = p14 .before .before .before in
     let a = p17 .args in
     let l = a .input .now in
-    message-fills (a .base) (a .offset) (a .n) l (a .pos) (sym (p12 .length .given .1) ∙ p14 .read-osc-string .ensures)
+    message-fills (a .base) (a .item) l (a .pos) (sym (p12 .length .given .1) ∙ p14 .read-osc-string .ensures)
     (types-tags l (p12 .length .given .0 .0) (p9 .tags-in .ensures)) (tail l (p12 .length .given .0 .1 .0))
     (sym (p5 .count .given .1) ∙ p7 .measure-osc-args .ensures (a .base)) (a .index) (a .table .now) (p2 .put-message .ensures)
 
@@ -167,12 +167,12 @@ returns-2 c =
     let p9 = p7 .before .before in
     let a = p9 .before .before .before .args in
     let l = a .input .now in
-    fills-none (args-refused (a .base) _ _ l (a .pos) (sym (p7 .length .given .1) ∙ p9 .read-osc-string .ensures)
+    fills-none (args-refused (a .base) _ l (a .pos) (sym (p7 .length .given .1) ∙ p9 .read-osc-string .ensures)
     (types-tags l (p7 .length .given .0 .0) (p4 .tags-in .ensures)) (tail l (p7 .length .given .0 .1 .0))
     (sym (c .enum-told .given .1) ∙ p2 .measure-osc-args .ensures (a .base)))
 
 returns-3 : tie.Need-returns-3
-returns-3 c = fills-none (types-lack _ _ _ _ _ (sym (c .enum-told2 .given .1) ∙ c .before .before .read-osc-string .ensures))
+returns-3 c = fills-none (types-lack _ _ _ _ (sym (c .enum-told2 .given .1) ∙ c .before .before .read-osc-string .ensures))
 
 pub decode-message-spec : {M : Type 1} → statement M
 decode-message-spec =
@@ -193,9 +193,9 @@ decode-message-spec =
     add-put-message
     add-put-message-2
     put-message-requires
-    add-t25
+    add-t24
+    add-t27
     add-t28
-    add-t29
     (λ c. search needs)
     (λ c. search needs)
     (λ c. search needs)

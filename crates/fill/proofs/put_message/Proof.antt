@@ -14,7 +14,7 @@ read-osc-args-requires c κs =
     let p8 = p3 .before .before .before .before .before in
     let a = p8 .args in (
       search needs,
-      put-room (a .offset) (a .n) (readArgs (a .base) (a .tags .now) (a .input .now) (a .pos)) (p8 .pre .1 .1) (p8 .pre .1 .0)
+      put-room (a .item) (readArgs (a .base) (a .tags .now) (a .input .now) (a .pos)) (p8 .pre .1 .1) (p8 .pre .1 .0)
           (omega (arith, wrote-length _ _ _ (p3 .put-record .ensures), length-lent (p3 .put-record .last .0) 16)),
     )
 
@@ -24,14 +24,12 @@ returns c =
     let p6 = p2 .before .before .before .before in
     let p11 = p6 .before .before .before .before .before in
     let a = p11 .args in
-    put-stored (a .offset) (a .n) (readArgs (a .base) (a .tags .now) (a .input .now) (a .pos)) (p11 .pre .1 .1) (a .index) (p6 .put-record .ensures) (p2 .read-osc-args .ensures)
+    put-stored (a .item) (readArgs (a .base) (a .tags .now) (a .input .now) (a .pos)) (p11 .pre .1 .1) (a .index) (p6 .put-record .ensures) (p2 .read-osc-args .ensures)
 
 pub put-message-spec : {M : Type 1} → statement M
 put-message-spec =
     tie.close
     (tie.spec
-    (λ c. search needs)
-    (λ c. search needs)
     (λ c. search needs)
     (λ c. search needs)
     (λ c κs. search needs)

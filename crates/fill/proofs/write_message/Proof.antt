@@ -44,7 +44,7 @@ add-put-message c =
     let p6 = p4 .before .before in
     let p9 = p6 .before .before .before in
     let a = p9 .args in
-    omega (arith, found-in (a .input .now) (a .pos) (sym (p4 .length .given .1) ∙ p6 .read-osc-string .ensures), p9 .pre .0 .0)
+    omega (arith, found-in (a .input .now) (a .pos) (sym (p4 .length .given .1) ∙ p6 .read-osc-string .ensures), p9 .pre .0)
 
 put-message-requires : tie.Need-put-message-requires
 put-message-requires c κs =
@@ -58,10 +58,10 @@ put-message-requires c κs =
     let w = found-in l (a .pos) e in
     let t = types-tags l (p5 .length .given .0 .0) (p2 .tags-in .ensures) in
     let s = tail l (p5 .length .given .0 .1 .0) in (
-      (omega (arith, c .before .put-message-arg .given .2, p10 .pre .0), search needs, search needs),
+      omega (arith, c .before .put-message-arg .given .2, p10 .pre .0),
       (
-        args-room (a .base) (a .offset) (a .n) l (a .pos) e t s (p10 .pre .1 .0),
-        args-known (a .base) (a .offset) (a .n) l (a .pos) e t s (p10 .pre .1 .1),
+        args-room (a .base) (a .item) l (a .pos) e t s (p10 .pre .1 .0),
+        args-known (a .base) (a .item) l (a .pos) e t s (p10 .pre .1 .1),
       ),
     )
 
@@ -74,7 +74,7 @@ returns c =
     let p13 = p10 .before .before .before in
     let a = p13 .args in
     let l = a .input .now in
-    args-stored (a .base) (a .offset) (a .n) l (a .pos) (sym (p8 .length .given .1) ∙ p10 .read-osc-string .ensures)
+    args-stored (a .base) (a .item) l (a .pos) (sym (p8 .length .given .1) ∙ p10 .read-osc-string .ensures)
     (types-tags l (p8 .length .given .0 .0) (p5 .tags-in .ensures)) (tail l (p8 .length .given .0 .1 .0)) (a .index) (a .table .now)
     (p2 .put-message .ensures)
 
@@ -82,7 +82,7 @@ returns-2 : tie.Need-returns-2
 returns-2 c =
     let p2 = c .before .before in
     let p5 = p2 .before .before .before in
-    absurd (known-refused (p5 .pre .1 .1) (types-lack _ _ _ _ _ (sym (c .enum-told .given .1) ∙ p2 .read-osc-string .ensures)))
+    absurd (known-refused (p5 .pre .1 .1) (types-lack _ _ _ _ (sym (c .enum-told .given .1) ∙ p2 .read-osc-string .ensures)))
 
 pub write-message-spec : {M : Type 1} → statement M
 write-message-spec =
