@@ -4,7 +4,8 @@ use mathlib.Core.List.{List}
 use Prim.Native.Nat.{ℕ, _/_}
 use lib.ListN.{length}
 use Rattle.node.specs.Records.{recordSize}
-use Rattle.decoder.specs.Framing.{Whole, udp, tcp, tcpVec}
+use Rattle.decoder.specs.Framing.{Whole, udp, tcp, tcpVec, ruleOf}
+use Rattle.decoder.specs.declared.Framing.{Framing}
 use Rattle.decoder.specs.Limits.{decoded, forestOf, tabled}
 use Rattle.decoder.specs.declared.Decoded.{Decoded}
 
@@ -24,11 +25,18 @@ module _ (msg T₀ : List ℕ) (depth : ℕ) (r s : Decoded) (T T′ : List ℕ)
       let e : r ≡ s = v .answer ∙ sym (w .answer) in
       record { answer = e; table = v .table ∙ ap (λ (x : Decoded). tabled x (forestOf (rule msg)) T₀) e ∙ sym (w .table) }
 
+  -- of `decode`
+  pub decode-only : (framing : Framing) → Contract (ruleOf framing) msg T₀ depth r T → Contract (ruleOf framing) msg T₀ depth s T′ → Same r s T T′
+  decode-only framing = only (ruleOf framing)
+
+  -- of `decode_udp`
   pub decode-udp-only : Contract udp msg T₀ depth r T → Contract udp msg T₀ depth s T′ → Same r s T T′
   decode-udp-only = only udp
 
+  -- of `decode_tcp`
   pub decode-tcp-only : Contract tcp msg T₀ depth r T → Contract tcp msg T₀ depth s T′ → Same r s T T′
   decode-tcp-only = only tcp
 
+  -- of `decode_tcp_vec`
   pub decode-tcp-vec-only : Contract tcpVec msg T₀ depth r T → Contract tcpVec msg T₀ depth s T′ → Same r s T T′
   decode-tcp-vec-only = only tcpVec

@@ -10,7 +10,7 @@ use lib.Seq.{drop-cons, drop-length}
 use Rattle.node.specs.Tags.{classOf, sortOf}
 use Rattle.node.specs.declared.tags.Sort.{Sort}
 use Rattle.node.specs.declared.tags.Sort.the-variants.{Leaf}
-use Rattle.scan.specs.Scans.{before, back, bracket, brackets}
+use Rattle.scan.specs.CodeScans.{tagBefore, back, bracket, brackets}
 use Rattle.scan.specs.declared.Back.the-variants.{Whole}
 
 -- ---- the loop that looks for a bracket
@@ -35,6 +35,7 @@ module _ (tags : List ℕ) (i : ℕ) (h : i < length tags) where
   pub bracket-not-met : (any : Bool) → bracket (getD tags i 0) ≡ false → any || brackets (drop (i + 1) tags) ≡ any || brackets (drop i tags)
   bracket-not-met any e = sym (ap (λ (x : Bool). any || x) (here ∙ ap (λ (x : Bool). x || brackets (drop (i + 1) tags)) e))
 
+-- where no tag is left, it is what was met
 pub brackets-end : (tags : List ℕ) (i : ℕ) (any : Bool) → i ≡ length tags → any || brackets (drop i tags) ≡ any
 brackets-end tags i any e = rw (e, drop-length) (or-false any)
 
@@ -62,4 +63,4 @@ flat [] e = refl
 flat (tag ∷ tags) e =
     let s = leaf tag (first-false (bracket tag) (brackets tags) e) in
     let r = flat tags (second-false (bracket tag) (brackets tags) e) in
-    sym (ap (λ (x : Sort). before x (back tags)) s ∙ ap (before (Leaf (classOf tag))) (sym r))
+    sym (ap (λ (x : Sort). tagBefore x (back tags)) s ∙ ap (tagBefore (Leaf (classOf tag))) (sym r))

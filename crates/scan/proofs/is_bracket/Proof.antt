@@ -1,9 +1,9 @@
--- `arguments::scan::is_bracket` meets its contract.
+-- `scan::is_bracket` meets its contract.
 use mathlib.Core.Path.{refl, sym}
 use mathlib.Core.Bool.{true}
 use mathlib.Core.List.{[], _∷_}
 use Rattle.node.proofs.Keys.{by-keys, not-among}
-use Rattle.scan.specs.Scans.{bracket}
+use Rattle.scan.specs.CodeScans.{bracket}
 use Rattle.scan.proofs.is_bracket.Statement.{statement}
 use Rattle.scan.proofs.is_bracket.Tie as tie
 

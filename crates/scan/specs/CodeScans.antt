@@ -1,14 +1,14 @@
--- The scans of the first reading, which build no tree. They say what the code does, not what is right: proofs/Counts.antt shows
--- that they answer as `argsOf` does.
+-- Describes code, and no part of the document: the scans of the first reading, which build no tree. Nobody need believe them: the laws
+-- `measured-kept`, `measured-refused` and `cut-at` of the crate `arguments` show that they answer as `readArgs` does.
 use mathlib.Core.Bool.{Bool, false, _||_}
 use mathlib.Core.List.{List, [], _∷_}
 use Prim.Native.Nat.{ℕ, zero, suc, _+_}
 use lib.ListN.{drop}
 use Rattle.refusal.specs.declared.Fault.the-variants.{NotOpen}
-use Rattle.node.specs.Tags.{among, sortOf}
+use Rattle.node.specs.Tags.{arrayKind, among, sortOf}
 use Rattle.node.specs.declared.tags.Sort.{Sort}
 use Rattle.node.specs.declared.tags.Sort.the-variants.{Opens, Closes, Leaf}
-use Rattle.argument.specs.Argument.{argOf}
+use Rattle.argument.specs.Argument.{readArg}
 use Rattle.argument.specs.declared.Arg.{Arg}
 use Rattle.argument.specs.declared.Arg.the-variants as arg
 use Rattle.scan.specs.declared.Scanned.{Scanned}
@@ -18,50 +18,50 @@ use Rattle.scan.specs.declared.Back.the-variants.{Whole, Cut}
 
 -- ---- forward: whether tags and data are accepted, and how many bytes they take
 
--- one argument without its fields
+-- one argument without its own numbers
 abbrev pub usedOf : Arg → Scanned
-usedOf (arg.Given a b used) = Used used
+usedOf (arg.Given item used) = Used used
 usedOf (arg.Refused fault) = Refused fault
 
 -- n more bytes were read before
-abbrev pub more : ℕ → Scanned → Scanned
-more n (Used used) = Used (n + used)
-more n (Refused fault) = Refused fault
+abbrev pub moreUsed : ℕ → Scanned → Scanned
+moreUsed n (Used used) = Used (n + used)
+moreUsed n (Refused fault) = Refused fault
 
 -- one argument is passed over; `go` reads the later tags' data
-abbrev pub passed : (List ℕ → ℕ → Scanned) → List ℕ → ℕ → Scanned → Scanned
-passed go l p (Used used) = more used (go (drop used l) (p + used))
-passed go l p (Refused fault) = Refused fault
+abbrev pub argPassed : (List ℕ → ℕ → Scanned) → List ℕ → ℕ → Scanned → Scanned
+argPassed go l p (Used used) = moreUsed used (go (drop used l) (p + used))
+argPassed go l p (Refused fault) = Refused fault
 
 -- what one tag does while n arrays are open; the offset base does not matter, and is 0
-abbrev pub turn : Sort → (List ℕ → ℕ → ℕ → Scanned) → List ℕ → ℕ → ℕ → Scanned
-turn Opens go l p n = go l p (suc n)
-turn Closes go l p zero = Refused NotOpen
-turn Closes go l p (suc n) = go l p n
-turn (Leaf class) go l p n = passed (λ m q. go m q n) l p (usedOf (argOf class 0 l p))
+abbrev pub turn : Sort → (List ℕ → ℕ → ℕ → Scanned) → ℕ → List ℕ → ℕ → ℕ → Scanned
+turn Opens go tag l p n = go l p (suc n)
+turn Closes go tag l p zero = Refused NotOpen
+turn Closes go tag l p (suc n) = go l p n
+turn (Leaf class) go tag l p n = argPassed (λ m q. go m q n) l p (usedOf (readArg tag class 0 l p))
 
 -- the tags and their data, which stands at position p, while n arrays are open
 unfoldable pub scan : List ℕ → List ℕ → ℕ → ℕ → Scanned
 scan [] l p n = Used 0
-scan (tag ∷ tags) l p n = turn (sortOf tag) (λ m q k. scan tags m q k) l p n
+scan (tag ∷ tags) l p n = turn (sortOf tag) (λ m q k. scan tags m q k) tag l p n
 
 -- ---- backward, tags only: which tags are kept
 
 -- a tag stands before those that were looked at
-abbrev pub before : Sort → Back → Back
-before Opens (Cut n c) = Cut (suc n) c
-before Opens (Whole zero c) = Cut 1 c
-before Opens (Whole (suc n) c) = Whole n (suc c)
-before Closes (Cut n c) = Cut (suc n) c
-before Closes (Whole n c) = Whole (suc n) c
-before (Leaf class) (Cut n c) = Cut (suc n) c
-before (Leaf class) (Whole n c) = Whole n (suc c)
+abbrev pub tagBefore : Sort → Back → Back
+tagBefore Opens (Cut n c) = Cut (suc n) c
+tagBefore Opens (Whole zero c) = Cut 1 c
+tagBefore Opens (Whole (suc n) c) = Whole n (suc c)
+tagBefore Closes (Cut n c) = Cut (suc n) c
+tagBefore Closes (Whole n c) = Whole (suc n) c
+tagBefore (Leaf class) (Cut n c) = Cut (suc n) c
+tagBefore (Leaf class) (Whole n c) = Whole n (suc c)
 
 -- what the tags keep, from the last to the first: `Whole` where they close every array that they open, else `Cut` after the last '['
 -- that stays open
 unfoldable pub back : List ℕ → Back
 back [] = Whole 0 0
-back (tag ∷ tags) = before (sortOf tag) (back tags)
+back (tag ∷ tags) = tagBefore (sortOf tag) (back tags)
 
 -- every array that the tags open is closed by them
 abbrev pub AllClosed : Back → Type 0
@@ -70,7 +70,7 @@ AllClosed (Cut n c) = ⊥
 
 -- a tag that opens or closes an array (rule 3)
 abbrev pub bracket : ℕ → Bool
-bracket tag = among tag (91 ∷ 93 ∷ [])
+bracket tag = among tag (arrayKind ∷ 93 ∷ [])
 
 -- one of the tags is a bracket: where none is, every tag is kept
 abbrev pub brackets : List ℕ → Bool
