@@ -11,7 +11,7 @@ use Rattle.node.specs.Tags.{classOf, sortOf}
 use Rattle.node.specs.declared.tags.Sort.{Sort}
 use Rattle.node.specs.declared.tags.Sort.the-variants.{Leaf}
 use Rattle.scan.specs.CodeScans.{tagBefore, back, bracket, brackets}
-use Rattle.scan.specs.declared.Back.the-variants.{Whole}
+use Rattle.scan.specs.declared.Back.the-variants.{Uncut}
 
 -- ---- the loop that looks for a bracket
 
@@ -57,7 +57,7 @@ leaf tag e =
     rw (n, m)
 
 -- they are all kept
-pub flat : (tags : List ℕ) → brackets tags ≡ false → Whole 0 (length tags) ≡ back tags
+pub flat : (tags : List ℕ) → brackets tags ≡ false → Uncut 0 (length tags) ≡ back tags
 unfolding back
 flat [] e = refl
 flat (tag ∷ tags) e =
