@@ -1,6 +1,7 @@
 // The tags and their data without records: what the first reading finds out. Linear, with no stack for arrays.
 use argument::Arg;
 use argument::read_checked;
+use node::tags::ARRAY;
 use node::tags::Class;
 use node::tags::Sort;
 use node::tags::sort_of;
@@ -92,7 +93,7 @@ fn is_bracket(tag: u8) -> bool
     ensures { λ r. ⌜ r ≡ bracket tag ⌝ }
 {
     match tag {
-        b'[' | b']' => true,
+        ARRAY | b']' => true,
         _ => false,
     }
 }
