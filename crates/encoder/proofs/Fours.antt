@@ -1,4 +1,4 @@
--- What the encoders write is a multiple of four bytes long.
+-- What the encoders bytesOutcome is a multiple of four bytes long.
 use mathlib.Core.Path.{_≡_}
 use mathlib.Core.Bool.{Bool, true, false, cond}
 use mathlib.Core.List.{List, _++_}
@@ -12,18 +12,22 @@ use Rattle.refusal.specs.declared.Fault.the-variants.{NotUtf8}
 use Rattle.utf8.specs.Derive.{utf8}
 use Rattle.node.specs.Forest.{Forest, nil, node, depth}
 use Rattle.strings.specs.Atomic.{oscString}
-use Rattle.writers.specs.Osc.{packetOf}
-use Rattle.encoder.specs.Outcome.{Outcome, refuse, write, plain, prefixed, encoded, Encodes, malformed, formed, stringOutcome}
+use Rattle.writers.specs.Osc.{writePacket}
+use Rattle.encoder.specs.Outcome.{Outcome, refuse, bytesOutcome, unframed, prefixed, treeOutcome, stringOutcome}
+use Rattle.encoder.specs.Outcome.{Encodes, malformed, formed}
 use Rattle.encoder.specs.declared.Encoded.the-variants.{Written}
 use Rattle.strings.proofs.Lengths.{string-even}
 use Rattle.writers.proofs.Lengths.{packet-even, element-even}
+use Rattle.node.specs.Tags.{messageKind}
+use Rattle.wire.specs.Limits.{longest, deepest}
+use Rattle.node.specs.declared.record.Item.{Item}
 use Rattle.wire.proofs.Choices.{by-test}
 
 -- what `encode_tcp` writes is a multiple of four bytes long
-pub prefixed-even : (source : List ℕ) (kind a b : ℕ) (inside : Forest) → length (prefixed kind (packetOf source kind a b inside)) % 4 ≡ 0
-prefixed-even source kind a b inside =
-    let e = packet-even source kind a b inside in
-    by-test (λ (bs : List ℕ). length bs % 4 ≡ 0) (eqb kind 47) (λ _. element-even (packetOf source kind a b inside) e) (λ _. e)
+pub prefixed-even : (source : List ℕ) (item : Item) (inside : Forest) → length (prefixed (item .kind) (writePacket source item inside)) % 4 ≡ 0
+prefixed-even source item inside =
+    let e = packet-even source item inside in
+    by-test (λ (bs : List ℕ). length bs % 4 ≡ 0) (eqb (item .kind) messageKind) (λ _. element-even (writePacket source item inside) e) (λ _. e)
 
 -- an outcome that answers a count answers a multiple of four
 abbrev Even : Outcome → Type 0
@@ -36,36 +40,39 @@ cond-even : (x : Bool) (r s : Outcome) → Even r → Even s → Even (cond x r 
 cond-even true r s p q = p
 cond-even false r s p q = q
 
-write-even : (bs out : List ℕ) → length bs % 4 ≡ 0 → Even (write bs out)
-unfolding write
+write-even : (bs out : List ℕ) → length bs % 4 ≡ 0 → Even (bytesOutcome bs out)
+unfolding bytesOutcome
 write-even bs out h =
     let done : Outcome = record { answer = Written (length bs); out = bs ++ drop (length bs) out } in
-    cond-even (leb (length bs) 65535) (cond (leb (length bs) (length out)) done (refuse OutputShort out)) (refuse TooLong out)
+    cond-even (leb (length bs) longest) (cond (leb (length bs) (length out)) done (refuse OutputShort out)) (refuse TooLong out)
     (cond-even (leb (length bs) (length out)) done (refuse OutputShort out) (λ n e. let q : length bs ≡ n = cc in rw (← q) h)
     (refuse-even OutputShort out))
     (refuse-even TooLong out)
 
 encodes-even : (frame : ℕ → List ℕ → List ℕ)
-    → ((source : List ℕ) (kind a b : ℕ) (inside : Forest) → length (frame kind (packetOf source kind a b inside)) % 4 ≡ 0)
+    → ((source : List ℕ) (item : Item) (inside : Forest) → length (frame (item .kind) (writePacket source item inside)) % 4 ≡ 0)
     → (t : List ℕ) (count : ℕ) (source out : List ℕ) (r : Outcome) → Encodes frame t count source out r → Even r
-unfolding encoded
+unfolding treeOutcome
 encodes-even frame h t count source out r (malformed n e) = rw e (refuse-even BadTable out)
-encodes-even frame h t count source out r (formed k a b inside tree e) =
+encodes-even frame h t count source out r (formed item inside tree e) =
     rw e
-    (cond-even (leb (depth (node k a b inside nil)) 64) (write (frame k (packetOf source k a b inside)) out) (refuse TooDeep out)
-    (write-even (frame k (packetOf source k a b inside)) out (h source k a b inside))
+    (cond-even (leb (depth (node item inside nil)) deepest) (bytesOutcome (frame (item .kind) (writePacket source item inside)) out) (refuse TooDeep out)
+    (write-even (frame (item .kind) (writePacket source item inside)) out (h source item inside))
     (refuse-even TooDeep out))
 
-pub encode-fours : (t : List ℕ) (count : ℕ) (source out : List ℕ) (r : Outcome) → Encodes plain t count source out r → (n : ℕ)
+-- `encode` answers a multiple of four
+pub encode-fours : (t : List ℕ) (count : ℕ) (source out : List ℕ) (r : Outcome) → Encodes unframed t count source out r → (n : ℕ)
     → r .answer ≡ Written n → n % 4 ≡ 0
-encode-fours = encodes-even plain packet-even
+encode-fours = encodes-even unframed packet-even
 
+-- `encode_tcp` answers a multiple of four
 pub encode-tcp-fours : (t : List ℕ) (count : ℕ) (source out : List ℕ) (r : Outcome) → Encodes prefixed t count source out r → (n : ℕ)
     → r .answer ≡ Written n → n % 4 ≡ 0
 encode-tcp-fours = encodes-even prefixed prefixed-even
 
+-- `encode_string` answers a multiple of four
 pub encode-string-fours : (text out : List ℕ) (n : ℕ) → stringOutcome text out .answer ≡ Written n → n % 4 ≡ 0
 unfolding stringOutcome
 encode-string-fours text out =
-    cond-even (utf8 text) (write (oscString text) out) (refuse (Unreadable NotUtf8) out)
+    cond-even (utf8 text) (bytesOutcome (oscString text) out) (refuse (Unreadable NotUtf8) out)
     (write-even (oscString text) out (string-even text)) (refuse-even (Unreadable NotUtf8) out)

@@ -5,26 +5,29 @@ use Prim.Native.Nat.{ℕ}
 use Rattle.wire.proofs.Only.{one-outcome}
 use Rattle.node.specs.Forest.{nil, node}
 use Rattle.table.proofs.Theorem.{tree-formed, tree-unique}
-use Rattle.encoder.specs.Outcome.{Outcome, plain, prefixed, encoded, Encodes, malformed, formed, stringOutcome}
+use Rattle.encoder.specs.Outcome.{Outcome, unframed, prefixed, treeOutcome, Encodes, malformed, formed, stringOutcome}
 
 -- a table has one tree, or none
 encodes-only : (frame : ℕ → List ℕ → List ℕ) (t : List ℕ) (count : ℕ) (source out : List ℕ) (r s : Outcome)
     → Encodes frame t count source out r → Encodes frame t count source out s → r ≡ s
 encodes-only frame t count source out r s (malformed n e) (malformed m f) = one-outcome e f
-encodes-only frame t count source out r s (malformed n e) (formed k a b inside tree f) = absurd (n (tree-formed tree))
-encodes-only frame t count source out r s (formed k a b inside tree e) (malformed n f) = absurd (n (tree-formed tree))
-encodes-only frame t count source out r s (formed k a b inside tree e) (formed k′ a′ b′ inside′ tree′ f) =
-    let u : node k a b inside nil ≡ node k′ a′ b′ inside′ nil = tree-unique t 0 count _ _ (tree .spans) (tree′ .spans) in
-    let v : encoded frame source out k a b inside ≡ encoded frame source out k′ a′ b′ inside′ = cc in
+encodes-only frame t count source out r s (malformed n e) (formed item inside tree f) = absurd (n (tree-formed tree))
+encodes-only frame t count source out r s (formed item inside tree e) (malformed n f) = absurd (n (tree-formed tree))
+encodes-only frame t count source out r s (formed item inside tree e) (formed item′ inside′ tree′ f) =
+    let u : node item inside nil ≡ node item′ inside′ nil = tree-unique t 0 count _ _ (tree .spans) (tree′ .spans) in
+    let v : treeOutcome frame source out item inside ≡ treeOutcome frame source out item′ inside′ = cc in
     e ∙ v ∙ sym f
 
-pub encode-only : (t : List ℕ) (count : ℕ) (source out : List ℕ) (r s : Outcome) → Encodes plain t count source out r
-    → Encodes plain t count source out s → r ≡ s
-encode-only = encodes-only plain
+-- `encode` has one outcome
+pub encode-only : (t : List ℕ) (count : ℕ) (source out : List ℕ) (r s : Outcome) → Encodes unframed t count source out r
+    → Encodes unframed t count source out s → r ≡ s
+encode-only = encodes-only unframed
 
+-- `encode_tcp` has one outcome
 pub encode-tcp-only : (t : List ℕ) (count : ℕ) (source out : List ℕ) (r s : Outcome)
     → Encodes prefixed t count source out r → Encodes prefixed t count source out s → r ≡ s
 encode-tcp-only = encodes-only prefixed
 
+-- `encode_string` has one outcome
 pub encode-string-only : (text out : List ℕ) (r s : Outcome) → r ≡ stringOutcome text out → s ≡ stringOutcome text out → r ≡ s
 encode-string-only text out r s = one-outcome

@@ -13,8 +13,11 @@ use Rattle.node.specs.Forest.{Forest, nil, node, depth}
 use Rattle.table.specs.Formed.{WellFormed}
 use Rattle.table.specs.Tree.{IsTree}
 use Rattle.strings.specs.Atomic.{oscString}
-use Rattle.writers.specs.Osc.{elementOf, packetOf}
+use Rattle.writers.specs.Osc.{writeElement, writePacket}
 use Rattle.encoder.specs.declared.Encoded.{Encoded}
+use Rattle.node.specs.Tags.{messageKind}
+use Rattle.wire.specs.Limits.{longest, deepest}
+use Rattle.node.specs.declared.record.Item.{Item}
 use Rattle.encoder.specs.declared.Encoded.the-variants.{Written, Refused}
 
 -- an answer, and what the output then holds
@@ -27,32 +30,34 @@ abbrev pub refuse : Refusal → List ℕ → Outcome
 refuse r out = record { answer = Refused r; out = out }
 
 -- these bytes over the output's first ones: 1 where they are over 65,535, then 12 where the output is shorter; later bytes are unchanged
-unfoldable pub write : List ℕ → List ℕ → Outcome
-write bs out =
-    cond (leb (length bs) 65535)
+unfoldable pub bytesOutcome : List ℕ → List ℕ → Outcome
+bytesOutcome bs out =
+    cond (leb (length bs) longest)
     (cond (leb (length bs) (length out)) (record { answer = Written (length bs); out = bs ++ drop (length bs) out })
     (refuse OutputShort out))
     (refuse TooLong out)
 
 -- the bytes of a packet as `encode` frames it: as they are
-abbrev pub plain : ℕ → List ℕ → List ℕ
-plain kind bs = bs
+abbrev pub unframed : ℕ → List ℕ → List ℕ
+unframed kind bs = bs
 
 -- as `encode_tcp` frames it: a length before a message and none before a bundle
 abbrev pub prefixed : ℕ → List ℕ → List ℕ
-prefixed kind bs = cond (eqb kind 47) (elementOf bs) bs
+prefixed kind bs = cond (eqb kind messageKind) (writeElement bs) bs
 
 -- what the encoder gives for a tree: 9 (limit 64) before 1 and 12
-unfoldable pub encoded : (ℕ → List ℕ → List ℕ) → List ℕ → List ℕ → ℕ → ℕ → ℕ → Forest → Outcome
-encoded frame source out kind a b inside =
-    cond (leb (depth (node kind a b inside nil)) 64) (write (frame kind (packetOf source kind a b inside)) out) (refuse TooDeep out)
+unfoldable pub treeOutcome : (ℕ → List ℕ → List ℕ) → List ℕ → List ℕ → Item → Forest → Outcome
+treeOutcome frame source out item inside =
+    cond (leb (depth (node item inside nil)) deepest)
+    (bytesOutcome (frame (item .kind) (writePacket source item inside)) out)
+    (refuse TooDeep out)
 
 -- the outcome of an encoder: 11 for a table that is not well formed; else what its tree gives
 pub data Encodes (frame : ℕ → List ℕ → List ℕ) (t : List ℕ) (count : ℕ) (source out : List ℕ) (r : Outcome) : Type 0 where
   malformed : (WellFormed t count source → ⊥) → r ≡ refuse BadTable out → Encodes frame t count source out r
-  formed : (kind a b : ℕ) (inside : Forest) → IsTree t count source kind a b inside → r ≡ encoded frame source out kind a b inside
+  formed : (item : Item) (inside : Forest) → IsTree t count source item inside → r ≡ treeOutcome frame source out item inside
       → Encodes frame t count source out r
 
 -- the outcome of `encode_string`: 4, then 1, then 12
 unfoldable pub stringOutcome : List ℕ → List ℕ → Outcome
-stringOutcome text out = cond (utf8 text) (write (oscString text) out) (refuse (Unreadable NotUtf8) out)
+stringOutcome text out = cond (utf8 text) (bytesOutcome (oscString text) out) (refuse (Unreadable NotUtf8) out)

@@ -1,34 +1,27 @@
 // Packets back to bytes (encoder.rs).
-use node::record::read_record;
+use lengths::packet_length;
+use node::record::kind_at;
+use node::tags::MESSAGE;
 use refusal::Fault;
 use refusal::Refusal;
 use strings::encode_string_into;
-use survey::length::measure;
 use survey::survey;
 use table::deeper_than;
 use table::is_well_formed;
 use utf8::is_utf8;
+use wire::DEEPEST;
+use wire::LONGEST;
+use wire::LONGEST_FRAMED;
 use wire::put_u32;
+use writers::LONGEST_ELEMENT;
 use writers::encode_packet;
 ghost use mathlib.Core.Path.{_≡_};
-ghost use Rattle.writers.specs.Osc.{elementOf};
-ghost use Rattle.encoder.specs.Outcome.{Outcome, plain, prefixed, Encodes, stringOutcome};
-ghost use Rattle.encoder.specs.Prepare.{Sized, Writes, Prepares};
+ghost use Rattle.writers.specs.Osc.{writeElement};
+ghost use Rattle.encoder.specs.Outcome.{Outcome, unframed, prefixed, Encodes, stringOutcome};
+ghost use Rattle.encoder.specs.CodePrepare.{Writable, Writes, Prepares};
 
-// The longest result, prefix included.
-const MOST: usize = 65_535;
-
-// The longest packet that may stand after a prefix.
-const MOST_AFTER_PREFIX: usize = 65_531;
-
-// The longest text that is not too long with its NULs.
-const LONGEST_TEXT: usize = 65_531;
-
-// The longest result with a size before it: what the survey answers at most where it is sure.
-const MOST_AS_ELEMENT: usize = 65_539;
-
-// How deep bundles may be nested.
-const DEEPEST: usize = 64;
+// The longest text that is not too long with its 1 to 4 NULs.
+const LONGEST_TEXT: usize = LONGEST - 4;
 
 // What an encoder answers.
 pub enum Encoded {
@@ -49,7 +42,7 @@ fn prepare(table: &[u8], count: usize, source: &[u8]) -> Prepared
     ensures { λ r. ⌜ Prepares (now (table .entry)) count (now (source .entry)) r ⌝ }
 {
     let surveyed = survey(table, count, source);
-    if surveyed <= MOST_AS_ELEMENT {
+    if surveyed <= LONGEST_ELEMENT {
         return Prepared::Length(surveyed - 4);
     }
     if !is_well_formed(table, count, source) {
@@ -58,16 +51,17 @@ fn prepare(table: &[u8], count: usize, source: &[u8]) -> Prepared
     if deeper_than(table, count, DEEPEST) {
         return Prepared::Refused(Refusal::TooDeep);
     }
-    let length = measure(table, count) - 4;
+    let length = packet_length(table, count) - 4;
     Prepared::Length(length)
 }
 
 // Writes the packet of a table, which is n bytes long: 1, then 12.
 fn encode_into(table: &[u8], source: &[u8], n: usize, out: &mut [u8]) -> Encoded
-    requires { ⌜ Sized (now source) (now table) n ⌝ }
-    ensures { λ r. ⌜ Writes (λ bs. bs) (now (source .entry)) (now (table .entry)) (now (out .entry)) (record { answer = r; out = now (out .exit) }) ⌝ }
+    requires { ⌜ Writable (now source) (now table) n ⌝ }
+    ensures { λ r. ⌜ Writes (λ bs. bs) (now (source .entry)) (now (table .entry)) (now (out .entry))
+        (record { answer = r; out = now (out .exit) }) ⌝ }
 {
-    if MOST < n {
+    if LONGEST < n {
         return Encoded::Refused(Refusal::TooLong);
     }
     if out.len() < n {
@@ -78,10 +72,11 @@ fn encode_into(table: &[u8], source: &[u8], n: usize, out: &mut [u8]) -> Encoded
 
 // Writes the message of a table, which is n bytes long, after its length: 1, then 12.
 fn encode_message_tcp(table: &[u8], source: &[u8], n: usize, out: &mut [u8]) -> Encoded
-    requires { ⌜ Sized (now source) (now table) n ⌝ }
-    ensures { λ r. ⌜ Writes elementOf (now (source .entry)) (now (table .entry)) (now (out .entry)) (record { answer = r; out = now (out .exit) }) ⌝ }
+    requires { ⌜ Writable (now source) (now table) n ⌝ }
+    ensures { λ r. ⌜ Writes writeElement (now (source .entry)) (now (table .entry)) (now (out .entry))
+        (record { answer = r; out = now (out .exit) }) ⌝ }
 {
-    if MOST_AFTER_PREFIX < n {
+    if LONGEST_FRAMED < n {
         return Encoded::Refused(Refusal::TooLong);
     }
     if out.len() < 4 + n {
@@ -96,7 +91,8 @@ fn encode_message_tcp(table: &[u8], source: &[u8], n: usize, out: &mut [u8]) -> 
 //
 // Ruled out: an answer that counts bytes of which none is written; 12 where the packet is over 65,535 bytes, whatever the output's length.
 pub fn encode(table: &[u8], count: usize, source: &[u8], out: &mut [u8]) -> Encoded
-    ensures { λ r. ⌜ Encodes plain (now (table .entry)) count (now (source .entry)) (now (out .entry)) (record { answer = r; out = now (out .exit) }) ⌝ }
+    ensures { λ r. ⌜ Encodes unframed (now (table .entry)) count (now (source .entry)) (now (out .entry))
+        (record { answer = r; out = now (out .exit) }) ⌝ }
 {
     match prepare(table, count, source) {
         Prepared::Refused(refusal) => Encoded::Refused(refusal),
@@ -108,13 +104,13 @@ pub fn encode(table: &[u8], count: usize, source: &[u8], out: &mut [u8]) -> Enco
 //
 // Ruled out: a length before a bundle; a length that counts its own four bytes.
 pub fn encode_tcp(table: &[u8], count: usize, source: &[u8], out: &mut [u8]) -> Encoded
-    ensures { λ r. ⌜ Encodes prefixed (now (table .entry)) count (now (source .entry)) (now (out .entry)) (record { answer = r; out = now (out .exit) }) ⌝ }
+    ensures { λ r. ⌜ Encodes prefixed (now (table .entry)) count (now (source .entry)) (now (out .entry))
+        (record { answer = r; out = now (out .exit) }) ⌝ }
 {
     match prepare(table, count, source) {
         Prepared::Refused(refusal) => Encoded::Refused(refusal),
         Prepared::Length(n) => {
-            let root = read_record(table, 0);
-            if root.kind == b'/' {
+            if kind_at(table, 0) == MESSAGE {
                 encode_message_tcp(table, source, n, out)
             } else {
                 encode_into(table, source, n, out)
@@ -127,7 +123,8 @@ pub fn encode_tcp(table: &[u8], count: usize, source: &[u8], out: &mut [u8]) -> 
 //
 // Ruled out: a text of a multiple of 4 bytes with no NUL after it; 1 for a text that is not UTF-8, however long it is.
 pub fn encode_string(text: &[u8], out: &mut [u8]) -> Encoded
-    ensures { λ r. ⌜ _≡_ {A = Outcome} (record { answer = r; out = now (out .exit) }) (stringOutcome (now (text .entry)) (now (out .entry))) ⌝ }
+    ensures { λ r. ⌜ _≡_ {A = Outcome}
+        (record { answer = r; out = now (out .exit) }) (stringOutcome (now (text .entry)) (now (out .entry))) ⌝ }
 {
     if !is_utf8(text) {
         return Encoded::Refused(Refusal::Unreadable(Fault::NotUtf8));

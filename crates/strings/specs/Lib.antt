@@ -1,1 +1,2 @@
 pub mod Atomic
+pub mod CodeStrings

@@ -1,27 +1,18 @@
-// The writers (encoder.rs, `encode_message` and what it calls): each fills the first bytes of the slice that it is lent, and
-// answers how many these are.
+// The writers of texts, blobs, numbers and one argument's data (encoder.rs, `encode_arg_data` and what it calls): each fills the first
+// bytes of the slice that it is lent, and answers how many these are.
+use node::record::Item;
 use node::tags::Class;
+use wire::copy;
 use wire::put_u32;
+use wire::range;
 ghost use mathlib.Core.Path.{_≡_};
 ghost use mathlib.Core.Bool.{true};
 ghost use mathlib.Core.List.{_++_};
 ghost use Prim.Native.Nat.{_+_, _^_, _≤_, _<_};
 ghost use lib.ListN.{length, replicate};
-ghost use Rattle.wire.specs.Wrote.{Wrote, Filled};
-ghost use Rattle.table.specs.Formed.{part};
-ghost use Rattle.strings.specs.Atomic.{int32, oscString, oscBlob, argumentOf, stringLength, blobLength, ranged};
-
-// Writes `bytes`.
-pub fn write(bytes: &[u8], out: &mut [u8])
-    requires { ⌜ length (now bytes) ≤ length (now out) ⌝ }
-    ensures { λ _. ⌜ Wrote (now (bytes .entry)) (now (out .entry)) (now (out .exit)) ⌝ }
-{
-    let mut i: usize = 0;
-    while i < bytes.len() {
-        out[i] = bytes[i];
-        i += 1;
-    }
-}
+ghost use Rattle.wire.specs.Wrote.{Filled};
+ghost use Rattle.strings.specs.Atomic.{int32, oscString, oscBlob, writeArgument};
+ghost use Rattle.strings.specs.CodeStrings.{stringLength, blobLength, hasRange};
 
 // Writes n zero bytes, at most 4: a loop would be compiled to a call.
 pub fn write_zeros(n: usize, out: &mut [u8]) -> usize
@@ -53,7 +44,7 @@ pub fn encode_string_into(text: &[u8], out: &mut [u8]) -> usize
     ensures { λ r. ⌜ Filled (oscString (now (text .entry))) (now (out .entry)) (now (out .exit)) r ⌝ }
 {
     let n = text.len();
-    write(text, out);
+    copy(text, out);
     n + write_zeros(4 - n % 4, &mut out[n..])
 }
 
@@ -65,7 +56,7 @@ fn encode_blob_into(content: &[u8], out: &mut [u8]) -> usize
 {
     let n = content.len();
     put_u32(out, n as u32);
-    write(content, &mut out[4..]);
+    copy(content, &mut out[4..]);
     let end = 4 + n;
     end + write_zeros((4 - n % 4) % 4, &mut out[end..])
 }
@@ -89,30 +80,20 @@ pub fn encode_pair_into(high: u32, low: u32, out: &mut [u8]) -> usize
     8
 }
 
-// The part of the source that a record names.
-fn range(source: &[u8], a: u32, b: u32) -> &[u8]
-    requires { ⌜ a + b ≤ length (now source) ⌝ }
-    ensures { λ r. ⌜ now r ≡ part (now (source .entry)) a b ⌝ }
-{
-    let start = a as usize;
-    let end = start + b as usize;
-    &source[start..end]
-}
-
 // Writes the data of one argument that is no array. An address is written by it too: called from two places, it stays a function of
 // its own, and a level of nested arrays takes no more of the stack than its own frame.
-pub fn encode_leaf_data(class: Class, a: u32, b: u32, source: &[u8], out: &mut [u8]) -> usize
-    requires { ⌜ (ranged class ≡ true → a + b ≤ length (now source)) ⌝ }
-    requires { ⌜ length (argumentOf class (now source) a b) ≤ length (now out) ⌝ }
-    ensures { λ r. ⌜ Filled (argumentOf class (now (source .entry)) a b) (now (out .entry)) (now (out .exit)) r ⌝ }
+pub fn encode_leaf_data(class: Class, item: Item, source: &[u8], out: &mut [u8]) -> usize
+    requires { ⌜ (hasRange class ≡ true → item .a + item .b ≤ length (now source)) ⌝ }
+    requires { ⌜ length (writeArgument class (now source) item) ≤ length (now out) ⌝ }
+    ensures { λ r. ⌜ Filled (writeArgument class (now (source .entry)) item) (now (out .entry)) (now (out .exit)) r ⌝ }
 {
     match class {
-        Class::Four => encode_number_into(a, out),
-        Class::Eight => encode_pair_into(a, b, out),
+        Class::Four => encode_number_into(item.a, out),
+        Class::Eight => encode_pair_into(item.a, item.b, out),
         Class::Bare => 0,
-        Class::Text => encode_string_into(range(source, a, b), out),
-        Class::Blob => encode_blob_into(range(source, a, b), out),
-        Class::Scalar => encode_number_into(a, out),
+        Class::Text => encode_string_into(range(source, item.a, item.b), out),
+        Class::Blob => encode_blob_into(range(source, item.a, item.b), out),
+        Class::Scalar => encode_number_into(item.a, out),
         Class::Unknown => 0,
     }
 }

@@ -1,2 +1,1 @@
-pub mod Measure
-pub mod Survey
+pub mod CodeSurvey

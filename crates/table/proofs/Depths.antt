@@ -1,5 +1,5 @@
 -- The walk along a row of records that looks for bundles nested too deep.
-use mathlib.Core.Path.{_≡_, refl, sym, ap, subst, _∙_}
+use mathlib.Core.Path.{_≡_, refl, sym, ap, _∙_}
 use mathlib.Core.Bool.{Bool, true, false}
 use mathlib.Core.List.{List}
 use Prim.Native.Nat.{ℕ, _+_, _-_, _≤_, _<_, max}
@@ -7,8 +7,8 @@ use native.Mathlib.Omega.{arith}
 use lib.Dec.{ltb}
 use borrow.Author.Tests.{lt-ltb, le-ltb, ltb-true, ltb-false, ne-eqb}
 use Rattle.node.specs.Forest.{Forest, nil, level, depth}
-use Rattle.node.specs.Records.{recordAt}
-use Rattle.node.specs.declared.record.Record.{Record}
+use Rattle.node.specs.Tags.{bundleKind}
+use Rattle.node.specs.Records.{kindAt, endAt}
 use Rattle.table.specs.Tree.{Spans, Row}
 use Rattle.table.proofs.Spanned.{cut, no-more}
 
@@ -29,26 +29,28 @@ pub record Passed (t : List ℕ) (hi limit : ℕ) (F : Forest) (at : ℕ) : Type
   pub spans : Spans t at hi rest
   pub same : ltb limit (depth F) ≡ ltb limit (depth rest)
 
+-- before the first record nothing is passed
 pub passed-none : (t : List ℕ) (lo hi limit : ℕ) (F : Forest) → Spans t lo hi F → Passed t hi limit F lo
 passed-none t lo hi limit F s = record { rest = F; spans = s; same = refl }
 
+-- where no record is left, the whole is not too deep
 pub passed-all : {t : List ℕ} {hi limit : ℕ} {F : Forest} {at : ℕ} → Passed t hi limit F at → hi ≤ at → false ≡ ltb limit (depth F)
 unfolding depth
 passed-all {t} {hi} {limit} {F} {at} p h =
     let e : p .rest ≡ nil = no-more t at hi (p .rest) h (p .spans) in
     sym (p .same ∙ ap (λ (G : Forest). ltb limit (depth G)) e ∙ le-ltb limit 0 (omega arith))
 
--- the next node, as it was read: what it contains and what is left
-record Next (t : List ℕ) (hi at : ℕ) (G : Forest) (r : Record) : Type 0 where
+-- the next node, by its kind and its end: what it contains and what is left
+record Next (t : List ℕ) (hi at : ℕ) (G : Forest) (kind end : ℕ) : Type 0 where
   inside : Forest
   rest : Forest
-  in-spans : Spans t (at + 1) (r .end) inside
-  rest-spans : Spans t (r .end) hi rest
-  deep : depth G ≡ max (level (r .kind) (depth inside)) (depth rest)
-  on : at < r .end
-  within : r .end ≤ hi
+  in-spans : Spans t (at + 1) end inside
+  rest-spans : Spans t end hi rest
+  deep : depth G ≡ max (level kind (depth inside)) (depth rest)
+  on : at < end
+  within : end ≤ hi
 
-next-read : (t : List ℕ) (hi at : ℕ) (G : Forest) → at < hi → Spans t at hi G → Next t hi at G (recordAt t at)
+next-read : (t : List ℕ) (hi at : ℕ) (G : Forest) → at < hi → Spans t at hi G → Next t hi at G (kindAt t at) (endAt t at)
 unfolding depth
 next-read t hi at G h s =
     let u = cut t at hi G h s in
@@ -62,47 +64,52 @@ next-read t hi at G h s =
       within = u .within;
     }
 
-module _ {t : List ℕ} {hi limit : ℕ} {F : Forest} {at : ℕ} {r : Record} (p : Passed t hi limit F at) (e : r ≡ recordAt t at) (h : at < hi)
-  where
-    next : Next t hi at (p .rest) r
-    next = subst (Next t hi at (p .rest)) (sym e) (next-read t hi at (p .rest) h (p .spans))
+-- the kind and the end that were read at `at`
+module _ {t : List ℕ} {hi limit : ℕ} {F : Forest} {at kind end : ℕ} (p : Passed t hi limit F at) (ke : kind ≡ kindAt t at)
+    (ee : end ≡ endAt t at) (h : at < hi) where
+  next : Next t hi at (p .rest) kind end
+  next = rw (ke, ee) (next-read t hi at (p .rest) h (p .spans))
 
-    pub next-row : {lo : ℕ} → Row t lo hi → Row t (at + 1) (r .end)
-    next-row w = record { forest = next .inside; spans = next .in-spans; table = omega (arith, w .table, next .within) }
+  -- what the next record contains is a row of the table
+  pub next-row : {lo : ℕ} → Row t lo hi → Row t (at + 1) end
+  next-row w = record { forest = next .inside; spans = next .in-spans; table = omega (arith, w .table, next .within) }
 
-    pub next-on : (at < r .end) × (r .end ≤ hi)
-    next-on = (next .on, next .within)
+  -- the next record ends after itself, and in the row
+  pub next-on : (at < end) × (end ≤ hi)
+  next-on = (next .on, next .within)
 
-    is-deep : ltb limit (depth F) ≡ ltb limit (max (level (r .kind) (depth (next .inside))) (depth (next .rest)))
-    is-deep = p .same ∙ ap (ltb limit) (next .deep)
+  is-deep : ltb limit (depth F) ≡ ltb limit (max (level kind (depth (next .inside))) (depth (next .rest)))
+  is-deep = p .same ∙ ap (ltb limit) (next .deep)
 
-    -- the node is not too deep
-    passed : ((G : Forest) → Spans t (at + 1) (r .end) G → level (r .kind) (depth G) ≤ limit) → Passed t hi limit F (r .end)
-    passed low =
-        record {
-          rest = next .rest;
-          spans = next .rest-spans;
-          same = is-deep ∙ over-right limit (level (r .kind) (depth (next .inside))) (depth (next .rest))
-              (low (next .inside) (next .in-spans));
-        }
+  -- the node is not too deep
+  passed : ((G : Forest) → Spans t (at + 1) end G → level kind (depth G) ≤ limit) → Passed t hi limit F end
+  passed low =
+      record {
+        rest = next .rest;
+        spans = next .rest-spans;
+        same = is-deep ∙ over-right limit (level kind (depth (next .inside))) (depth (next .rest))
+            (low (next .inside) (next .in-spans));
+      }
 
-    found : ((G : Forest) → Spans t (at + 1) (r .end) G → limit < level (r .kind) (depth G)) → true ≡ ltb limit (depth F)
-    found high =
-        sym (is-deep ∙ over-left limit (level (r .kind) (depth (next .inside))) (depth (next .rest)) (high (next .inside) (next .in-spans)))
+  found : ((G : Forest) → Spans t (at + 1) end G → limit < level kind (depth G)) → true ≡ ltb limit (depth F)
+  found high =
+      sym (is-deep ∙ over-left limit (level kind (depth (next .inside))) (depth (next .rest)) (high (next .inside) (next .in-spans)))
 
-    -- no bundle
-    pub passed-other : (r .kind ≡ 35 → ⊥) → Passed t hi limit F (r .end)
-    passed-other k = passed (λ G s. rw (ne-eqb (r .kind) 35 k) (omega arith))
+  -- no bundle
+  pub passed-other : (kind ≡ bundleKind → ⊥) → Passed t hi limit F end
+  passed-other k = passed (λ G s. rw (ne-eqb kind bundleKind k) (omega arith))
 
-    -- a bundle, where none may be
-    pub found-here : r .kind ≡ 35 → limit ≡ 0 → true ≡ ltb limit (depth F)
-    found-here k z = found (λ G s. rw k (omega arith))
+  -- a bundle, where none may be
+  pub found-here : kind ≡ bundleKind → limit ≡ 0 → true ≡ ltb limit (depth F)
+  found-here k z = found (λ G s. rw k (omega arith))
 
-    -- a bundle whose elements are one level nearer to the limit
-    module _ (k : r .kind ≡ 35) (z : limit ≡ 0 → ⊥) {x : Bool}
-        (d : (G : Forest) → Spans t (at + 1) (r .end) G → x ≡ ltb (limit - 1) (depth G)) where
-      pub found-inside : x ≡ true → true ≡ ltb limit (depth F)
-      found-inside y = found (λ G s. let l : limit - 1 < depth G = ltb-true (limit - 1) (depth G) (sym (d G s) ∙ y) in rw k (omega arith))
+  -- a bundle whose elements are one level nearer to the limit
+  module _ (k : kind ≡ bundleKind) (z : limit ≡ 0 → ⊥) {x : Bool}
+      (d : (G : Forest) → Spans t (at + 1) end G → x ≡ ltb (limit - 1) (depth G)) where
+    -- its elements are too deep, so the whole is
+    pub found-inside : x ≡ true → true ≡ ltb limit (depth F)
+    found-inside y = found (λ G s. let l : limit - 1 < depth G = ltb-true (limit - 1) (depth G) (sym (d G s) ∙ y) in rw k (omega arith))
 
-      pub passed-bundle : x ≡ false → Passed t hi limit F (r .end)
-      passed-bundle y = passed (λ G s. let l : depth G ≤ limit - 1 = ltb-false (limit - 1) (depth G) (sym (d G s) ∙ y) in rw k (omega arith))
+    -- its elements are not too deep, so it is passed
+    pub passed-bundle : x ≡ false → Passed t hi limit F end
+    passed-bundle y = passed (λ G s. let l : depth G ≤ limit - 1 = ltb-false (limit - 1) (depth G) (sym (d G s) ∙ y) in rw k (omega arith))

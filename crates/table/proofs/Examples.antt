@@ -7,8 +7,9 @@ use Prim.Native.Nat.{ℕ, _≤_}
 use native.Mathlib.Omega.{arith}
 use Rattle.wire.specs.Number.{number, bytes}
 use Rattle.node.specs.Forest.{Forest, nil, node, size}
-use Rattle.node.specs.Tags.{sortOf, classOf}
-use Rattle.node.specs.Records.{recordOf, recordsOf, kindAt, endAt, aAt, bAt}
+use Rattle.node.specs.Tags.{messageKind, sortOf, classOf}
+use Rattle.node.specs.declared.record.Item.{Item}
+use Rattle.node.specs.Records.{recordOf, recordsOf, kindAt, fieldAt}
 use Rattle.node.specs.Rules.{ownRules}
 use Rattle.table.specs.Formed.{rangeOk, allowed, WellFormed}
 use Rattle.table.specs.Tree.{IsTree, Obeys, FieldsFit}
@@ -24,26 +25,32 @@ table length end =
     0x2F ∷ 0 ∷ 0 ∷ 0 ∷ 0 ∷ 0 ∷ 0 ∷ 2 ∷ 0 ∷ 0 ∷ 0 ∷ 0 ∷ 0 ∷ 0 ∷ 0 ∷ length
     ∷ 0x69 ∷ 0 ∷ 0 ∷ 0 ∷ 0 ∷ 0 ∷ 0 ∷ end ∷ 0 ∷ 0 ∷ 0 ∷ 5 ∷ 0 ∷ 0 ∷ 0 ∷ 0 ∷ []
 
--- the integer of P3's message
-abbrev pub five : Forest
-five = node 105 5 0 nil nil
+-- P3's message: its address has 2 bytes from 0 on
+abbrev pub message : Item
+message = record { kind = messageKind; a = 0; b = 2 }
 
-pub p3-tree : IsTree (table 2 2) 2 packet 47 0 2 five
+-- the integer that it contains
+abbrev pub five : Forest
+five = node (record { kind = 105; a = 5; b = 0 }) nil nil
+
+-- P3's table is the tree of a message with one integer
+pub p3-tree : IsTree (table 2 2) 2 packet message five
 unfolding number bytes size classOf sortOf recordOf recordsOf ownRules rangeOk allowed Obeys FieldsFit
 p3-tree =
-    bytes-tree (table 2 2) [] packet 47 0 2 five refl
+    bytes-tree (table 2 2) [] packet message five refl
     (omega arith, omega arith, (omega arith, omega arith, tt, tt), tt) (omega arith)
     (refl, refl, refl, (refl, refl, refl, tt, tt), tt)
 
+-- so it is well formed
 pub p3-formed : WellFormed (table 2 2) 2 packet
 p3-formed = tree-formed p3-tree
 
 -- the integer ends after the table's end
 pub wrong-end : WellFormed (table 2 3) 2 packet → ⊥
-unfolding number endAt
+unfolding number fieldAt
 wrong-end w = let h : 3 ≤ 2 = w .nodes 1 (omega arith) .within in omega arith
 
 -- the address ends after the packet's end
 pub range-past : WellFormed (table 13 2) 2 packet → ⊥
-unfolding number kindAt aAt bAt rangeOk
+unfolding number kindAt fieldAt rangeOk
 range-past w = let h : false ≡ true = w .nodes 0 (omega arith) .range in true≢false (sym h)

@@ -8,12 +8,15 @@ use native.Mathlib.Nat.{eq-or-lt-of-le}
 use native.Mathlib.Omega.{arith}
 use Rattle.wire.proofs.Choices.{lt-or-le}
 use Rattle.node.specs.Forest.{Forest, nil, node}
-use Rattle.node.specs.Records.{kindAt, endAt, aAt, bAt}
+use Rattle.node.specs.Records.{kindAt, endAt, itemAt}
 use Rattle.node.specs.Rules.{ownRules}
+use Rattle.node.specs.Tags.{bundleKind}
+use Rattle.node.specs.declared.record.Item.{Item}
 use Rattle.table.specs.Formed.{rangeOk, allowed, Tiles, done, step, NodeOk, WellFormed}
 use Rattle.table.specs.Tree.{Spans, Obeys, IsTree}
 use Rattle.table.proofs.Spanned.{spans-size}
 
+-- tiles run forward
 pub tiles-le : {t : List ℕ} {container lo hi : ℕ} → Tiles t container lo hi → lo ≤ hi
 tiles-le done = omega arith
 tiles-le (step lt may on r) = omega arith
@@ -30,14 +33,14 @@ grown-nil : (t source : List ℕ) (container lo : ℕ) → Grown t source contai
 unfolding Spans Obeys
 grown-nil t source container lo = record { forest = nil; spans = refl; obeys = tt }
 
-grown-node : (t source : List ℕ) (container lo hi : ℕ) → ownRules (kindAt t lo) (aAt t lo) (bAt t lo) ≡ true
-    → rangeOk source (kindAt t lo) (aAt t lo) (bAt t lo) ≡ true → allowed container (kindAt t lo) ≡ true
+grown-node : (t source : List ℕ) (container lo hi : ℕ) → ownRules (itemAt t lo) ≡ true
+    → rangeOk source (itemAt t lo) ≡ true → allowed container (kindAt t lo) ≡ true
     → Grown t source (kindAt t lo) (lo + 1) (endAt t lo) → Grown t source container (endAt t lo) hi → Grown t source container lo hi
 unfolding Spans Obeys
 grown-node t source container lo hi rules range may i r =
     record {
-      forest = node (kindAt t lo) (aAt t lo) (bAt t lo) (i .forest) (r .forest);
-      spans = (refl, refl, refl, i .spans, r .spans);
+      forest = node (itemAt t lo) (i .forest) (r .forest);
+      spans = (refl, i .spans, r .spans);
       obeys = (rules, range, may, i .obeys, r .obeys);
     }
 
@@ -55,14 +58,15 @@ module _ (t : List ℕ) (count : ℕ) (source : List ℕ) where
       (grow ok fuel (omega arith) (omega arith) (k .tiles))
       (grow ok fuel (omega arith) le r)
 
-  pub tree-of : WellFormed t count source → (inside : Forest) × IsTree t count source (kindAt t 0) (aAt t 0) (bAt t 0) inside
+  -- a well-formed table has a tree, whose root is the first record
+  pub tree-of : WellFormed t count source → (inside : Forest) × IsTree t count source (itemAt t 0) inside
   unfolding Spans Obeys allowed
   tree-of w =
       let k = w .nodes 0 (w .some) in
       let g = grow (w .nodes) count {lo = 0 + 1} {hi = endAt t 0} (omega (arith, w .whole)) (omega (arith, w .whole)) (k .tiles) in (
         g .forest,
         record {
-          spans = (refl, refl, refl, g .spans, w .whole);
+          spans = (refl, g .spans, w .whole);
           obeys = (k .rules, k .range, w .root, g .obeys, tt);
           few = w .few;
           fits = w .fits;
@@ -75,15 +79,15 @@ module _ (t : List ℕ) (count : ℕ) (source : List ℕ) where
 tiles-of : (t source : List ℕ) (container lo hi : ℕ) (F : Forest) → Spans t lo hi F → Obeys source container F → Tiles t container lo hi
 unfolding Spans Obeys
 tiles-of t source container lo hi nil s o = rw s done
-tiles-of t source container lo hi (node k a b inside rest) s o =
-    let i = spans-size t (lo + 1) (endAt t lo) inside (s .3) in
-    let r = spans-size t (endAt t lo) hi rest (s .4) in
-    step {i = lo} {j = hi} (omega arith) (rw (s .0) (o .2)) (omega arith) (tiles-of t source container (endAt t lo) hi rest (s .4) (o .4))
+tiles-of t source container lo hi (node item inside rest) s o =
+    let i = spans-size t (lo + 1) (endAt t lo) inside (s .1) in
+    let r = spans-size t (endAt t lo) hi rest (s .2) in
+    step {i = lo} {j = hi} (omega arith) (rw (← s .0) at (o .2)) (omega arith) (tiles-of t source container (endAt t lo) hi rest (s .2) (o .4))
 
 -- what each record of a row keeps
 record Kept (t source : List ℕ) (hi i : ℕ) : Type 0 where
-  rules : ownRules (kindAt t i) (aAt t i) (bAt t i) ≡ true
-  range : rangeOk source (kindAt t i) (aAt t i) (bAt t i) ≡ true
+  rules : ownRules (itemAt t i) ≡ true
+  range : rangeOk source (itemAt t i) ≡ true
   within : endAt t i ≤ hi
   tiles : Tiles t (kindAt t i) (i + 1) (endAt t i)
 
@@ -94,36 +98,37 @@ kept-of : (t source : List ℕ) (container lo hi : ℕ) (F : Forest) → Spans t
     → Kept t source hi i
 unfolding Spans Obeys
 kept-of t source container lo hi nil s o i l h = absurd (omega (arith, s))
-kept-of t source container lo hi (node k a b inside rest) s o i l h =
-    let x = spans-size t (lo + 1) (endAt t lo) inside (s .3) in
-    let y = spans-size t (endAt t lo) hi rest (s .4) in
+kept-of t source container lo hi (node item inside rest) s o i l h =
+    let x = spans-size t (lo + 1) (endAt t lo) inside (s .1) in
+    let y = spans-size t (endAt t lo) hi rest (s .2) in
     let first : Kept t source hi lo
     = record {
-      rules = rw (s .0, s .1, s .2) (o .0);
-      range = rw (s .0, s .1, s .2) (o .1);
+      rules = rw (← s .0) at (o .0);
+      range = rw (← s .0) at (o .1);
       within = omega arith;
-      tiles = rw (s .0) (tiles-of t source k (lo + 1) (endAt t lo) inside (s .3) (o .3));
+      tiles = rw (← s .0) at (tiles-of t source (item .kind) (lo + 1) (endAt t lo) inside (s .1) (o .3));
     } in
-    let deep = kept-of t source k (lo + 1) (endAt t lo) inside (s .3) (o .3) i in
-    let later = kept-of t source container (endAt t lo) hi rest (s .4) (o .4) i in
+    let deep = kept-of t source (item .kind) (lo + 1) (endAt t lo) inside (s .1) (o .3) i in
+    let later = kept-of t source container (endAt t lo) hi rest (s .2) (o .4) i in
     ⊎-elim
     (λ e. rw (← e) first)
     (λ g. ⊎-elim (λ q. kept-up (omega arith) (deep (omega arith) q)) (λ q. later q h) (lt-or-le i (endAt t lo)))
     (eq-or-lt-of-le l)
 
-pub formed-of : {t : List ℕ} {count : ℕ} {source : List ℕ} {k a b : ℕ} {inside : Forest} → IsTree t count source k a b inside
+-- a table that has a tree is well formed
+pub formed-of : {t : List ℕ} {count : ℕ} {source : List ℕ} {item : Item} {inside : Forest} → IsTree t count source item inside
     → WellFormed t count source
 unfolding Spans Obeys allowed
-formed-of {t} {count} {source} {k} {a} {b} {inside} w =
+formed-of {t} {count} {source} {item} {inside} w =
     let s = w .spans in
     let o = w .obeys in
     record {
-      some = omega (arith, spans-size t (0 + 1) (endAt t 0) inside (s .3), s .4);
+      some = omega (arith, spans-size t (0 + 1) (endAt t 0) inside (s .1), s .2);
       few = w .few;
       fits = w .fits;
-      root = rw (s .0) (o .2);
-      whole = s .4;
+      root = rw (← s .0) at (o .2);
+      whole = s .2;
       nodes = λ i h.
-          let q = kept-of t source 35 0 count (node k a b inside nil) s o i (omega arith) h in
+          let q = kept-of t source bundleKind 0 count (node item inside nil) s o i (omega arith) h in
           record { zeros = w .zeros i h; rules = q .rules; range = q .range; within = q .within; tiles = q .tiles };
     }

@@ -6,7 +6,9 @@ use native.Mathlib.Omega.{arith}
 use lib.ListN.{length, getD, take, length-append}
 use lib.Seq.{take-at}
 use Rattle.node.specs.Forest.{Forest, nil, node, size}
-use Rattle.node.specs.Records.{recordSize, recordsOf, kindAt, aAt, bAt}
+use Rattle.node.specs.Tags.{bundleKind}
+use Rattle.node.specs.declared.record.Item.{Item}
+use Rattle.node.specs.Records.{recordSize, mostRecords, recordsOf, itemAt}
 use Rattle.node.proofs.Recorded.{length-records}
 use Rattle.table.specs.Formed.{WellFormed}
 use Rattle.table.specs.Tree.{Spans, Obeys, IsTree, FieldsFit}
@@ -16,11 +18,11 @@ use Rattle.table.proofs.Held.{spans-records, records-held}
 
 -- a well-formed table is a tree's
 pub formed-tree : (t : List ℕ) (count : ℕ) (source : List ℕ) → WellFormed t count source
-    → (inside : Forest) × IsTree t count source (kindAt t 0) (aAt t 0) (bAt t 0) inside
+    → (inside : Forest) × IsTree t count source (itemAt t 0) inside
 formed-tree t count source w = tree-of t count source w
 
 -- a tree's table is well formed
-pub tree-formed : {t : List ℕ} {count : ℕ} {source : List ℕ} {k a b : ℕ} {inside : Forest} → IsTree t count source k a b inside
+pub tree-formed : {t : List ℕ} {count : ℕ} {source : List ℕ} {item : Item} {inside : Forest} → IsTree t count source item inside
     → WellFormed t count source
 tree-formed w = formed-of w
 
@@ -29,25 +31,25 @@ pub tree-unique : (t : List ℕ) (lo hi : ℕ) (F G : Forest) → Spans t lo hi 
 tree-unique t lo hi F G x y = spans-unique t lo hi F G x y
 
 -- the count is the tree's nodes
-pub tree-size : {t : List ℕ} {count : ℕ} {source : List ℕ} {k a b : ℕ} {inside : Forest} → IsTree t count source k a b inside
-    → size (node k a b inside nil) ≡ count
-tree-size {t} {count} {source} {k} {a} {b} {inside} w = omega (arith, spans-size t 0 count (node k a b inside nil) (w .spans))
+pub tree-size : {t : List ℕ} {count : ℕ} {source : List ℕ} {item : Item} {inside : Forest} → IsTree t count source item inside
+    → size (node item inside nil) ≡ count
+tree-size {t} {count} {source} {item} {inside} w = omega (arith, spans-size t 0 count (node item inside nil) (w .spans))
 
 -- a tree's table, as far as it counts, is the bytes of the tree's records
-pub tree-bytes : {t : List ℕ} {count : ℕ} {source : List ℕ} {k a b : ℕ} {inside : Forest} → ((i : ℕ) → getD t i 0 < 256)
-    → IsTree t count source k a b inside → take (recordSize * count) t ≡ recordsOf 0 (node k a b inside nil)
-tree-bytes {t} {count} {source} {k} {a} {b} {inside} small w =
-    let F = node k a b inside nil in
+pub tree-bytes : {t : List ℕ} {count : ℕ} {source : List ℕ} {item : Item} {inside : Forest} → ((i : ℕ) → getD t i 0 < 256)
+    → IsTree t count source item inside → take (recordSize * count) t ≡ recordsOf 0 (node item inside nil)
+tree-bytes {t} {count} {source} {item} {inside} small w =
+    let F = node item inside nil in
     let l : length (recordsOf 0 F) ≡ recordSize * count = length-records 0 F ∙ ap (λ (n : ℕ). recordSize * n) (tree-size w) in
     ap (take (recordSize * count)) (spans-records t small 0 count F (w .spans) (w .fits) (w .zeros))
     ∙ take-at (recordsOf 0 F) _ (recordSize * count) l
 
 -- a table that begins with the records of a tree that obeys the rules is that tree's
-pub bytes-tree : (t more : List ℕ) (source : List ℕ) (k a b : ℕ) (inside : Forest) → t ≡ recordsOf 0 (node k a b inside nil) ++ more
-    → FieldsFit (node k a b inside nil) → size (node k a b inside nil) ≤ 65535 → Obeys source 35 (node k a b inside nil)
-    → IsTree t (size (node k a b inside nil)) source k a b inside
-bytes-tree t more source k a b inside e f few o =
-    let F = node k a b inside nil in
+pub bytes-tree : (t more : List ℕ) (source : List ℕ) (item : Item) (inside : Forest) → t ≡ recordsOf 0 (node item inside nil) ++ more
+    → FieldsFit (node item inside nil) → size (node item inside nil) ≤ mostRecords → Obeys source bundleKind (node item inside nil)
+    → IsTree t (size (node item inside nil)) source item inside
+bytes-tree t more source item inside e f few o =
+    let F = node item inside nil in
     let h = records-held t more 0 (size F) F f (omega arith) (omega arith) e in
     record {
       spans = h .spans;

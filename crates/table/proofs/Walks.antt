@@ -1,19 +1,19 @@
 -- The walk along a container's children, and a record's tests: what each shows of the rules.
-use mathlib.Core.Path.{_≡_, sym, subst, _∙_}
+use mathlib.Core.Path.{_≡_, sym, _∙_}
 use mathlib.Core.Bool.{Bool, true, false, true≢false}
 use mathlib.Core.List.{List}
-use Prim.Native.Nat.{ℕ, _+_, _-_, _≤_, _<_}
+use Prim.Native.Nat.{ℕ, _+_, _≤_, _<_}
 use native.Mathlib.Omega.{arith}
 use lib.Dec.{eqb}
-use lib.ListN.{length}
-use borrow.Author.Tests.{eqb-true, eq-eqb, le-leb}
+use borrow.Author.Tests.{eqb-true, eq-eqb}
+use Rattle.wire.specs.Part.{part, inside}
 use Rattle.utf8.specs.Utf8.{Octets, Decides}
 use Rattle.utf8.proofs.Decided.{no}
 use Rattle.utf8.proofs.Grammar.{octets, same-answer}
-use Rattle.node.specs.Records.{recordAt, kindAt, endAt}
+use Rattle.node.specs.Records.{kindAt, zerosAt, endAt, itemAt}
 use Rattle.node.specs.Rules.{ownRules}
-use Rattle.node.specs.declared.record.Record.{Record}
-use Rattle.table.specs.Formed.{part, textOk, rangeOk, allowed, Tiles, done, step, NodeOk}
+use Rattle.node.specs.declared.record.Item.{Item}
+use Rattle.table.specs.Formed.{textOk, rangeOk, allowed, Tiles, done, step, NodeOk}
 use Rattle.table.proofs.Grown.{tiles-le}
 
 -- ---- the children of a container, from lo on
@@ -23,6 +23,7 @@ pub record Walked (t : List ℕ) (container lo hi at : ℕ) : Type 0 where
   pub back : Tiles t container at hi → Tiles t container lo hi
   pub on : Tiles t container lo hi → Tiles t container at hi
 
+-- the walk begins with all tiles before it
 pub walk : {t : List ℕ} {container lo hi : ℕ} → Walked t container lo hi lo
 walk = record { back = λ x. x; on = λ x. x }
 
@@ -41,68 +42,55 @@ module _ {t : List ℕ} {container lo hi at : ℕ} (w : Walked t container lo hi
         complete = λ x. eq-eqb at hi (omega (arith, tiles-le (w .on x)));
       }
 
-  module _ {r : Record} (e : r ≡ recordAt t at) (h : at < hi) where
-    first : Tiles t container lo hi → (allowed container (r .kind) ≡ true) × (at < r .end) × Tiles t container (r .end) hi
-    first x = subst (λ (s : Record). (allowed container (s .kind) ≡ true) × (at < s .end) × Tiles t container (s .end) hi) (sym e)
-        (tiles-cut h (w .on x))
+  -- the kind and the end that were read at `at`
+  module _ {kind : ℕ} (ke : kind ≡ kindAt t at) (h : at < hi) where
+    -- a child that the container may not have
+    pub not-allowed : allowed container kind ≡ false → Decides false (Tiles t container lo hi)
+    not-allowed n = no (λ x. true≢false (sym (tiles-cut h (w .on x) .0) ∙ rw ke at n))
 
-    pub not-allowed : allowed container (r .kind) ≡ false → Decides false (Tiles t container lo hi)
-    not-allowed n = no (λ x. true≢false (sym (first x .0) ∙ n))
+    module _ {end : ℕ} (ee : end ≡ endAt t at) where
+      -- a child that does not end after itself
+      pub ends-early : end ≤ at → Decides false (Tiles t container lo hi)
+      ends-early n = no (λ x. omega (arith, tiles-cut h (w .on x) .1))
 
-    pub ends-early : r .end ≤ at → Decides false (Tiles t container lo hi)
-    ends-early n = no (λ x. omega (arith, first x .1))
-
-    pub walked-on : allowed container (r .kind) ≡ true → at < r .end → Walked t container lo hi (r .end)
-    walked-on may on =
-        let may′ = subst (λ (s : Record). allowed container (s .kind) ≡ true) e may in
-        let on′ = subst (λ (s : Record). at < s .end) e on in
-        record {
-          back = λ x. w .back (step h may′ on′ (subst (λ (s : Record). Tiles t container (s .end) hi) e x));
-          on = λ x. first x .2;
-        }
+      -- a child is passed
+      pub walked-on : allowed container kind ≡ true → at < end → Walked t container lo hi end
+      walked-on may on = record {
+        back = λ x. w .back (step h (rw ke at may) (rw ee at on) (rw ee at x));
+        on = λ x. rw ee (tiles-cut h (w .on x) .2);
+      }
 
 -- ---- a record's tests
 
--- a part of the source that is lent as `&source[a..a + b]`, and its test
-pub text-tested : {x : Bool} (source : List ℕ) (a b : ℕ) → a + b ≤ length source → Decides x (Octets (part source a (a + b - a)))
+-- the test of a range that lies in the source
+pub text-tested : {x : Bool} (source : List ℕ) (a b : ℕ) → inside source a b ≡ true → Decides x (Octets (part source a b))
     → x ≡ textOk source a b
-text-tested source a b h d =
-    let e : a + b - a ≡ b = omega arith in
-    rw (le-leb (a + b) (length source) h) (same-answer (rw e at d) (octets (part source a b)))
+text-tested source a b h d = rw h (same-answer d (octets (part source a b)))
 
--- the rules of record i as it was read
-record Rules (t : List ℕ) (count : ℕ) (source : List ℕ) (i : ℕ) (r : Record) : Type 0 where
-  zeros : r .zeros ≡ 0
-  rules : ownRules (r .kind) (r .a) (r .b) ≡ true
-  range : rangeOk source (r .kind) (r .a) (r .b) ≡ true
-  within : r .end ≤ count
-  tiles : Tiles t (r .kind) (i + 1) (r .end)
+module _ {t : List ℕ} {count : ℕ} {source : List ℕ} {i : ℕ} where
+  -- three bytes that are not 0
+  pub not-zeros : {z : ℕ} → z ≡ zerosAt t i → (z ≡ 0 → ⊥) → Decides false (NodeOk t count source i)
+  not-zeros e n = no (λ x. n (e ∙ x .zeros))
 
-module _ {t : List ℕ} {count : ℕ} {source : List ℕ} {i : ℕ} {r : Record} (e : r ≡ recordAt t i) where
-  of-node : NodeOk t count source i → Rules t count source i r
-  of-node x = subst (Rules t count source i) (sym e)
-      (record { zeros = x .zeros; rules = x .rules; range = x .range; within = x .within; tiles = x .tiles })
+  -- a record against its own rules
+  pub not-rules : {item : Item} → item ≡ itemAt t i → ownRules item ≡ false → Decides false (NodeOk t count source i)
+  not-rules e n = no (λ x. true≢false (sym (x .rules) ∙ rw e at n))
 
-  to-node : Rules t count source i r → NodeOk t count source i
-  to-node y = let x = subst (Rules t count source i) e y in
-      record { zeros = x .zeros; rules = x .rules; range = x .range; within = x .within; tiles = x .tiles }
+  -- a record whose range is wrong
+  pub not-range : {item : Item} → item ≡ itemAt t i → rangeOk source item ≡ false → Decides false (NodeOk t count source i)
+  not-range e n = no (λ x. true≢false (sym (x .range) ∙ rw e at n))
 
-  pub not-zeros : (r .zeros ≡ 0 → ⊥) → Decides false (NodeOk t count source i)
-  not-zeros n = no (λ x. n (of-node x .zeros))
+  -- a record that ends after the table
+  pub not-within : {end : ℕ} → end ≡ endAt t i → count < end → Decides false (NodeOk t count source i)
+  not-within e n = no (λ x. omega (arith, x .within))
 
-  pub not-rules : ownRules (r .kind) (r .a) (r .b) ≡ false → Decides false (NodeOk t count source i)
-  not-rules n = no (λ x. true≢false (sym (of-node x .rules) ∙ n))
-
-  pub not-range : rangeOk source (r .kind) (r .a) (r .b) ≡ false → Decides false (NodeOk t count source i)
-  not-range n = no (λ x. true≢false (sym (of-node x .range) ∙ n))
-
-  pub not-within : count < r .end → Decides false (NodeOk t count source i)
-  not-within n = no (λ x. omega (arith, of-node x .within))
-
-  pub node-decides : {b : Bool} → r .zeros ≡ 0 → ownRules (r .kind) (r .a) (r .b) ≡ true → rangeOk source (r .kind) (r .a) (r .b) ≡ true
-      → r .end ≤ count → Decides b (Tiles t (r .kind) (i + 1) (r .end)) → Decides b (NodeOk t count source i)
-  node-decides z o g w d =
+  -- otherwise its tiles decide
+  pub node-decides : {b : Bool} {z end : ℕ} {item : Item} → z ≡ zerosAt t i → item ≡ itemAt t i → end ≡ endAt t i
+      → z ≡ 0 → ownRules item ≡ true → rangeOk source item ≡ true → end ≤ count
+      → Decides b (Tiles t (item .kind) (i + 1) end) → Decides b (NodeOk t count source i)
+  node-decides {b} ze ie ee z o g w d =
+      let q : Decides b (Tiles t (kindAt t i) (i + 1) (endAt t i)) = rw (ie, ee) at d in
       record {
-        sound = λ q. to-node (record { zeros = z; rules = o; range = g; within = w; tiles = d .sound q });
-        complete = λ x. d .complete (of-node x .tiles);
+        sound = λ y. record { zeros = sym ze ∙ z; rules = rw ie at o; range = rw ie at g; within = rw ee at w; tiles = q .sound y };
+        complete = λ x. q .complete (x .tiles);
       }

@@ -1,8 +1,20 @@
 // The well-formed node table: what the encoder takes, as document 01 states it record by record.
-use node::record::capacity;
-use node::record::read_record;
+use node::record::END;
+use node::record::Item;
+use node::record::MOST_RECORDS;
+use node::record::capacity_of;
+use node::record::field_at;
+use node::record::item_at;
+use node::record::kind_at;
+use node::record::zeros_at;
+use node::rules::is_packet;
 use node::rules::own_rules;
+use node::tags::ARRAY;
+use node::tags::BUNDLE;
+use node::tags::MESSAGE;
 use utf8::is_utf8;
+use wire::lies_in;
+use wire::range;
 ghost use mathlib.Core.Path.{_≡_};
 ghost use Prim.Native.Nat.{_*_, _≤_, _<_};
 ghost use lib.Dec.{ltb};
@@ -10,59 +22,38 @@ ghost use lib.ListN.{length};
 ghost use Rattle.utf8.specs.Utf8.{Decides};
 ghost use Rattle.node.specs.Forest.{Forest, depth};
 ghost use Rattle.node.specs.Records.{recordSize};
-ghost use Rattle.table.specs.Formed.{inside, textOk, rangeOk, isPacket, allowed, Tiles, NodeOk, WellFormed};
+ghost use Rattle.table.specs.Formed.{textOk, rangeOk, allowed, Tiles, NodeOk, WellFormed};
 ghost use Rattle.table.specs.Tree.{Spans, Row};
-
-// The most records that a table may have.
-const MOST: usize = 65_535;
-
-// Whether a kind is a packet's: a bundle or a message.
-fn is_packet(kind: u8) -> bool
-    ensures { λ r. ⌜ r ≡ isPacket kind ⌝ }
-{
-    match kind {
-        b'#' | b'/' => true,
-        _ => false,
-    }
-}
 
 // Whether a container of one kind may contain a node of another: a bundle packets, a message or an array arguments.
 fn may_contain(container: u8, kind: u8) -> bool
     ensures { λ r. ⌜ r ≡ allowed container kind ⌝ }
 {
     match container {
-        b'#' => is_packet(kind),
-        b'/' | b'[' => !is_packet(kind),
+        BUNDLE => is_packet(kind),
+        MESSAGE | ARRAY => !is_packet(kind),
         _ => false,
     }
 }
 
-// Whether a range lies in the source.
-pub fn lies_in(source: &[u8], offset: u32, length: u32) -> bool
-    ensures { λ r. ⌜ r ≡ inside (now (source .entry)) offset length ⌝ }
-{
-    offset as usize + length as usize <= source.len()
-}
-
 // Whether a range lies in the source and is UTF-8 there.
-pub fn text_ok(source: &[u8], offset: u32, length: u32) -> bool
-    ensures { λ r. ⌜ r ≡ textOk (now (source .entry)) offset length ⌝ }
+pub fn text_ok(source: &[u8], offset: u32, count: u32) -> bool
+    ensures { λ r. ⌜ r ≡ textOk (now (source .entry)) offset count ⌝ }
 {
-    let from = offset as usize;
-    let to = from + length as usize;
-    if source.len() < to {
+    if !lies_in(source, offset, count) {
         return false;
     }
-    is_utf8(&source[from..to])
+    is_utf8(range(source, offset, count))
 }
 
-// Whether the range of a record of this kind is right; a kind without a range passes.
-fn range_ok(source: &[u8], kind: u8, a: u32, b: u32) -> bool
-    ensures { λ r. ⌜ r ≡ rangeOk (now (source .entry)) kind a b ⌝ }
+// Whether a node's range is right; a kind without a range passes.
+fn range_ok(source: &[u8], item: Item) -> bool
+    ensures { λ r. ⌜ r ≡ rangeOk (now (source .entry)) item ⌝ }
 {
+    let kind = item.kind;
     match kind {
-        b'/' | b's' => text_ok(source, a, b),
-        b'b' => lies_in(source, a, b),
+        MESSAGE | b's' => text_ok(source, item.a, item.b),
+        b'b' => lies_in(source, item.a, item.b),
         _ => true,
     }
 }
@@ -74,11 +65,10 @@ fn tiles(table: &[u8], container: u8, lo: usize, hi: usize) -> bool
 {
     let mut at = lo;
     while at < hi {
-        let child = read_record(table, at);
-        if !may_contain(container, child.kind) {
+        if !may_contain(container, kind_at(table, at)) {
             return false;
         }
-        let next = child.end as usize;
+        let next = field_at(table, at, END) as usize;
         if next <= at {
             return false;
         }
@@ -92,21 +82,21 @@ fn node_ok(table: &[u8], count: usize, source: &[u8], index: usize) -> bool
     requires { ⌜ (index < count) × (recordSize * count ≤ length (now table)) ⌝ }
     ensures { λ r. ⌜ Decides r (NodeOk (now (table .entry)) count (now (source .entry)) index) ⌝ }
 {
-    let node = read_record(table, index);
-    if node.zeros != 0 {
+    if zeros_at(table, index) != 0 {
         return false;
     }
-    if !own_rules(node.kind, node.a, node.b) {
+    let item = item_at(table, index);
+    if !own_rules(item) {
         return false;
     }
-    if !range_ok(source, node.kind, node.a, node.b) {
+    if !range_ok(source, item) {
         return false;
     }
-    let end = node.end as usize;
+    let end = field_at(table, index, END) as usize;
     if count < end {
         return false;
     }
-    tiles(table, node.kind, index + 1, end)
+    tiles(table, item.kind, index + 1, end)
 }
 
 // Whether a table of `count` records over a source is well formed. Each container's direct children are walked once, in the
@@ -119,17 +109,16 @@ pub fn is_well_formed(table: &[u8], count: usize, source: &[u8]) -> bool
     if count < 1 {
         return false;
     }
-    if MOST < count {
+    if MOST_RECORDS < count {
         return false;
     }
-    if capacity(table) < count {
+    if capacity_of(table) < count {
         return false;
     }
-    let root = read_record(table, 0);
-    if !is_packet(root.kind) {
+    if !is_packet(kind_at(table, 0)) {
         return false;
     }
-    if root.end as usize != count {
+    if field_at(table, 0, END) as usize != count {
         return false;
     }
     let mut i = 0;
@@ -149,9 +138,8 @@ fn deeper(table: &[u8], lo: usize, hi: usize, limit: usize) -> bool
 {
     let mut at = lo;
     while at < hi {
-        let node = read_record(table, at);
-        let end = node.end as usize;
-        if node.kind == b'#' {
+        let end = field_at(table, at, END) as usize;
+        if kind_at(table, at) == BUNDLE {
             if limit == 0 {
                 return true;
             }

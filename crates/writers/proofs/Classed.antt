@@ -10,24 +10,18 @@ use lib.ListN.{length, length-append}
 use borrow.Author.Tests.{eqb-true, ne-eqb, leb-true}
 use Rattle.utf8.specs.Derive.{utf8}
 use Rattle.node.specs.Forest.{Forest, nil, node}
-use Rattle.node.specs.Tags.{sortOf, classOf, among}
+use Rattle.node.specs.Tags.{messageKind, arrayKind, sortOf, classOf, among}
+use Rattle.node.specs.declared.record.Item.{Item}
 use Rattle.node.specs.declared.tags.Class.{Class}
 use Rattle.node.specs.declared.tags.Class.the-variants.{Four, Eight, Bare, Text, Blob, Scalar, Unknown}
 use Rattle.node.specs.declared.tags.Sort.{Sort}
 use Rattle.node.specs.declared.tags.Sort.the-variants.{Opens, Closes, Leaf}
-use Rattle.table.specs.Formed.{part, inside, rangeOk}
-use Rattle.writers.specs.Osc.{dataBy, dataOf, tagsBy, tagsOf, messageOf, bundleOf, elementOf, elementsOf, packetOf}
-use Rattle.strings.specs.Atomic.{ranged}
-
--- ---- which branch of a test gave an answer
-
-else-only : {A : Type 0} (x : Bool) {p q r : A} → cond x p q ≡ r → (p ≡ r → ⊥) → q ≡ r
-else-only true e n = absurd (n e)
-else-only false e n = e
-
-pub then-only : {A : Type 0} (x : Bool) (p : A) {q r : A} → cond x p q ≡ r → (q ≡ r → ⊥) → x ≡ true
-then-only true p e n = refl
-then-only false p e n = absurd (n e)
+use Rattle.wire.proofs.Choices.{then-only, else-only}
+use Rattle.wire.specs.Part.{part, inside}
+use Rattle.table.specs.Formed.{textOk, rangeOk}
+use Rattle.writers.specs.Osc.{dataBy, writeData, tagsBy, writeTags, writeMessage, writeBundle, writeElement, writeElements}
+use Rattle.writers.specs.Osc.{writePacket}
+use Rattle.strings.specs.CodeStrings.{hasRange}
 
 -- two sorts, or two classes, that a test tells apart
 apart : {A : Type 0} (f : A → Bool) (x y : A) → f x ≡ false → f y ≡ true → x ≡ y → ⊥
@@ -45,30 +39,32 @@ leafy Opens = false
 leafy Closes = false
 leafy (Leaf class) = true
 
-pub opens : (k : ℕ) → k ≡ 91 → sortOf k ≡ Opens
+-- [ opens an array
+pub opens : (k : ℕ) → k ≡ arrayKind → sortOf k ≡ Opens
 unfolding sortOf
 opens k e = rw e
 
-pub opens-only : (k : ℕ) → sortOf k ≡ Opens → k ≡ 91
+-- no other kind does
+pub opens-only : (k : ℕ) → sortOf k ≡ Opens → k ≡ arrayKind
 unfolding sortOf
 opens-only k e =
-    eqb-true k 91 (then-only (eqb k 91) Opens e
+    eqb-true k arrayKind (then-only (eqb k arrayKind) Opens e
     (λ f. apart opening (Leaf (classOf k)) Opens refl refl (else-only (eqb k 93) f (apart opening Closes Opens refl refl))))
 
 class-of : (k : ℕ) (class : Class) → sortOf k ≡ Leaf class → classOf k ≡ class
 unfolding sortOf
 class-of k class e =
     let f : Leaf (classOf k) ≡ Leaf class
-    = else-only (eqb k 93) (else-only (eqb k 91) e (apart leafy Opens (Leaf class) refl refl))
+    = else-only (eqb k 93) (else-only (eqb k arrayKind) e (apart leafy Opens (Leaf class) refl refl))
     (apart leafy Closes (Leaf class) refl refl) in
     cc
 
-skip : (x : Bool) (p q : Class) → ranged p ≡ false → ranged (cond x p q) ≡ true → ranged q ≡ true
+skip : (x : Bool) (p q : Class) → hasRange p ≡ false → hasRange (cond x p q) ≡ true → hasRange q ≡ true
 skip true p q n e = absurd (false≢true (sym n ∙ e))
 skip false p q n e = e
 
 -- only s and b have a range
-ranged-kind : (k : ℕ) → ranged (classOf k) ≡ true → (k ≡ 115) ⊎ (k ≡ 98)
+ranged-kind : (k : ℕ) → hasRange (classOf k) ≡ true → (k ≡ 115) ⊎ (k ≡ 98)
 unfolding classOf
 ranged-kind k e =
     let late = cond (eqb k 115) Text (cond (eqb k 98) Blob (cond (eqb k 99) Scalar Unknown)) in
@@ -79,29 +75,35 @@ ranged-kind k e =
     (skip bare Bare late refl
     (skip eight Eight (cond bare Bare late) refl (skip four Four (cond eight Eight (cond bare Bare late)) refl e)))
   where
-    blob : (x : Bool) → ranged (cond x Blob (cond (eqb k 99) Scalar Unknown)) ≡ true → x ≡ true
+    blob : (x : Bool) → hasRange (cond x Blob (cond (eqb k 99) Scalar Unknown)) ≡ true → x ≡ true
     blob true e = refl
     blob false e = absurd (false≢true (skip (eqb k 99) Scalar Unknown refl e))
 
-    text : (x : Bool) → eqb k 115 ≡ x → ranged (cond x Text (cond (eqb k 98) Blob (cond (eqb k 99) Scalar Unknown))) ≡ true
+    text : (x : Bool) → eqb k 115 ≡ x → hasRange (cond x Text (cond (eqb k 98) Blob (cond (eqb k 99) Scalar Unknown))) ≡ true
         → (k ≡ 115) ⊎ (k ≡ 98)
     text true q e = inl (eqb-true k 115 q)
     text false q e = inr (eqb-true k 98 (blob (eqb k 98) e))
 
+-- a range that is UTF-8 lies in the source
+text-range : (source : List ℕ) (item : Item) → textOk source (item .a) (item .b) ≡ true → item .a + item .b ≤ length source
+text-range source item r =
+    leb-true _ _ (then-only (inside source (item .a) (item .b)) (utf8 (part source (item .a) (item .b))) r false≢true)
+
 -- the range of a text or a blob lies in the source
-pub leaf-range : (source : List ℕ) (k a b : ℕ) (class : Class) → rangeOk source k a b ≡ true → sortOf k ≡ Leaf class → ranged class ≡ true
-    → a + b ≤ length source
+pub leaf-range : (source : List ℕ) (item : Item) (class : Class) → rangeOk source item ≡ true → sortOf (item .kind) ≡ Leaf class
+    → hasRange class ≡ true → item .a + item .b ≤ length source
 unfolding rangeOk
-leaf-range source k a b class r s e =
+leaf-range source item class r s e =
     ⊎-elim
-    (λ q. leb-true _ _ (then-only (inside source a b) (utf8 (part source a b)) (rw q at r) false≢true))
+    (λ q. text-range source item (rw q at r))
     (λ q. leb-true _ _ (rw q at r))
-    (ranged-kind k (rw (class-of k class s) e))
+    (ranged-kind (item .kind) (rw (class-of (item .kind) class s) e))
 
 -- and so does an address
-pub address-range : (source : List ℕ) (k a b : ℕ) → rangeOk source k a b ≡ true → k ≡ 47 → a + b ≤ length source
+pub address-range : (source : List ℕ) (item : Item) → rangeOk source item ≡ true → item .kind ≡ messageKind
+    → item .a + item .b ≤ length source
 unfolding rangeOk
-address-range source k a b r q = leb-true _ _ (then-only (inside source a b) (utf8 (part source a b)) (rw q at r) false≢true)
+address-range source item r q = text-range source item (rw q at r)
 
 -- ---- the first node's tags and data
 
@@ -115,52 +117,64 @@ tags-by-some Opens k within = omega arith
 tags-by-some Closes k within = omega arith
 tags-by-some (Leaf class) k within = omega arith
 
-pub tags-none : tagsOf nil ≡ []
-unfolding tagsOf
+-- no arguments have no tags
+pub tags-none : writeTags nil ≡ []
+unfolding writeTags
 tags-none = refl
 
-pub data-none : (source : List ℕ) → dataOf source nil ≡ []
-unfolding dataOf
+-- no arguments have no data
+pub data-none : (source : List ℕ) → writeData source nil ≡ []
+unfolding writeData
 data-none source = refl
 
-pub elements-none : (source : List ℕ) → elementsOf source nil ≡ []
-unfolding elementsOf
+-- no elements have no bytes
+pub elements-none : (source : List ℕ) → writeElements source nil ≡ []
+unfolding writeElements
 elements-none source = refl
 
-module _ (k a b : ℕ) (inside rest : Forest) where
-  pub tags-some : 1 ≤ length (tagsOf (node k a b inside rest))
-  unfolding tagsOf
-  tags-some = simp length-append (omega (arith, tags-by-some (sortOf k) k (tagsOf inside)))
+module _ (item : Item) (inside rest : Forest) where
+  -- an argument has a tag
+  pub tags-some : 1 ≤ length (writeTags (node item inside rest))
+  unfolding writeTags
+  tags-some = simp length-append (omega (arith, tags-by-some (sortOf (item .kind)) (item .kind) (writeTags inside)))
 
-  pub tags-array : k ≡ 91 → tagsOf (node k a b inside rest) ≡ (k ∷ (tagsOf inside ++ (93 ∷ []))) ++ tagsOf rest
-  unfolding tagsOf
-  tags-array e = rw (opens k e)
+  -- an array's tags stand in brackets, before those of the arguments after it
+  pub tags-array : item .kind ≡ arrayKind
+      → writeTags (node item inside rest) ≡ (item .kind ∷ (writeTags inside ++ (93 ∷ []))) ++ writeTags rest
+  unfolding writeTags
+  tags-array e = rw (opens (item .kind) e)
 
-  pub tags-leaf : (k ≡ 91 → ⊥) → tagsOf (node k a b inside rest) ≡ (k ∷ []) ++ tagsOf rest
-  unfolding tagsOf
-  tags-leaf n = rw (tags-by-leaf (sortOf k) k (tagsOf inside) (λ e. n (opens-only k e)))
+  -- any other argument has its kind as its tag
+  pub tags-leaf : (item .kind ≡ arrayKind → ⊥) → writeTags (node item inside rest) ≡ (item .kind ∷ []) ++ writeTags rest
+  unfolding writeTags
+  tags-leaf n = rw (tags-by-leaf (sortOf (item .kind)) (item .kind) (writeTags inside) (λ e. n (opens-only (item .kind) e)))
 
-  pub tags-is : tagsOf (node k a b inside rest) ≡ tagsBy (sortOf k) k (tagsOf inside) ++ tagsOf rest
-  unfolding tagsOf
+  -- the tags of the first argument stand before those of the rest
+  pub tags-is : writeTags (node item inside rest) ≡ tagsBy (sortOf (item .kind)) (item .kind) (writeTags inside) ++ writeTags rest
+  unfolding writeTags
   tags-is = refl
 
-  pub data-is : (source : List ℕ) (sort : Sort) → sort ≡ sortOf k
-      → dataOf source (node k a b inside rest) ≡ dataBy sort source a b (dataOf source inside) ++ dataOf source rest
-  unfolding dataOf
+  -- the data of the first argument stands before that of the rest
+  pub data-is : (source : List ℕ) (sort : Sort) → sort ≡ sortOf (item .kind)
+      → writeData source (node item inside rest) ≡ dataBy sort source item (writeData source inside) ++ writeData source rest
+  unfolding writeData
   data-is source sort e = rw e
 
+  -- the first element stands before the rest
   pub elements-is : (source : List ℕ)
-      → elementsOf source (node k a b inside rest) ≡ elementOf (packetOf source k a b inside) ++ elementsOf source rest
-  unfolding elementsOf packetOf
+      → writeElements source (node item inside rest) ≡ writeElement (writePacket source item inside) ++ writeElements source rest
+  unfolding writeElements writePacket
   elements-is source = refl
 
 -- ---- a packet by its kind
 
-module _ (source : List ℕ) (k a b : ℕ) (inside : Forest) where
-  pub message-is : k ≡ 47 → packetOf source k a b inside ≡ messageOf source a b inside
-  unfolding packetOf
+module _ (source : List ℕ) (item : Item) (inside : Forest) where
+  -- a packet whose kind is / is a message
+  pub message-is : item .kind ≡ messageKind → writePacket source item inside ≡ writeMessage source item inside
+  unfolding writePacket
   message-is e = rw e
 
-  pub bundle-is : (k ≡ 47 → ⊥) → packetOf source k a b inside ≡ bundleOf a b [] ++ elementsOf source inside
-  unfolding packetOf bundleOf
-  bundle-is n = rw (ne-eqb k 47 n) (simp (append-assoc, append-nil))
+  -- any other packet is a bundle: its head, and its elements
+  pub bundle-is : (item .kind ≡ messageKind → ⊥) → writePacket source item inside ≡ writeBundle item [] ++ writeElements source inside
+  unfolding writePacket writeBundle
+  bundle-is n = rw (ne-eqb (item .kind) messageKind n) (simp (append-assoc, append-nil))

@@ -1,6 +1,5 @@
 -- How long the parts of a packet are, and that a packet is a multiple of four bytes long.
 use mathlib.Core.Path.{_≡_, refl, ap}
-use mathlib.Core.Bool.{Bool, true, false, cond}
 use mathlib.Core.List.{List, _∷_}
 use Prim.Native.Nat.{ℕ, suc, _+_, _%_}
 use native.Mathlib.Omega.{arith}
@@ -8,69 +7,77 @@ use lib.Dec.{eqb}
 use lib.ListN.{length, length-append}
 use Rattle.wire.proofs.Numbers.{length-bytes}
 use Rattle.node.specs.Forest.{Forest, nil, node}
-use Rattle.node.specs.Tags.{sortOf}
+use Rattle.node.specs.Tags.{messageKind, sortOf}
+use Rattle.node.specs.declared.record.Item.{Item}
 use Rattle.node.specs.declared.tags.Sort.{Sort}
 use Rattle.node.specs.declared.tags.Sort.the-variants.{Opens, Closes, Leaf}
-use Rattle.table.specs.Formed.{part}
-use Rattle.strings.specs.Atomic.{oscString, stringLength}
-use Rattle.writers.specs.Osc.{dataBy, dataOf, tagsOf, messageOf, bundleOf, elementOf, elementsOf, packetOf}
-use Rattle.strings.proofs.Lengths.{length-string, string-even, both, argument-even}
+use Rattle.wire.specs.Part.{part}
+use Rattle.wire.proofs.Choices.{by-test}
+use Rattle.strings.specs.Atomic.{oscString}
+use Rattle.strings.specs.CodeStrings.{stringLength}
+use Rattle.writers.specs.Osc.{dataBy, writeData, writeTags, writeMessage, writeBundle, writeElement, writeElements}
+use Rattle.writers.specs.Osc.{packetWith, writePacket}
+use Rattle.writers.specs.CodeWriters.{bundleHead}
+use Rattle.strings.proofs.Lengths.{length-string, string-even, both-even, argument-even}
 
-pub length-bundle : (seconds fractional : ℕ) (elements : List ℕ) → length (bundleOf seconds fractional elements) ≡ 16 + length elements
-unfolding bundleOf
-length-bundle seconds fractional elements = simp (length-append, length-bytes) (omega arith)
+-- a bundle has its head before its elements
+pub length-bundle : (item : Item) (elements : List ℕ) → length (writeBundle item elements) ≡ bundleHead + length elements
+unfolding writeBundle
+length-bundle item elements = simp (length-append, length-bytes) (omega arith)
 
-pub length-message : (source : List ℕ) (a b : ℕ) (inside : Forest)
-    → length (messageOf source a b inside) ≡ length (oscString (part source a b)) + stringLength (1 + length (tagsOf inside)) + length
-    (dataOf source inside)
-unfolding messageOf
-length-message source a b inside =
-    let e : stringLength (suc (length (tagsOf inside))) ≡ stringLength (1 + length (tagsOf inside)) = ap stringLength (omega arith) in
-    simp (length-append, length-string (44 ∷ tagsOf inside), e) (omega arith)
+-- how long a message is, by its address, its tags and its data
+pub length-message : (source : List ℕ) (item : Item) (inside : Forest)
+    → length (writeMessage source item inside)
+    ≡ length (oscString (part source (item .a) (item .b))) + stringLength (1 + length (writeTags inside)) + length (writeData source inside)
+unfolding writeMessage
+length-message source item inside =
+    let e : stringLength (suc (length (writeTags inside))) ≡ stringLength (1 + length (writeTags inside)) = ap stringLength (omega arith) in
+    simp (length-append, length-string (44 ∷ writeTags inside), e) (omega arith)
 
 -- ---- multiples of four
 
-data-by-even : (sort : Sort) (source : List ℕ) (a b : ℕ) (within : List ℕ) → length within % 4 ≡ 0
-    → length (dataBy sort source a b within) % 4 ≡ 0
-data-by-even Opens source a b within h = h
-data-by-even Closes source a b within h = refl
-data-by-even (Leaf class) source a b within h = argument-even class source a b
+data-by-even : (sort : Sort) (source : List ℕ) (item : Item) (within : List ℕ) → length within % 4 ≡ 0
+    → length (dataBy sort source item within) % 4 ≡ 0
+data-by-even Opens source item within h = h
+data-by-even Closes source item within h = refl
+data-by-even (Leaf class) source item within h = argument-even class source item
 
-data-even : (source : List ℕ) (inside : Forest) → length (dataOf source inside) % 4 ≡ 0
-unfolding dataOf
+data-even : (source : List ℕ) (inside : Forest) → length (writeData source inside) % 4 ≡ 0
+unfolding writeData
 data-even source nil = refl
-data-even source (node kind a b inside rest) =
-    both (dataBy (sortOf kind) source a b (dataOf source inside)) (dataOf source rest)
-    (data-by-even (sortOf kind) source a b (dataOf source inside) (data-even source inside)) (data-even source rest)
+data-even source (node item inside rest) =
+    both-even (dataBy (sortOf (item .kind)) source item (writeData source inside)) (writeData source rest)
+    (data-by-even (sortOf (item .kind)) source item (writeData source inside) (data-even source inside)) (data-even source rest)
 
-message-even : (source : List ℕ) (a b : ℕ) (inside : Forest) → length (messageOf source a b inside) % 4 ≡ 0
-unfolding messageOf
-message-even source a b inside =
-    both (oscString (part source a b)) _ (string-even (part source a b))
-    (both (oscString (44 ∷ tagsOf inside)) (dataOf source inside) (string-even (44 ∷ tagsOf inside)) (data-even source inside))
+message-even : (source : List ℕ) (item : Item) (inside : Forest) → length (writeMessage source item inside) % 4 ≡ 0
+unfolding writeMessage
+message-even source item inside =
+    both-even (oscString (part source (item .a) (item .b))) _ (string-even (part source (item .a) (item .b)))
+    (both-even (oscString (44 ∷ writeTags inside)) (writeData source inside) (string-even (44 ∷ writeTags inside)) (data-even source inside))
 
-bundle-even : (seconds fractional : ℕ) (elements : List ℕ) → length elements % 4 ≡ 0 → length (bundleOf seconds fractional elements) % 4 ≡ 0
-bundle-even seconds fractional elements h = rw length-bundle (omega arith)
+bundle-even : (item : Item) (elements : List ℕ) → length elements % 4 ≡ 0 → length (writeBundle item elements) % 4 ≡ 0
+bundle-even item elements h = rw length-bundle (omega arith)
 
-cond-even : (x : Bool) (p q : List ℕ) → length p % 4 ≡ 0 → length q % 4 ≡ 0 → length (cond x p q) % 4 ≡ 0
-cond-even true p q h k = h
-cond-even false p q h k = k
+-- a packet is a multiple of four bytes long if its elements are
+with-even : (source : List ℕ) (item : Item) (inside : Forest) (elements : List ℕ) → length elements % 4 ≡ 0
+    → length (packetWith source item inside elements) % 4 ≡ 0
+with-even source item inside elements h =
+    by-test (λ (bs : List ℕ). length bs % 4 ≡ 0) (eqb (item .kind) messageKind) (λ _. message-even source item inside)
+    (λ _. bundle-even item elements h)
 
 -- an element is a multiple of four bytes long if its packet is
-pub element-even : (content : List ℕ) → length content % 4 ≡ 0 → length (elementOf content) % 4 ≡ 0
+pub element-even : (content : List ℕ) → length content % 4 ≡ 0 → length (writeElement content) % 4 ≡ 0
 element-even content h = simp (length-append, length-bytes) (omega arith)
 
-elements-even : (source : List ℕ) (inside : Forest) → length (elementsOf source inside) % 4 ≡ 0
-unfolding elementsOf
+elements-even : (source : List ℕ) (inside : Forest) → length (writeElements source inside) % 4 ≡ 0
+unfolding writeElements
 elements-even source nil = refl
-elements-even source (node kind a b inside rest) =
-    let c = cond (eqb kind 47) (messageOf source a b inside) (bundleOf a b (elementsOf source inside)) in
-    both (elementOf c) (elementsOf source rest)
-    (element-even c (cond-even (eqb kind 47) _ _ (message-even source a b inside) (bundle-even a b _ (elements-even source inside))))
-    (elements-even source rest)
+elements-even source (node item inside rest) =
+    let c = packetWith source item inside (writeElements source inside) in
+    both-even (writeElement c) (writeElements source rest)
+    (element-even c (with-even source item inside _ (elements-even source inside))) (elements-even source rest)
 
 -- every packet is a multiple of four bytes long
-pub packet-even : (source : List ℕ) (kind a b : ℕ) (inside : Forest) → length (packetOf source kind a b inside) % 4 ≡ 0
-unfolding packetOf
-packet-even source kind a b inside =
-    cond-even (eqb kind 47) _ _ (message-even source a b inside) (bundle-even a b _ (elements-even source inside))
+pub packet-even : (source : List ℕ) (item : Item) (inside : Forest) → length (writePacket source item inside) % 4 ≡ 0
+unfolding writePacket
+packet-even source item inside = with-even source item inside _ (elements-even source inside)

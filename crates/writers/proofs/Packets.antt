@@ -1,24 +1,28 @@
 -- The type tag text, the message, the bundle and its elements: what each step of their writers has room for, and what it leaves.
 use mathlib.Core.Path.{_≡_, refl, ap, _∙_}
 use mathlib.Core.List.{List, [], _++_, append-assoc}
-use Prim.Native.Nat.{ℕ, suc, _+_, _-_, _*_, _/_, _%_, _≤_, _<_}
+use Prim.Native.Nat.{ℕ, suc, _+_, _-_, _*_, _%_, _≤_, _<_}
 use native.Mathlib.Omega.{arith}
 use lib.ListN.{length, set, replicate, length-append, length-set}
 use borrow.Rule.Slice.PartMut.{midOf, putMid}
 use Rattle.wire.specs.Number.{bytes}
+use Rattle.wire.specs.Limits.{longest}
 use Rattle.wire.specs.Wrote.{Wrote, Filled}
 use Rattle.wire.proofs.Numbers.{length-bytes}
 use Rattle.wire.proofs.Parts.{length-lent}
 use Rattle.wire.proofs.Writers.{wrote-none, filled-set, filled-length, filled-lent, same-length}
 use Rattle.wire.proofs.Gaps.{gap-filled, written-again, written-from}
 use Rattle.node.specs.Forest.{Forest}
-use Rattle.node.specs.Records.{recordSize, kindAt, endAt, aAt, bAt}
-use Rattle.table.specs.Formed.{part}
+use Rattle.node.specs.Records.{recordSize, kindAt, endAt, itemAt, capacity}
+use Rattle.node.specs.Tags.{messageKind}
+use Rattle.node.specs.declared.record.Item.{Item}
+use Rattle.wire.specs.Part.{part}
 use Rattle.table.specs.Tree.{Spans}
 use Rattle.table.proofs.Spanned.{spans-size}
-use Rattle.strings.specs.Atomic.{oscString, stringLength}
-use Rattle.writers.specs.Osc.{tagsOf, dataOf, messageOf, bundleOf, elementOf, elementsOf}
-use Rattle.writers.specs.Writers.{tagText, Any, Sound, Room, Fills, packetAt, Ready}
+use Rattle.strings.specs.Atomic.{oscString}
+use Rattle.strings.specs.CodeStrings.{stringLength}
+use Rattle.writers.specs.Osc.{writeTags, writeData, writeMessage, writeBundle, writeElement, writeElements}
+use Rattle.writers.specs.CodeWriters.{tagText, bundleHead, Any, Sound, OutputRoom, WritesRow, WritesPacket, packetAt, Ready}
 use Rattle.strings.proofs.Lengths.{length-string}
 use Rattle.writers.proofs.Lengths.{length-bundle}
 use Rattle.writers.proofs.Classed.{address-range, message-is, bundle-is, elements-is, elements-none}
@@ -26,17 +30,20 @@ use Rattle.writers.proofs.Rows.{Going, begun, ended, room-left, next, g
 
 -- ---- the type tag text
 
-module _ {t : List ℕ} {lo hi : ℕ} (o : List ℕ) (r : Room Any tagText t lo hi (length o)) where
+module _ {t : List ℕ} {lo hi : ℕ} (o : List ℕ) (r : OutputRoom Any tagText t lo hi (length o)) where
   -- the output with the comma
   abbrev comma : List ℕ
   comma = set o 0 44
 
-  pub text-room : (stringLength (1 + length (tagsOf (r .forest))) ≤ length o) × (stringLength (1 + length (tagsOf (r .forest))) ≤ 65535)
+  -- there is room for the type tag text
+  pub text-room : (stringLength (1 + length (writeTags (r .forest))) ≤ length o) ×
+      (stringLength (1 + length (writeTags (r .forest))) ≤ longest)
   text-room =
-      let e : 1 + length (tagsOf (r .forest)) ≡ suc (length (tagsOf (r .forest))) = omega arith in
+      let e : 1 + length (writeTags (r .forest)) ≡ suc (length (writeTags (r .forest))) = omega arith in
       rw e (rw length-string at (r .fits), rw length-string at (r .few))
 
-  pub tags-asked : Room Any tagsOf t lo hi (length (midOf 1 (length comma - 1) comma))
+  -- after the comma there is room for the tags
+  pub tags-asked : OutputRoom Any writeTags t lo hi (length (midOf 1 (length comma - 1) comma))
   tags-asked =
       record {
         forest = r .forest;
@@ -47,45 +54,50 @@ module _ {t : List ℕ} {lo hi : ℕ} (o : List ℕ) (r : Room Any tagText t lo 
         table = r .table;
       }
 
-  module _ {p : List ℕ} {n : ℕ} (f : Fills tagsOf t lo hi (midOf 1 (length comma - 1) comma) p n) where
+  module _ {p : List ℕ} {n : ℕ} (f : WritesRow writeTags t lo hi (midOf 1 (length comma - 1) comma) p n) where
     -- the output with the tags
     abbrev tagged : List ℕ
     tagged = putMid 1 (length comma - 1) comma p
 
-    pub tagged-room : (stringLength (1 + n) ≤ length o) × (stringLength (1 + n) ≤ 65535) × (length tagged ≡ length o)
+    -- after the tags there is room for the NULs
+    pub tagged-room : (stringLength (1 + n) ≤ length o) × (stringLength (1 + n) ≤ longest) × (length tagged ≡ length o)
     tagged-room =
         let c = f (r .forest) (r .spans) in
         rw (c .count) (text-room .0, text-room .1, same-length comma 1 (c .wrote) ∙ simp length-set)
 
+    -- comma, tags and NULs are the type tag text
     pub text-filled : {q : List ℕ} {z : ℕ} → Filled (replicate (4 - (1 + n) % 4) 0) (midOf (1 + n) (length tagged - (1 + n)) tagged) q z
-        → Fills tagText t lo hi o (putMid (1 + n) (length tagged - (1 + n)) tagged q) (1 + n + z)
+        → WritesRow tagText t lo hi o (putMid (1 + n) (length tagged - (1 + n)) tagged q) (1 + n + z)
     unfolding oscString
     text-filled zeros F s =
         let none : Filled [] o o 0 = record { count = refl; wrote = wrote-none o } in
         let tags = filled-lent (filled-set 44 none (omega (arith, text-room))) (f F s) in
-        let e : 1 + n ≡ suc (length (tagsOf F)) = omega (arith, f F s .count) in
+        let e : 1 + n ≡ suc (length (writeTags F)) = omega (arith, f F s .count) in
         rw (← e) (filled-lent tags zeros)
 
 -- ---- a packet
 
 module _ {source t : List ℕ} {at : ℕ} (o : List ℕ) (q : Ready source t at (length o)) where
   -- its record stands before what it contains, and in the table
-  pub before-end : (at < endAt t at) × (at < length t / recordSize)
+  pub before-end : (at < endAt t at) × (at < capacity t)
   before-end =
       let s = spans-size t (at + 1) (endAt t at) (q .room .forest) (q .room .spans) in
       (omega arith, omega (arith, q .room .table))
 
 -- ---- a message
 
-module _ {source t : List ℕ} {at : ℕ} (o : List ℕ) (y : kindAt t at ≡ 47) (q : Ready source t at (length o))
-    {end a b : ℕ} (e : end ≡ endAt t at) (u : a ≡ aAt t at) (v : b ≡ bAt t at) where
-  message-bytes : (F : Forest) → packetAt source t at F ≡ oscString (part source a b) ++ (tagText F ++ dataOf source F)
-  unfolding messageOf
-  message-bytes F = rw (u, v) (message-is source (kindAt t at) (aAt t at) (bAt t at) F y)
+module _ {source t : List ℕ} {at : ℕ} (o : List ℕ) (y : kindAt t at ≡ messageKind) (q : Ready source t at (length o))
+    {end : ℕ} {item : Item} (e : end ≡ endAt t at) (u : item ≡ itemAt t at) where
+  message-bytes : (F : Forest) → packetAt source t at F ≡ oscString (part source (item .a) (item .b)) ++ (tagText F ++ writeData source F)
+  unfolding writeMessage
+  message-bytes F = rw u (message-is source (itemAt t at) F y)
 
-  message-room : (length (oscString (part source a b)) + length (tagText (q .room .forest)) + length (dataOf source (q .room .forest)) ≤
-      length o)
-      × (length (oscString (part source a b)) + length (tagText (q .room .forest)) + length (dataOf source (q .room .forest)) ≤ 65535)
+  -- how long the message is
+  abbrev message-length : ℕ
+  message-length =
+      length (oscString (part source (item .a) (item .b))) + length (tagText (q .room .forest)) + length (writeData source (q .room .forest))
+
+  message-room : (message-length ≤ length o) × (message-length ≤ longest)
   message-room =
       let l = simp length-append at (ap length (message-bytes (q .room .forest))) in
       (omega (arith, q .room .fits), omega (arith, q .room .few))
@@ -96,14 +108,17 @@ module _ {source t : List ℕ} {at : ℕ} (o : List ℕ) (y : kindAt t at ≡ 47
   table-room : recordSize * end ≤ length t
   table-room = rw e (q .room .table)
 
-  pub address-asked : a + b ≤ length source
-  address-asked = rw (u, v) (address-range source (kindAt t at) (aAt t at) (bAt t at) (q .range) y)
+  -- the address's range lies in the source
+  pub address-asked : item .a + item .b ≤ length source
+  address-asked = rw u (address-range source (itemAt t at) (q .range) y)
 
-  pub address-fits : length (oscString (part source a b)) ≤ length o
+  -- there is room for the address
+  pub address-fits : length (oscString (part source (item .a) (item .b))) ≤ length o
   address-fits = omega (arith, message-room)
 
-  module _ {o₁ : List ℕ} {k : ℕ} (f₁ : Filled (oscString (part source a b)) o o₁ k) where
-    pub text-asked : Room Any tagText t (at + 1) end (length (midOf k (length o₁ - k) o₁))
+  module _ {o₁ : List ℕ} {k : ℕ} (f₁ : Filled (oscString (part source (item .a) (item .b))) o o₁ k) where
+    -- after the address there is room for the type tag text
+    pub text-asked : OutputRoom Any tagText t (at + 1) end (length (midOf k (length o₁ - k) o₁))
     text-asked =
         record {
           forest = q .room .forest;
@@ -114,20 +129,22 @@ module _ {source t : List ℕ} {at : ℕ} (o : List ℕ) (y : kindAt t at ≡ 47
           table = table-room;
         }
 
-    module _ {p : List ℕ} {m : ℕ} (f₂ : Fills tagText t (at + 1) end (midOf k (length o₁ - k) o₁) p m) where
+    module _ {p : List ℕ} {m : ℕ} (f₂ : WritesRow tagText t (at + 1) end (midOf k (length o₁ - k) o₁) p m) where
       -- the output with address and tags
       abbrev headed : List ℕ
       headed = putMid k (length o₁ - k) o₁ p
 
-      headed-filled : Filled (oscString (part source a b) ++ tagText (q .room .forest)) o headed (k + m)
+      headed-filled : Filled (oscString (part source (item .a) (item .b)) ++ tagText (q .room .forest)) o headed (k + m)
       headed-filled = filled-lent f₁ (f₂ (q .room .forest) inside-spans)
 
-      pub head-room : (k + m ≤ length headed) × (k + m ≤ 65535)
+      -- address and type tag text fit the output
+      pub head-room : (k + m ≤ length headed) × (k + m ≤ longest)
       head-room =
           let l = simp length-append at (headed-filled .count) in
           (omega (arith, message-room, filled-length headed-filled), omega (arith, message-room))
 
-      pub data-asked : Room (Sound source) (dataOf source) t (at + 1) end (length (midOf (k + m) (length headed - (k + m)) headed))
+      -- after them there is room for the data
+      pub data-asked : OutputRoom (Sound source) (writeData source) t (at + 1) end (length (midOf (k + m) (length headed - (k + m)) headed))
       data-asked =
           let l = simp length-append at (headed-filled .count) in
           record {
@@ -139,57 +156,65 @@ module _ {source t : List ℕ} {at : ℕ} (o : List ℕ) (y : kindAt t at ≡ 47
             table = table-room;
           }
 
-      module _ {p′ : List ℕ} {d : ℕ} (f₃ : Fills (dataOf source) t (at + 1) end (midOf (k + m) (length headed - (k + m)) headed) p′ d) where
-        pub message-end : k + m + d ≤ 65535
+      module _ {p′ : List ℕ} {d : ℕ}
+          (f₃ : WritesRow (writeData source) t (at + 1) end (midOf (k + m) (length headed - (k + m)) headed) p′ d) where
+        -- with the data the message is no longer than a packet may be
+        pub message-end : k + m + d ≤ longest
         message-end =
             let l = simp length-append at (headed-filled .count) in
             let c = f₃ (q .room .forest) inside-spans .count in
             omega (arith, message-room)
 
-        pub message-filled : Fills (packetAt source t at) t (at + 1) (endAt t at) o (putMid (k + m) (length headed - (k + m)) headed p′)
-            (k + m + d)
+        -- address, type tag text and data are the message
+        pub message-filled : WritesPacket source t at o (putMid (k + m) (length headed - (k + m)) headed p′) (k + m + d)
         message-filled F s =
             let s′ : Spans t (at + 1) end F = rw e s in
             rw (message-bytes F) (simp append-assoc at (filled-lent (filled-lent f₁ (f₂ F s′)) (f₃ F s′)))
 
 -- ---- a bundle
 
-module _ {source t : List ℕ} {at : ℕ} (o : List ℕ) (n : kindAt t at ≡ 47 → ⊥) (q : Ready source t at (length o))
-    {end a b : ℕ} (e : end ≡ endAt t at) (u : a ≡ aAt t at) (v : b ≡ bAt t at) where
-  bundle-bytes : (F : Forest) → packetAt source t at F ≡ bundleOf a b [] ++ elementsOf source F
-  bundle-bytes F = rw (u, v) (bundle-is source (kindAt t at) (aAt t at) (bAt t at) F n)
+module _ {source t : List ℕ} {at : ℕ} (o : List ℕ) (n : kindAt t at ≡ messageKind → ⊥) (q : Ready source t at (length o))
+    {end : ℕ} {item : Item} (e : end ≡ endAt t at) (u : item ≡ itemAt t at) where
+  bundle-bytes : (F : Forest) → packetAt source t at F ≡ writeBundle item [] ++ writeElements source F
+  bundle-bytes F = rw u (bundle-is source (itemAt t at) F n)
 
-  pub head-asked : 16 ≤ length o
+  -- there is room for the bundle's head
+  pub head-asked : bundleHead ≤ length o
   head-asked =
       omega (arith, q .room .fits, simp (length-append, length-bundle) at (ap length (bundle-bytes (q .room .forest))))
 
-  module _ {o₁ : List ℕ} {k : ℕ} (f : Filled (bundleOf a b []) o o₁ k) where
-    pub bundle-begun : Going (Sound source) (packetAt source t at) (elementsOf source) t (at + 1) end o₁ o₁ (at + 1) k
+  module _ {o₁ : List ℕ} {k : ℕ} (f : Filled (writeBundle item []) o o₁ k) where
+    -- after the head all elements are left to write
+    pub bundle-begun : Going (Sound source) (packetAt source t at) (writeElements source) t (at + 1) end o₁ o₁ (at + 1) k
     bundle-begun =
-        let room : Room (Sound source) (packetAt source t at) t (at + 1) end (length o₁) = rw (e, filled-length f) (q .room) in
-        begun room (bundleOf a b []) (bundle-bytes (room .forest)) (written-again f)
+        let room : OutputRoom (Sound source) (packetAt source t at) t (at + 1) end (length o₁) = rw (e, filled-length f) (q .room) in
+        begun room (writeBundle item []) (bundle-bytes (room .forest)) (written-again f)
 
+    -- where no element is left, the bundle is written
     pub bundle-ended : {o₂ : List ℕ} {next n : ℕ}
-        → Going (Sound source) (packetAt source t at) (elementsOf source) t (at + 1) end o₁ o₂ next n
-        → end ≤ next → Fills (packetAt source t at) t (at + 1) (endAt t at) o o₂ n
+        → Going (Sound source) (packetAt source t at) (writeElements source) t (at + 1) end o₁ o₂ next n
+        → end ≤ next → WritesPacket source t at o o₂ n
     bundle-ended w h F s =
         let b = ended w (elements-none source) h F (rw e s) in
-        rw (bundle-bytes F) (written-from (elementsOf source F) f (rw (bundle-bytes F) at b))
+        rw (bundle-bytes F) (written-from (writeElements source F) f (rw (bundle-bytes F) at b))
 
 -- ---- an element of a bundle
 
 module _ {source t : List ℕ} {g : Forest → List ℕ} {lo hi : ℕ} {o₀ o : List ℕ} {at k : ℕ}
-    (w : Going (Sound source) g (elementsOf source) t lo hi o₀ o at k) (h : at < hi) where
-  element-left : elementsOf source (w .rest) ≡ elementOf (packetAt source t at (next w h .inside)) ++ elementsOf source (next w h .rest)
-  element-left = ap (elementsOf source) (next w h .is)
-      ∙ elements-is (kindAt t at) (aAt t at) (bAt t at) (next w h .inside) (next w h .rest) source
+    (w : Going (Sound source) g (writeElements source) t lo hi o₀ o at k) (h : at < hi) where
+  element-left : writeElements source (w .rest)
+      ≡ writeElement (packetAt source t at (next w h .inside)) ++ writeElements source (next w h .rest)
+  element-left = ap (writeElements source) (next w h .is)
+      ∙ elements-is (itemAt t at) (next w h .inside) (next w h .rest) source
 
+  -- there is room for the next element
   pub element-room : (k + 4 + length (packetAt source t at (next w h .inside)) ≤ length o) ×
-      (k + 4 + length (packetAt source t at (next w h .inside)) ≤ 65535)
+      (k + 4 + length (packetAt source t at (next w h .inside)) ≤ longest)
   element-room =
       let l = simp (length-append, length-bytes) at (ap length element-left) in
       (omega (arith, room-left w, filled-length (w .filled)), omega (arith, room-left w))
 
+  -- after the gap for its size there is room for its packet
   pub packet-asked : Ready source t at (length (midOf (k + 4) (length o - (k + 4)) o))
   packet-asked =
       record {
@@ -204,7 +229,7 @@ module _ {source t : List ℕ} {g : Forest → List ℕ} {lo hi : ℕ} {o₀ o :
         range = obeyed w h .range;
       }
 
-  module _ {p : List ℕ} {n : ℕ} (f : Fills (packetAt source t at) t (at + 1) (endAt t at) (midOf (k + 4) (length o - (k + 4)) o) p n) where
+  module _ {p : List ℕ} {n : ℕ} (f : WritesPacket source t at (midOf (k + 4) (length o - (k + 4)) o) p n) where
     -- the output with the packet behind the gap for its size
     abbrev placed : List ℕ
     placed = putMid (k + 4) (length o - (k + 4)) o p
@@ -212,19 +237,21 @@ module _ {source t : List ℕ} {g : Forest → List ℕ} {lo hi : ℕ} {o₀ o :
     inside-filled : Filled (packetAt source t at (next w h .inside)) (midOf (k + 4) (length o - (k + 4)) o) p n
     inside-filled = f (next w h .inside) (next w h .in-spans)
 
-    pub packet-after : (k + 4 + n ≤ length placed) × (k + 4 + n ≤ 65535)
+    -- with its packet the output is no longer than a packet may be
+    pub packet-after : (k + 4 + n ≤ length placed) × (k + 4 + n ≤ longest)
     packet-after = (
       omega (arith, element-room, inside-filled .count, same-length o (k + 4) (inside-filled .wrote)),
       omega
           (arith, element-room, inside-filled .count),
     )
 
+    -- once its size is written, the element is passed
     pub element-gone : {p′ : List ℕ} → Wrote (bytes 4 n) (midOf k (length placed - k) placed) p′ → {end : ℕ} → end ≡ endAt t at
-        → Going (Sound source) g (elementsOf source) t lo hi o₀ (putMid k (length placed - k) placed p′) end (k + 4 + n)
+        → Going (Sound source) g (writeElements source) t lo hi o₀ (putMid k (length placed - k) placed p′) end (k + 4 + n)
     element-gone v e =
         let size = gap-filled (w .filled) (omega (arith, element-room, filled-length (w .filled))) (length-bytes 4 _) inside-filled
         (rw (inside-filled .count) at v) in
         rw e
-        (gone w h (elementOf (packetAt source t at (next w h .inside))) element-left
+        (gone w h (writeElement (packetAt source t at (next w h .inside))) element-left
         (record { container = w .holds .container; obeys = obeyed w h .rest-obeys })
         size)

@@ -1,2 +1,2 @@
 pub mod Osc
-pub mod Writers
+pub mod CodeWriters

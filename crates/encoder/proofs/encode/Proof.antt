@@ -1,6 +1,6 @@
 -- `encoder::encode` meets its contract.
-use Rattle.encoder.specs.Outcome.{plain}
-use Rattle.encoder.proofs.Answers.{refused, planned, encoded-plain}
+use Rattle.encoder.specs.Outcome.{unframed}
+use Rattle.encoder.proofs.Answers.{refused, planned, encoded-unframed}
 use borrow.Author.Needs.{needs}
 use Rattle.encoder.proofs.encode.Statement.{statement}
 use Rattle.encoder.proofs.encode.Tie as tie
@@ -16,7 +16,7 @@ returns : tie.Need-returns
 returns c =
     let p3 = c .before .before .before in
     let p7 = p3 .before .before .before .before in
-    refused plain (p7 .args .table .now) (p7 .args .count) (p7 .args .source .now) (p7 .args .out .now) (p3 .prepare .ensures)
+    refused unframed (p7 .args .table .now) (p7 .args .count) (p7 .args .source .now) (p7 .args .out .now) (p3 .prepare .ensures)
     (c .before .refusal .given .1)
 
 returns-2 : tie.Need-returns-2
@@ -25,7 +25,7 @@ returns-2 c =
     let p5 = p2 .before .before .before in
     let p7 = p5 .before .before in
     let p11 = p7 .before .before .before .before in
-    encoded-plain (p11 .args .out .now)
+    encoded-unframed (p11 .args .out .now)
     (planned (p11 .args .table .now) (p11 .args .count) (p11 .args .source .now) (p7 .prepare .ensures) (p5 .n .given .1))
     (p2 .encode-into .ensures)
 

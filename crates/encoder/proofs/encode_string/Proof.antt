@@ -2,7 +2,7 @@
 use native.Mathlib.Omega.{arith}
 use Rattle.strings.specs.Atomic.{oscString}
 use Rattle.strings.proofs.Lengths.{length-string}
-use Rattle.encoder.proofs.Answers.{write-long, write-short, written, not-text, text-outcome}
+use Rattle.encoder.proofs.Answers.{bytes-long, bytes-short, bytes-written, not-text, text-outcome}
 use borrow.Author.Needs.{needs}
 use Rattle.encoder.proofs.encode_string.Statement.{statement}
 use Rattle.encoder.proofs.encode_string.Tie as tie
@@ -17,7 +17,7 @@ returns-2 c =
     let p2 = c .before .before in
     let p5 = p2 .before .before .before in
     text-outcome (p5 .args .text .now) (p5 .args .out .now) (p2 .is-utf8 .ensures) (c .before .if1 .left)
-    (write-long (oscString (p5 .args .text .now)) (p5 .args .out .now) (omega (arith, length-string (p5 .args .text .now))))
+    (bytes-long (oscString (p5 .args .text .now)) (p5 .args .out .now) (omega (arith, length-string (p5 .args .text .now))))
 
 returns-3 : tie.Need-returns-3
 returns-3 c =
@@ -25,7 +25,7 @@ returns-3 c =
     let p3 = p2 .before in
     let p6 = p3 .before .before .before in
     text-outcome (p6 .args .text .now) (p6 .args .out .now) (p3 .is-utf8 .ensures) (p2 .if1 .left)
-    (write-short (oscString (p6 .args .text .now)) (p6 .args .out .now) (omega (arith, length-string (p6 .args .text .now)))
+    (bytes-short (oscString (p6 .args .text .now)) (p6 .args .out .now) (omega (arith, length-string (p6 .args .text .now)))
     (omega (arith, length-string (p6 .args .text .now))))
 
 returns-4 : tie.Need-returns-4
@@ -35,7 +35,7 @@ returns-4 c =
     let p7 = p6 .before in
     let p10 = p7 .before .before .before in
     text-outcome (p10 .args .text .now) (p10 .args .out .now) (p7 .is-utf8 .ensures) (p6 .if1 .left)
-    (written (oscString (p10 .args .text .now)) (p10 .args .out .now) (omega (arith, length-string (p10 .args .text .now)))
+    (bytes-written (oscString (p10 .args .text .now)) (p10 .args .out .now) (omega (arith, length-string (p10 .args .text .now)))
     (p2 .encode-string-into .ensures))
 
 pub encode-string-spec : {M : Type 1} → statement M

@@ -5,8 +5,8 @@ use borrow.Author.Needs.{needs}
 use Rattle.encoder.proofs.encode_tcp.Statement.{statement}
 use Rattle.encoder.proofs.encode_tcp.Tie as tie
 
-read-record-requires : tie.Need-read-record-requires
-read-record-requires c κs =
+kind-at-requires : tie.Need-kind-at-requires
+kind-at-requires c κs =
     let p3 = c .before .before .before in
     let p7 = p3 .before .before .before .before in
     root-read (p7 .args .out .now)
@@ -14,17 +14,17 @@ read-record-requires c κs =
 
 encode-message-tcp-requires : tie.Need-encode-message-tcp-requires
 encode-message-tcp-requires c κs =
-    let p5 = c .before .before .before .before .before in
-    let p7 = p5 .before .before in
-    let p11 = p7 .before .before .before .before in
-    (planned (p11 .args .table .now) (p11 .args .count) (p11 .args .source .now) (p7 .prepare .ensures) (p5 .n .given .1)) .sized
+    let p4 = c .before .before .before .before in
+    let p6 = p4 .before .before in
+    let p10 = p6 .before .before .before .before in
+    (planned (p10 .args .table .now) (p10 .args .count) (p10 .args .source .now) (p6 .prepare .ensures) (p4 .n .given .1)) .sized
 
 encode-into-requires : tie.Need-encode-into-requires
 encode-into-requires c κs =
-    let p5 = c .before .before .before .before .before in
-    let p7 = p5 .before .before in
-    let p11 = p7 .before .before .before .before in
-    (planned (p11 .args .table .now) (p11 .args .count) (p11 .args .source .now) (p7 .prepare .ensures) (p5 .n .given .1)) .sized
+    let p4 = c .before .before .before .before in
+    let p6 = p4 .before .before in
+    let p10 = p6 .before .before .before .before in
+    (planned (p10 .args .table .now) (p10 .args .count) (p10 .args .source .now) (p6 .prepare .ensures) (p4 .n .given .1)) .sized
 
 returns : tie.Need-returns
 returns c =
@@ -37,25 +37,25 @@ returns-2 : tie.Need-returns-2
 returns-2 c =
     let p2 = c .before .before in
     let p4 = p2 .before .before in
-    let p6 = p4 .before .before in
-    let p8 = p6 .before .before in
-    let p10 = p8 .before .before in
-    let p14 = p10 .before .before .before .before in
-    encoded-message (p14 .args .out .now)
-    (planned (p14 .args .table .now) (p14 .args .count) (p14 .args .source .now) (p10 .prepare .ensures) (p8 .n .given .1))
-    (p6 .read-record .ensures) (p4 .if1 .taken) (p2 .encode-message-tcp .ensures)
+    let p5 = p4 .before in
+    let p7 = p5 .before .before in
+    let p9 = p7 .before .before in
+    let p13 = p9 .before .before .before .before in
+    encoded-message (p13 .args .out .now)
+    (planned (p13 .args .table .now) (p13 .args .count) (p13 .args .source .now) (p9 .prepare .ensures) (p7 .n .given .1))
+    (p5 .kind-at .ensures) (p4 .if1 .taken) (p2 .encode-message-tcp .ensures)
 
 returns-3 : tie.Need-returns-3
 returns-3 c =
     let p2 = c .before .before in
     let p4 = p2 .before .before in
-    let p6 = p4 .before .before in
-    let p8 = p6 .before .before in
-    let p10 = p8 .before .before in
-    let p14 = p10 .before .before .before .before in
-    encoded-bundle (p14 .args .out .now)
-    (planned (p14 .args .table .now) (p14 .args .count) (p14 .args .source .now) (p10 .prepare .ensures) (p8 .n .given .1))
-    (p6 .read-record .ensures) (p4 .if1 .left) (p2 .encode-into .ensures)
+    let p5 = p4 .before in
+    let p7 = p5 .before .before in
+    let p9 = p7 .before .before in
+    let p13 = p9 .before .before .before .before in
+    encoded-bundle (p13 .args .out .now)
+    (planned (p13 .args .table .now) (p13 .args .count) (p13 .args .source .now) (p9 .prepare .ensures) (p7 .n .given .1))
+    (p5 .kind-at .ensures) (p4 .if1 .left) (p2 .encode-into .ensures)
 
 pub encode-tcp-spec : {M : Type 1} → statement M
 encode-tcp-spec =
@@ -64,7 +64,7 @@ encode-tcp-spec =
     (λ c κs. search needs)
     (λ c. search needs)
     (λ c. search needs)
-    read-record-requires
+    kind-at-requires
     encode-message-tcp-requires
     encode-into-requires
     returns

@@ -29,8 +29,8 @@ returns-3 c =
     too-deep (p8 .args .table .now) (p8 .args .count) (p8 .args .source .now) (p3 .is-well-formed .ensures) (p2 .if2 .left)
     (c .before .deeper-than .ensures) (c .if3 .taken)
 
-measure-requires : tie.Need-measure-requires
-measure-requires c κs =
+packet-length-requires : tie.Need-packet-length-requires
+packet-length-requires c κs =
     let p2 = c .before .before in
     let p3 = p2 .before in
     let p8 = p3 .before .before .before .before .before in
@@ -43,7 +43,7 @@ sub-length c =
     let p4 = p3 .before in
     let p9 = p4 .before .before .before .before .before in
     some-length (p9 .args .table .now) (p9 .args .count) (p9 .args .source .now) (p4 .is-well-formed .ensures) (p3 .if2 .left)
-    (p2 .deeper-than .ensures) (c .measure .ensures)
+    (p2 .deeper-than .ensures) (c .packet-length .ensures)
 
 returns-4 : tie.Need-returns-4
 returns-4 c =
@@ -52,7 +52,7 @@ returns-4 c =
     let p4 = p3 .before in
     let p9 = p4 .before .before .before .before .before in
     measured (p9 .args .table .now) (p9 .args .count) (p9 .args .source .now) (p4 .is-well-formed .ensures) (p3 .if2 .left)
-    (p2 .deeper-than .ensures) (c .measure .ensures) (c .before .if3 .left)
+    (p2 .deeper-than .ensures) (c .packet-length .ensures) (c .before .if3 .left)
 
 pub prepare-spec : {M : Type 1} → statement M
 prepare-spec =
@@ -65,6 +65,6 @@ prepare-spec =
     returns-2
     deeper-than-requires
     returns-3
-    measure-requires
+    packet-length-requires
     sub-length
     returns-4)

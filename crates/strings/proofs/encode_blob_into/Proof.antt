@@ -1,4 +1,4 @@
--- `encoder::write::encode_blob_into` meets its contract.
+-- `strings::encode_blob_into` meets its contract.
 use mathlib.Core.Path.{refl, sym}
 use mathlib.Core.List.{append-assoc}
 use Rattle.wire.proofs.Numbers.{length-bytes}
@@ -15,7 +15,7 @@ returns c =
     let p6 = p2 .before .before .before .before in
     let p10 = p6 .before .before .before .before in
     let f = filled-lent (record { count = sym (length-bytes 4 _); wrote = p10 .put-u32 .ensures })
-    (record { count = refl; wrote = p6 .write .ensures }) in
+    (record { count = refl; wrote = p6 .copy .ensures }) in
     simp append-assoc at (filled-lent f (p2 .write-zeros .ensures))
 
 pub encode-blob-into-spec : {M : Type 1} → statement M

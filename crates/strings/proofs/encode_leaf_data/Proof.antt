@@ -1,10 +1,10 @@
--- `encoder::write::encode_leaf_data` meets its contract: each class of arguments has one writer.
+-- `strings::encode_leaf_data` meets its contract: each class of arguments has one writer.
 use mathlib.Core.Path.{refl, ap}
 use native.Mathlib.Omega.{arith}
 use lib.ListN.{length-append, length-take}
 use Rattle.wire.proofs.Numbers.{length-bytes}
 use Rattle.wire.proofs.Writers.{wrote-none}
-use Rattle.strings.specs.Atomic.{ranged}
+use Rattle.strings.specs.CodeStrings.{hasRange}
 use Rattle.strings.proofs.Lengths.{length-string, length-blob}
 use borrow.Author.Needs.{needs}
 use Rattle.strings.proofs.encode_leaf_data.Statement.{statement}
@@ -23,7 +23,7 @@ encode-pair-into-requires c κs =
 range-requires : tie.Need-range-requires
 range-requires c κs =
     let p4 = c .before .before .before .before in
-    p4 .pre .0 (ap ranged (c .enum-told4 .given .1))
+    p4 .pre .0 (ap hasRange (c .enum-told4 .given .1))
 
 encode-string-into-requires : tie.Need-encode-string-into-requires
 encode-string-into-requires c κs =
@@ -34,7 +34,7 @@ encode-string-into-requires c κs =
 range-requires-2 : tie.Need-range-requires-2
 range-requires-2 c κs =
     let p4 = c .before .before .before .before in
-    p4 .pre .0 (ap ranged (c .enum-told5 .given .1))
+    p4 .pre .0 (ap hasRange (c .enum-told5 .given .1))
 
 encode-blob-into-requires : tie.Need-encode-blob-into-requires
 encode-blob-into-requires c κs =

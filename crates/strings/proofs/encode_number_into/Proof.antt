@@ -1,4 +1,4 @@
--- `encoder::write::encode_number_into` meets its contract.
+-- `strings::encode_number_into` meets its contract.
 use mathlib.Core.Path.{sym}
 use Rattle.wire.proofs.Numbers.{length-bytes}
 use borrow.Author.Needs.{needs}

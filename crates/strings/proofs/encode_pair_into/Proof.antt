@@ -1,4 +1,4 @@
--- `encoder::write::encode_pair_into` meets its contract.
+-- `strings::encode_pair_into` meets its contract.
 use lib.ListN.{length-append}
 use Rattle.wire.proofs.Numbers.{length-bytes}
 use Rattle.wire.proofs.Writers.{wrote-lent}

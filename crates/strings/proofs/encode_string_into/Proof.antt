@@ -1,4 +1,4 @@
--- `encoder::write::encode_string_into` meets its contract.
+-- `strings::encode_string_into` meets its contract.
 use mathlib.Core.Path.{refl}
 use Rattle.wire.proofs.Writers.{filled-lent}
 use Rattle.strings.specs.Atomic.{oscString}
@@ -11,7 +11,7 @@ unfolding oscString
 returns c =
     let p2 = c .before .before in
     let p6 = p2 .before .before .before .before in
-    filled-lent (record { count = refl; wrote = p6 .write .ensures }) (p2 .write-zeros .ensures)
+    filled-lent (record { count = refl; wrote = p6 .copy .ensures }) (p2 .write-zeros .ensures)
 
 pub encode-string-into-spec : {M : Type 1} → statement M
 encode-string-into-spec =

@@ -1,4 +1,4 @@
--- `encoder::write::write_zeros` meets its contract. Before each test as many zeros are written as n was compared with.
+-- `strings::write_zeros` meets its contract. Before each test as many zeros are written as n was compared with.
 use mathlib.Core.Path.{_≡_, refl}
 use mathlib.Core.List.{List}
 use Prim.Native.Nat.{ℕ, zero, suc, _+_, _≤_}

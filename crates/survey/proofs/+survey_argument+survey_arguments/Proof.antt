@@ -1,4 +1,4 @@
--- `encoder::survey::survey_argument` and `survey_arguments` meet their contracts. The levels of arrays fall; the arguments stand
+-- `survey::survey_argument` and `survey_arguments` meet their contracts. The levels of arrays fall; the arguments stand
 -- above one of them.
 use mathlib.Core.Path.{sym, _∙_}
 use native.Mathlib.Omega.{arith}
@@ -16,10 +16,9 @@ use Rattle.survey.proofs.survey_arguments.Kinds as survey-arguments-kin
 use Rattle.survey.proofs.+survey_argument+survey_arguments.Lts-survey_arguments as survey-arguments-lts
 use Rattle.survey.proofs.is_placed.Reads as is-placed-reads
 use Rattle.survey.proofs.leaf_content.Reads as leaf-content-reads
-use Rattle.node.proofs.record.a_at.Reads as a-at-reads
-use Rattle.node.proofs.record.b_at.Reads as b-at-reads
-use Rattle.node.proofs.record.end_at.Reads as end-at-reads
-use Rattle.node.proofs.record.kind_at.Reads as kind-at-reads
+use Rattle.node.proofs.record.field_at.Reads as field-at-reads
+use Rattle.node.proofs.record.item_at.Reads as item-at-reads
+use Rattle.node.proofs.rules.own_rules.Reads as own-rules-reads
 use Rattle.node.proofs.tags.sort_of.Reads as sort-of-reads
 use Rattle.survey.proofs.+survey_argument+survey_arguments.{statement}
 use Rattle.survey.proofs.+survey_argument+survey_arguments.Tie.{close}
@@ -71,16 +70,14 @@ survey-arguments-μ-loop table lo hi source levels unsure tags₀ content₀ at�
 pub +survey-argument+survey-arguments-spec : {M : Type 1} → statement M
 +survey-argument+survey-arguments-spec =
     close μ-survey-argument μ-survey-arguments (λ t. survey-argument-lts.spec (
-      end-at-reads.Asked,
-      end-at-reads.Learnt,
-      a-at-reads.Asked,
-      a-at-reads.Learnt,
-      b-at-reads.Asked,
-      b-at-reads.Learnt,
-      kind-at-reads.Asked,
-      kind-at-reads.Learnt,
+      field-at-reads.Asked,
+      field-at-reads.Learnt,
+      item-at-reads.Asked,
+      item-at-reads.Learnt,
       sort-of-reads.Asked,
       sort-of-reads.Learnt,
+      own-rules-reads.Asked,
+      own-rules-reads.Learnt,
       survey-arguments-below t,
       survey-arguments.Post,
       leaf-content-reads.Asked,
@@ -88,92 +85,82 @@ pub +survey-argument+survey-arguments-spec : {M : Type 1} → statement M
     )
     (survey-argument-at t)
     survey-argument.Post
-    -- end-at-requires
-    (λ c κs. omega (arith, c .before .before .pre .1))
+    -- field-at-requires
+    (λ c κs. let q = c .before .before .pre .1 in (omega (arith, q .on, q .table), omega arith))
     -- cast-end
     (λ c. search needs)
-    -- a-at-requires
-    (λ c κs. omega (arith, c .before .before .before .pre .1))
-    -- b-at-requires
-    (λ c κs. let p4 = c .before .before .before .before in omega (arith, p4 .pre .1))
-    -- kind-at-requires
-    (λ c κs. let p5 = c .before .before .before .before .before in omega (arith, p5 .pre .1))
+    -- item-at-requires
+    (λ c κs. let q = c .before .before .before .pre .1 in omega (arith, q .on, q .table))
     -- sort-of-requires
     (λ c κs. search needs)
     -- enum-told
     (λ c. search needs)
     -- returns
     (λ c. ((λ h. absurd (omega (arith, h))), (omega arith, omega arith)))
+    -- own-rules-requires
+    (λ c κs. search needs)
     -- returns-2
     (λ c. ((λ h. absurd (omega (arith, h))), (omega arith, omega arith)))
-    -- returns-3
-    (λ c. ((λ h. absurd (omega (arith, h))), (omega arith, omega arith)))
     -- add-survey-arguments
-    (λ c. let p12 = c .before .before .before .before .before .before .before .before .before .before .before .before in
-    omega (arith, p12 .pre .1))
+    (λ c. let p7 = c .before .before .before .before .before .before .before in
+    let q = p7 .before .before .before .pre .1 in omega (arith, q .on, q .low))
     -- sub-survey-arguments
     (λ c. omega (arith, c .before .before .if1 .left))
     -- survey-arguments-requires
     (λ c κs.
-    let e = c .before .before .before .before .before .before .before .before .before .end-at .ensures in
-    let p = c .before .before .before .before .before .before .before .before .before .before .before .before .pre in
-    (omega (arith, p .0, c .before .before .if1 .left), (omega (arith, e, p .1), omega (arith, e, p .1), omega (arith, e, p .1))))
-    -- add-t16
-    (λ c. let p11 = c .before .before .before .before .before .before .before .before .before .before .before in
-    let p14 = p11 .before .before .before in omega (arith, c .before .survey-arguments .ensures, p11 .end-at .ensures, p14 .pre .1))
+    let p7 = c .before .before .before .before .before .before .before in
+    let e = p7 .field-at .ensures in
+    let s = p7 .before .before .before .pre in
+    let q = s .1 in (
+      omega (arith, s .0, c .before .before .if1 .left),
+      (omega (arith, e, q .on), omega (arith, e, q .low), omega (arith, e, q .table)),
+    ))
+    -- add-t15
+    (λ c. let p9 = c .before .before .before .before .before .before .before .before .before in
+    let q = p9 .before .before .before .pre .1 in omega (arith, c .before .survey-arguments .ensures, p9 .field-at .ensures, q .on, q .low))
     -- enum-told-2
     (λ c. search needs)
     -- enum-known-class
     (λ c. search needs)
-    -- add-if4
-    (λ c. let p10 = c .before .before .before .before .before .before .before .before .before .before in omega (arith, p10 .pre .1))
-    -- returns-4
+    -- add-if3
+    (λ c. let p8 = c .before .before .before .before .before .before .before .before in let q = p8 .pre .1 in omega (arith, q .on, q .low))
+    -- returns-3
     (λ c. ((λ h. absurd (omega (arith, h))), (omega arith, omega arith)))
     -- leaf-content-requires
     (λ c κs. search needs)
-    -- returns-5
+    -- returns-4
     (λ c.
-    let r = c .before .before .before .before in
-    let k = r .before .before .before .before in (
-      (λ h. argument-array _ _ _ (k .kind-at .ensures) (k .before .before .before .end-at .ensures) (k .before .before .a-at .ensures)
-          (k .before .b-at .ensures) (r .before .before .before .sort-of .ensures)
-          (r .before .enum-told .given .1) (c .before .before .before .if2 .left) (c .before .before .if3 .left)
+    let o = c .before .before .before in
+    let s = o .before .before .before .before in
+    let f = s .before .before in
+    let q = f .before .before .before .pre .1 in (
+      (λ h. argument-array _ _ _ (s .before .item-at .ensures) (f .field-at .ensures) (s .sort-of .ensures)
+          (o .before .before .enum-told .given .1) (sym (o .own-rules .ensures) ∙ not-false _ (c .before .before .if2 .left))
           (c .before .survey-arguments .ensures .0 h)),
       (
-        omega (
-          arith,
-          c .before .survey-arguments .ensures,
-          c .before .before .before .before .before .before .before .before .before .before .before .end-at .ensures,
-          c .before .before .before .before .before .before .before .before .before .before .before .before .before .before .pre .1,
-        ),
+        omega (arith, c .before .survey-arguments .ensures, f .field-at .ensures, q .on),
         omega (arith, c .before .survey-arguments .ensures),
       ),
     ))
-    -- returns-6
+    -- returns-5
     (λ c. ((λ h. absurd (omega (arith, h))), (omega arith, omega arith)))
-    -- returns-7
+    -- returns-6
     (λ c.
-    let k = c .before .before .before .before .before .before in (
+    let s = c .before .before .before .before .before in
+    let f = s .before .before in
+    let q = f .before .before .before .pre .1 in (
       (λ h. let l = c .leaf-content .ensures .0 h in
-          rw (← l .1) at (argument-leaf _ _ _ (k .kind-at .ensures) (k .before .before .before .end-at .ensures)
-          (k .before .before .a-at .ensures) (k .before .b-at .ensures) (c .before .before .before .before .before .sort-of .ensures)
-          (c .before .before .before .class .given .1) (c .before .if4 .left) (l .0))),
-      (
-        omega (
-          arith,
-          c .before .before .before .before .before .before .before .before .before .end-at .ensures,
-          c .before .before .before .before .before .before .before .before .before .before .before .before .pre .1,
-        ),
-        omega (arith, c .leaf-content .ensures .1),
-      ),
+          rw (← l .1) at (argument-leaf _ _ _ (s .before .item-at .ensures) (f .field-at .ensures) (s .sort-of .ensures)
+          (c .before .before .before .class .given .1) (c .before .if3 .left) (l .0))),
+      (omega (arith, f .field-at .ensures, q .on), omega (arith, c .leaf-content .ensures .1)),
     )))
     λ t. survey-arguments-lts.spec (
       is-placed-reads.Asked,
       is-placed-reads.Learnt,
       survey-argument-below t,
       survey-argument.Post,
-      end-at-reads.Asked,
-      end-at-reads.Learnt,
+      field-at-reads.Asked,
+      field-at-reads.Learnt,
     )
     (survey-arguments-at t)
     survey-arguments.Post
@@ -187,51 +174,47 @@ pub +survey-argument+survey-arguments-spec : {M : Type 1} → statement M
     (λ c. ((λ h. absurd (omega (arith, h))), (omega arith, omega arith)))
     -- survey-argument-requires
     (λ c κs.
-    let p = placed-is _ _ _ (sym (c .before .is-placed .ensures) ∙ not-false _ (c .if1 .left)) in (
-      omega (arith, c .before .before .before .before .before .before .pre .0),
-      (
-        p .on,
-        omega (arith, p .within, c .before .before .before .before .before .before .pre .1),
-        omega
-            (arith, p .within, c .before .before .before .before .before .before .pre .1),
-      ),
+    let p = placed-is _ _ _ (sym (c .before .is-placed .ensures) ∙ not-false _ (c .if1 .left)) in
+    let s = c .before .before .before .before .before .before .pre in (
+      omega (arith, s .0),
+      record { on = p .on; low = omega (arith, p .within, s .1); table = omega (arith, p .within, s .1) },
     ))
     -- add-tags
     (λ c.
-    let p = placed-is _ _ _ (sym (c .before .before .before .is-placed .ensures) ∙ not-false _ (c .before .before .if1 .left)) in
-    let v = c .before .before .before .before .before .loop .inv in
+    let i = c .before .before in
+    let l = i .before .before .before in
+    let p = placed-is _ _ _ (sym (i .before .is-placed .ensures) ∙ not-false _ (i .if1 .left)) in
     omega (
       arith,
       p .on,
       p .within,
-      v .few,
-      v .passed,
+      l .loop .inv .few,
+      l .loop .inv .passed,
       c .before .survey-argument .ensures .1,
-      c .before .before .before .before .before .before .before .before .pre .1,
+      l .before .before .before .pre .1,
     ))
     -- add-content
     (λ c. let p2 = c .before .before in let p6 = p2 .before .before .before .before in
     omega (arith, p6 .loop .inv .short, p2 .survey-argument .ensures .1))
     -- returns-2
     (λ c. ((λ h. absurd (omega (arith, h))), (omega arith, omega arith)))
-    -- end-at-requires
-    (λ c κs. let p10 = c .before .before .before .before .before .before .before .before .before .before in omega (arith, p10 .pre .1))
+    -- field-at-requires
+    (λ c κs. let p10 = c .before .before .before .before .before .before .before .before .before .before in
+    (omega (arith, p10 .pre .1), omega arith))
     -- cast-at
     (λ c. search needs)
     -- loop-less
     (λ c.
-    let p = placed-is _ _ _
-    (sym (c .before .before .before .before .before .before .is-placed .ensures)
-    ∙ not-false _ (c .before .before .before .before .before .if1 .left)) in
-    omega (arith, p .on, p .within, c .end-at .ensures))
+    let i = c .before .before .before .before .before in
+    let p = placed-is _ _ _ (sym (i .before .is-placed .ensures) ∙ not-false _ (i .if1 .left)) in
+    omega (arith, p .on, p .within, c .field-at .ensures))
     -- loop-again
     (λ c.
-    let p = placed-is _ _ _
-    (sym (c .before .before .before .before .before .before .is-placed .ensures)
-    ∙ not-false _ (c .before .before .before .before .before .if1 .left)) in
+    let i = c .before .before .before .before .before in
+    let p = placed-is _ _ _ (sym (i .before .is-placed .ensures) ∙ not-false _ (i .if1 .left)) in
     let x = c .before .before .before .before .survey-argument in
-    rw (← c .end-at .ensures) at
-    (behind-more (c .before .before .before .before .before .before .before .before .loop .inv) (x .result .tags) (x .result .content) p
+    rw (← c .field-at .ensures) at
+    (behind-more (i .before .before .before .loop .inv) (x .result .tags) (x .result .content) p
     (x .ensures .0 (omega (arith, c .before .if2 .left))) (x .ensures .1 .0) (omega (arith, c .before .if2 .left))))
     -- returns-3
     (λ c. (

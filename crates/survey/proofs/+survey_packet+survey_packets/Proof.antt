@@ -1,12 +1,13 @@
--- `encoder::survey::survey_packet` and `survey_packets` meet their contracts. The levels of bundles fall; the packets stand above
+-- `survey::survey_packet` and `survey_packets` meet their contracts. The levels of bundles fall; the packets stand above
 -- one of them.
 use mathlib.Core.Path.{refl, sym, _∙_}
 use mathlib.Core.List.{[], _∷_}
 use native.Mathlib.Omega.{arith}
 use borrow.Author.Needs.{needs}
 use borrow.Author.Tests.{not-false}
+use Rattle.node.specs.Tags.{messageKind, bundleKind}
 use Rattle.node.proofs.Keys.{by-keys}
-use Rattle.survey.proofs.Surveyed.{Ahead, placed-is, element-message, element-bundle, ahead-none, ahead-more, ahead-all}
+use Rattle.survey.proofs.Surveyed.{Ahead, placed-is, surveyed-message, surveyed-bundle, ahead-none, ahead-more, ahead-all}
 use Prim.Native.Nat.{ℕ, _+_, _-_, _*_, _<_}
 use borrow.Fn.Kinds.{In}
 use borrow.Fn.PlainCycle.{Measures, is, falls, and}
@@ -18,7 +19,7 @@ use Rattle.survey.proofs.survey_packets.Kinds as survey-packets-kinds
 use Rattle.survey.proofs.+survey_packet+survey_packets.Lts-survey_packets as survey-packets-lts
 use Rattle.survey.proofs.is_placed.Reads as is-placed-reads
 use Rattle.survey.proofs.survey_message.Reads as survey-message-reads
-use Rattle.node.proofs.record.end_at.Reads as end-at-reads
+use Rattle.node.proofs.record.field_at.Reads as field-at-reads
 use Rattle.node.proofs.record.kind_at.Reads as kind-at-reads
 use Rattle.survey.proofs.+survey_packet+survey_packets.{statement}
 use Rattle.survey.proofs.+survey_packet+survey_packets.Tie.{close}
@@ -70,47 +71,50 @@ pub +survey-packet+survey-packets-spec : {M : Type 1} → statement M
       kind-at-reads.Learnt,
       survey-message-reads.Asked,
       survey-message-reads.Learnt,
-      end-at-reads.Asked,
-      end-at-reads.Learnt,
+      field-at-reads.Asked,
+      field-at-reads.Learnt,
       survey-packets-below t,
       survey-packets.Post,
     )
     (survey-packet-at t)
     survey-packet.Post
     -- kind-at-requires
-    (λ c κs. omega (arith, c .before .before .pre .1))
+    (λ c κs. let q = c .before .before .pre .1 in omega (arith, q .on, q .table))
     -- survey-message-requires
     (λ c κs. let p4 = c .before .before .before .before in p4 .pre .1)
     -- add-result
     (λ c. omega (arith, c .survey-message .ensures .1))
     -- returns
     (λ c. ((λ h. absurd (omega (arith, h))), omega arith))
-    -- end-at-requires
-    (λ c κs. let p5 = c .before .before .before .before .before in omega (arith, p5 .pre .1))
+    -- field-at-requires
+    (λ c κs. let p5 = c .before .before .before .before .before in let q = p5 .pre .1 in (omega (arith, q .on, q .table), omega arith))
     -- cast-end
     (λ c. search needs)
     -- add-survey-packets
-    (λ c. let p6 = c .before .before .before .before .before .before in omega (arith, p6 .pre .1))
+    (λ c. let p6 = c .before .before .before .before .before .before in let q = p6 .pre .1 in omega (arith, q .on, q .low))
     -- sub-survey-packets
     (λ c. omega (arith, c .before .if1 .left))
     -- survey-packets-requires
     (λ c κs.
-    let e = c .end-at .ensures in
-    let p = c .before .before .before .before .before .before .pre in
-    (omega (arith, p .0, c .before .if1 .left), (omega (arith, e, p .1), omega (arith, e, p .1), omega (arith, e, p .1))))
+    let e = c .field-at .ensures in
+    let s = c .before .before .before .before .before .before .pre in
+    let q = s .1 in (
+      omega (arith, s .0, c .before .if1 .left),
+      (omega (arith, e, q .on), omega (arith, e, q .low), omega (arith, e, q .table)),
+    ))
     -- add-result-2
     (λ c. omega (arith, c .survey-packets .ensures .1))
     -- returns-2
     (λ c. (
-      (λ h. element-message
-          (sym (c .before .before .kind-at .ensures) ∙ sym (by-keys (λ (k : ℕ). k) 47 (47 ∷ []) (refl, tt) _ (c .before .match .keys1)))
+      (λ h. surveyed-message
+          (sym (c .before .before .kind-at .ensures) ∙ sym (by-keys (λ (k : ℕ). k) messageKind (messageKind ∷ []) (refl, tt) _ (c .before .match .keys1)))
           (c .survey-message .ensures .0 (omega (arith, h)))),
       omega (arith, c .survey-message .ensures .1),
     ))
     -- returns-3
     (λ c. let p2 = c .before .before in let p3 = p2 .before in let p4 = p3 .before in (
-      (λ h. element-bundle (sym (p4 .kind-at .ensures) ∙ sym (by-keys (λ (k : ℕ). k) 35 (35 ∷ []) (refl, tt) _ (p3 .match .keys2)))
-          (p2 .if1 .left) (rw (c .before .end-at .ensures) at (c .survey-packets .ensures .0 (omega (arith, h))))),
+      (λ h. surveyed-bundle (sym (p4 .kind-at .ensures) ∙ sym (by-keys (λ (k : ℕ). k) bundleKind (bundleKind ∷ []) (refl, tt) _ (p3 .match .keys2)))
+          (p2 .if1 .left) (rw (c .before .field-at .ensures) at (c .survey-packets .ensures .0 (omega (arith, h))))),
       omega (arith, c .survey-packets .ensures .1),
     ))
     -- returns-4
@@ -120,8 +124,8 @@ pub +survey-packet+survey-packets-spec : {M : Type 1} → statement M
       is-placed-reads.Learnt,
       survey-packet-below t,
       survey-packet.Post,
-      end-at-reads.Asked,
-      end-at-reads.Learnt,
+      field-at-reads.Asked,
+      field-at-reads.Learnt,
     )
     (survey-packets-at t)
     survey-packets.Post
@@ -135,34 +139,31 @@ pub +survey-packet+survey-packets-spec : {M : Type 1} → statement M
     (λ c. ((λ h. absurd (omega (arith, h))), omega arith))
     -- survey-packet-requires
     (λ c κs.
-    let p = placed-is _ _ _ (sym (c .before .is-placed .ensures) ∙ not-false _ (c .if1 .left)) in (
-      omega (arith, c .before .before .before .before .before .before .pre .0),
-      (
-        p .on,
-        omega (arith, p .within, c .before .before .before .before .before .before .pre .1),
-        omega
-            (arith, p .within, c .before .before .before .before .before .before .pre .1),
-      ),
+    let p = placed-is _ _ _ (sym (c .before .is-placed .ensures) ∙ not-false _ (c .if1 .left)) in
+    let s = c .before .before .before .before .before .before .pre in (
+      omega (arith, s .0),
+      record { on = p .on; low = omega (arith, p .within, s .1); table = omega (arith, p .within, s .1) },
     ))
     -- add-total
     (λ c. let p4 = c .before .before .before .before in omega (arith, p4 .loop .inv .short, c .survey-packet .ensures .1))
     -- returns-2
     (λ c. ((λ h. absurd (omega (arith, h))), omega arith))
-    -- end-at-requires
-    (λ c κs. let p8 = c .before .before .before .before .before .before .before .before in omega (arith, p8 .pre .1))
+    -- field-at-requires
+    (λ c κs. let p8 = c .before .before .before .before .before .before .before .before in (omega (arith, p8 .pre .1), omega arith))
     -- cast-at
     (λ c. search needs)
     -- loop-less
     (λ c.
-    let p = placed-is _ _ _
-    (sym (c .before .before .before .before .is-placed .ensures) ∙ not-false _ (c .before .before .before .if1 .left)) in
-    omega (arith, p .on, p .within, c .end-at .ensures))
+    let i = c .before .before .before in
+    let p = placed-is _ _ _ (sym (i .before .is-placed .ensures) ∙ not-false _ (i .if1 .left)) in
+    omega (arith, p .on, p .within, c .field-at .ensures))
     -- loop-again
     (λ c.
+    let i = c .before .before .before in
+    let p = placed-is _ _ _ (sym (i .before .is-placed .ensures) ∙ not-false _ (i .if1 .left)) in
     let x = c .before .before .survey-packet in
-    rw (← c .end-at .ensures) at
-    (ahead-more (c .before .before .before .before .before .before .loop .inv) (x .result)
-    (placed-is _ _ _ (sym (c .before .before .before .before .is-placed .ensures) ∙ not-false _ (c .before .before .before .if1 .left)))
+    rw (← c .field-at .ensures) at
+    (ahead-more (i .before .before .before .loop .inv) (x .result) p
     (x .ensures .0 (omega (arith, c .before .if2 .left))) (omega (arith, c .before .if2 .left))))
     -- returns-3
     (λ c. ((λ h. ahead-all (c .before .loop .inv) (c .loop-test .left)), omega (arith, c .before .loop .inv .short)))

@@ -1,4 +1,4 @@
--- `encoder::survey::is_placed` meets its contract: the tests are the definition's.
+-- `survey::is_placed` meets its contract: the tests are the definition's.
 use mathlib.Core.Path.{sym, _∙_}
 use native.Mathlib.Omega.{arith}
 use borrow.Author.Tests.{eq-eqb, ne-eqb, lt-ltb, le-ltb}
@@ -22,7 +22,7 @@ returns-2 c =
     rw (
       eq-eqb (zerosAt (a .table .now) (a .at)) 0 z,
       le-ltb (a .at) (endAt (a .table .now) (a .at))
-          (omega (arith, c .before .end-at .ensures)),
+          (omega (arith, c .before .field-at .ensures)),
     )
 
 returns-3 : tie.Need-returns-3
@@ -35,8 +35,8 @@ returns-3 c =
     rw (
       eq-eqb (zerosAt (a .table .now) (a .at)) 0 z,
       lt-ltb (a .at) (endAt (a .table .now) (a .at))
-          (omega (arith, c .before .end-at .ensures)),
-      c .before .end-at .ensures,
+          (omega (arith, c .before .field-at .ensures)),
+      c .before .field-at .ensures,
     )
 
 pub is-placed-spec : {M : Type 1} → statement M

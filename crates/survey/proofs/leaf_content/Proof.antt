@@ -1,4 +1,4 @@
--- `encoder::survey::leaf_content` meets its contract.
+-- `survey::leaf_content` meets its contract.
 use mathlib.Core.Path.{sym, _∙_}
 use native.Mathlib.Omega.{arith}
 use borrow.Author.Tests.{not-false}

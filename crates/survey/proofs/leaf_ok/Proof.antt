@@ -1,4 +1,4 @@
--- `encoder::survey::leaf_ok` meets its contract.
+-- `survey::leaf_ok` meets its contract.
 use mathlib.Core.Path.{sym, _∙_}
 use borrow.Author.Tests.{not-true, not-false}
 use borrow.Author.Needs.{needs}

@@ -1,4 +1,4 @@
--- `encoder::survey::leaf_range` meets its contract, class by class.
+-- `survey::leaf_range` meets its contract, class by class.
 use borrow.Author.Needs.{needs}
 use Rattle.survey.proofs.leaf_range.Statement.{statement}
 use Rattle.survey.proofs.leaf_range.Tie as tie

@@ -1,4 +1,4 @@
--- `encoder::survey::survey` meets its contract: the first record is the whole table's.
+-- `survey::survey` meets its contract: the first record is the whole table's.
 use mathlib.Core.Path.{sym, _∙_}
 use native.Mathlib.Omega.{arith}
 use Rattle.survey.proofs.Surveyed.{tree-surveyed}
@@ -20,12 +20,11 @@ returns-4 c = λ h. absurd (omega (arith, h))
 
 returns-5 : tie.Need-returns-5
 returns-5 c =
-    let p2 = c .before .before in
-    let p3 = p2 .before in
+    let f = c .before .before in
+    let k = f .before in
     λ h.
-    let room = p3 in
-    tree-surveyed (omega (arith, room .before .before .before .if1 .left)) (omega (arith, room .before .before .if2 .left))
-    (omega (arith, room .if3 .left, room .before .capacity .ensures)) (sym (p2 .end-at .ensures) ∙ c .before .if4 .left)
+    tree-surveyed (omega (arith, k .before .before .before .if1 .left)) (omega (arith, k .before .before .if2 .left))
+    (omega (arith, k .if3 .left, k .before .capacity-of .ensures)) (sym (f .field-at .ensures) ∙ c .before .if4 .left)
     (c .survey-packets .ensures .0 h)
 
 pub survey-spec : {M : Type 1} → statement M

@@ -1,4 +1,4 @@
--- `encoder::survey::survey_message` meets its contract.
+-- `survey::survey_message` meets its contract.
 use mathlib.Core.Path.{sym, _∙_}
 use native.Mathlib.Omega.{arith}
 use borrow.Author.Tests.{not-false}
@@ -12,22 +12,23 @@ returns c = ((λ h. absurd (omega (arith, h))), omega arith)
 
 returns-2 : tie.Need-returns-2
 returns-2 c =
-    let p3 = c .before .before .before in
-    let p12 = p3 .before .before .before .before .before .before .before .before .before in
-    let x = p3 in
-    let w = x .before in
+    let x = c .before .before .before in
+    let w = x .before .before in
     let r = w .before .before .before in
+    let q = r .before .before .before .before .pre in
     let text = sym (r .text-ok .ensures) ∙ not-false _ (w .before .before .if1 .left) in (
       (λ h.
-          message-found _ _ _ (r .before .a-at .ensures) (r .before .before .b-at .ensures) (w .before .end-at .ensures) text
+          message-found _ _ _ (r .before .item-at .ensures) (w .before .field-at .ensures) text
           (w .survey-arguments .ensures .0 (omega (arith, h))) (x .string-length .ensures) (c .before .string-length2 .ensures)),
       omega (
         arith,
         x .string-length .ensures,
         c .before .string-length2 .ensures,
         w .survey-arguments .ensures .1,
-        w .before .end-at .ensures,
-        p12 .pre,
+        w .before .field-at .ensures,
+        q .on,
+        q .low,
+        x .before .struct-known .given,
       ),
     )
 
@@ -35,7 +36,6 @@ pub survey-message-spec : {M : Type 1} → statement M
 survey-message-spec =
     tie.close
     (tie.spec
-    (λ c κs. search needs)
     (λ c κs. search needs)
     (λ c κs. search needs)
     returns

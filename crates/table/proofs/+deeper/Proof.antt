@@ -6,7 +6,8 @@ use borrow.Author.Needs.{needs}
 use borrow.Fn.Kinds.{In}
 use borrow.Fn.PlainCycle.{Measures, is, falls, and}
 use Rattle.node.specs.Forest.{Forest}
-use Rattle.node.proofs.record.read_record.Reads as read-record-reads
+use Rattle.node.proofs.record.field_at.Reads as field-at-reads
+use Rattle.node.proofs.record.kind_at.Reads as kind-at-reads
 use Rattle.table.specs.Tree.{Spans}
 use Rattle.table.proofs.Depths.{Passed, passed-none, passed-all, next-row, next-on, passed-other, found-here, found-inside}
 use Rattle.table.proofs.Depths.{passed-bundle}
@@ -33,8 +34,10 @@ abbrev μ-loop : deeper-lts.MeasureT-loop
 
 pub +deeper-spec : {M : Type 1} → statement M
 +deeper-spec = close μ-deeper λ t. deeper-lts.spec (
-  read-record-reads.Asked,
-  read-record-reads.Learnt,
+  field-at-reads.Asked,
+  field-at-reads.Learnt,
+  kind-at-reads.Asked,
+  kind-at-reads.Learnt,
   deeper-below t,
   deeper.Post,
 )
@@ -44,55 +47,55 @@ pub +deeper-spec : {M : Type 1} → statement M
     μ-loop
     -- loop-holds
     (λ c. λ F s. passed-none _ _ _ _ F s)
-    -- read-record-requires
-    (λ c κs. omega (arith, c .before .before .before .pre .1 .table))
+    -- field-at-requires
+    (λ c κs. (omega (arith, c .before .before .before .pre .1 .table), omega arith))
     -- cast-end
     (λ c. search needs)
+    -- kind-at-requires
+    (λ c κs. let p4 = c .before .before .before .before in omega (arith, p4 .pre .1 .table))
     -- returns: a bundle where none may be
-    (λ c. let p4 = c .before .before .before .before in let p5 = p4 .before in λ F s.
-    let l = p5 in
-    found-here (l .before .loop .inv F s) (p4 .read-record .ensures) (l .loop-test .taken) (c .before .if1 .taken) (c .if2 .taken))
+    (λ c. let k = c .before .before in let l = k .before .before in λ F s.
+    found-here (l .before .loop .inv F s) (k .kind-at .ensures) (k .before .field-at .ensures) (l .loop-test .taken) (c .before .if1 .taken)
+    (c .if2 .taken))
     -- add-deeper
     (λ c. search needs)
     -- sub-deeper
     (λ c. search needs)
     -- deeper-requires
     (λ c κs.
-    let g = c .before .before .before .before in
-    let l = g .before in
+    let k = c .before .before in
+    let l = k .before .before in
     let w = l .before .before .before .pre in (
       omega (arith, w .0, c .if2 .left),
-      next-row (l .before .loop .inv (w .1 .forest) (w .1 .spans)) (g .read-record .ensures)
+      next-row (l .before .loop .inv (w .1 .forest) (w .1 .spans)) (k .kind-at .ensures) (k .before .field-at .ensures)
           (l .loop-test .taken) (w .1),
     ))
     -- returns-2: a bundle inside is too deep
-    (λ c. let p2 = c .before .before in let p3 = p2 .before in let p6 = p3 .before .before .before in λ F s.
-    let g = p6 in
-    let l = g .before in
-    found-inside (l .before .loop .inv F s) (g .read-record .ensures) (l .loop-test .taken)
-    (p3 .if1 .taken) (p2 .if2 .left) (c .before .deeper .ensures) (c .if3 .taken))
+    (λ c. let b = c .before .before .before in let k = b .before in let l = k .before .before in λ F s.
+    found-inside (l .before .loop .inv F s) (k .kind-at .ensures) (k .before .field-at .ensures) (l .loop-test .taken)
+    (b .if1 .taken) (c .before .before .if2 .left) (c .before .deeper .ensures) (c .if3 .taken))
     -- loop-less
     (λ c.
-    let g = c .before .before .before .before .before .before in
-    let l = g .before in
+    let k = c .before .before .before .before in
+    let l = k .before .before in
     let w = l .before .before .before .pre .1 in
-    omega (arith, next-on (l .before .loop .inv (w .forest) (w .spans)) (g .read-record .ensures) (l .loop-test .taken)))
+    omega
+    (arith, next-on (l .before .loop .inv (w .forest) (w .spans)) (k .kind-at .ensures) (k .before .field-at .ensures) (l .loop-test .taken)))
     -- loop-again: past a bundle
-    (λ c. let p2 = c .before .before in let p3 = p2 .before in let p6 = p3 .before .before .before in λ F s.
-    let g = p6 in
-    let l = g .before in
-    passed-bundle (l .before .loop .inv F s) (g .read-record .ensures) (l .loop-test .taken)
-    (p3 .if1 .taken) (p2 .if2 .left) (c .before .deeper .ensures) (c .if3 .left))
+    (λ c. let b = c .before .before .before in let k = b .before in let l = k .before .before in λ F s.
+    passed-bundle (l .before .loop .inv F s) (k .kind-at .ensures) (k .before .field-at .ensures) (l .loop-test .taken)
+    (b .if1 .taken) (c .before .before .if2 .left) (c .before .deeper .ensures) (c .if3 .left))
     -- loop-less-2
     (λ c.
-    let g = c .before .before .before in
-    let l = g .before in
+    let k = c .before in
+    let l = k .before .before in
     let w = l .before .before .before .pre .1 in
-    omega (arith, next-on (l .before .loop .inv (w .forest) (w .spans)) (g .read-record .ensures) (l .loop-test .taken)))
+    omega
+    (arith, next-on (l .before .loop .inv (w .forest) (w .spans)) (k .kind-at .ensures) (k .before .field-at .ensures) (l .loop-test .taken)))
     -- loop-again-2: past any other node
     (λ c. λ F s.
-    let g = c .before .before .before in
-    let l = g .before in
-    passed-other (l .before .loop .inv F s) (g .read-record .ensures) (l .loop-test .taken) (c .if1 .left))
+    let k = c .before in
+    let l = k .before .before in
+    passed-other (l .before .loop .inv F s) (k .kind-at .ensures) (k .before .field-at .ensures) (l .loop-test .taken) (c .if1 .left))
     -- returns-3
     (λ c. λ F s. passed-all (c .before .loop .inv F s) (c .loop-test .left))

@@ -7,8 +7,8 @@ use borrow.Author.Count.{below-more}
 use borrow.Author.Needs.{needs}
 use borrow.Author.Tests.{not-true, not-false}
 use Rattle.utf8.proofs.Decided.{yes, no, fails}
-use Rattle.node.specs.declared.record.Record.{Record}
-use Rattle.table.specs.Formed.{isPacket, NodeOk}
+use Rattle.node.specs.Rules.{isPacket}
+use Rattle.table.specs.Formed.{NodeOk}
 use Rattle.table.proofs.is_well_formed.Statement.{statement}
 use Rattle.table.proofs.is_well_formed.Tie as tie
 
@@ -29,13 +29,11 @@ returns-3 c = no (λ w. omega (arith, w .fits))
 
 returns-4 : tie.Need-returns-4 Inv-loop μ-loop
 returns-4 c =
-    let e = ap (λ (r : Record). isPacket (r .kind)) (c .before .before .read-record .ensures) in
+    let e = ap isPacket (c .before .before .kind-at .ensures) in
     no (λ w. true≢false (sym (w .root) ∙ sym e ∙ sym (c .before .is-packet .ensures) ∙ not-true _ (c .if4 .taken)))
 
 returns-5 : tie.Need-returns-5 Inv-loop μ-loop
-returns-5 c =
-    let p4 = c .before .before .before .before in
-    no (λ w. c .if5 .taken (ap (λ (r : Record). r .end) (p4 .read-record .ensures) ∙ w .whole))
+returns-5 c = no (λ w. c .if5 .taken (c .before .field-at .ensures ∙ w .whole))
 
 loop-holds : tie.Need-loop-holds Inv-loop μ-loop
 loop-holds c = (search needs, λ j h. absurd (omega arith))
@@ -52,17 +50,15 @@ loop-again c = (
 
 returns-7 : tie.Need-returns-7 Inv-loop μ-loop
 returns-7 c =
-    let p2 = c .before .before in
-    let p4 = p2 .before .before in
-    let p = p4 in
-    let e = p .before .before .read-record .ensures in
-    let k = p .before .before .before in
+    let f = c .before .before .before in
+    let p = f .before .before in
+    let k = p .before .before in
     yes (record {
       some = k .before .before .before .if1 .left;
       few = k .before .before .if2 .left;
-      fits = omega (arith, k .if3 .left, k .before .capacity .ensures);
-      root = sym (ap (λ (r : Record). isPacket (r .kind)) e) ∙ sym (p .before .is-packet .ensures) ∙ not-false _ (p .if4 .left);
-      whole = sym (ap (λ (r : Record). r .end) e) ∙ p2 .if5 .left;
+      fits = omega (arith, k .if3 .left, k .before .capacity-of .ensures);
+      root = sym (ap isPacket (p .before .kind-at .ensures)) ∙ sym (p .is-packet .ensures) ∙ not-false _ (f .before .if4 .left);
+      whole = sym (f .field-at .ensures) ∙ c .before .before .if5 .left;
       nodes = λ i h. c .before .loop .inv .1 i (omega arith);
     })
 
@@ -79,6 +75,7 @@ is-well-formed-spec =
     (λ c κs. search needs)
     (λ c κs. search needs)
     returns-4
+    (λ c κs. search needs)
     (λ c. search needs)
     returns-5
     loop-holds

@@ -5,6 +5,7 @@ use mathlib.Core.List.{[], _∷_}
 use Prim.Native.Nat.{ℕ}
 use borrow.Author.Needs.{needs}
 use borrow.Author.Tests.{ne-eqb}
+use Rattle.node.specs.Tags.{messageKind, arrayKind}
 use Rattle.node.proofs.Keys.{by-keys, not-among}
 use Rattle.table.specs.Formed.{allowed}
 use Rattle.table.proofs.may_contain.Statement.{statement}
@@ -18,12 +19,12 @@ returns-2 : tie.Need-returns-2
 unfolding allowed
 returns-2 c =
     let e = ap not (c .is-packet2 .ensures) in
-    by-keys (λ (k : ℕ). allowed k (c .before .before .args .kind)) (not (c .is-packet2 .result)) (47 ∷ 91 ∷ []) (e, (e, tt)) _
+    by-keys (λ (k : ℕ). allowed k (c .before .before .args .kind)) (not (c .is-packet2 .result)) (messageKind ∷ arrayKind ∷ []) (e, (e, tt)) _
     (c .before .match .keys2)
 
 returns-3 : tie.Need-returns-3
 unfolding allowed
-returns-3 c = rw (ne-eqb _ _ (c .match .rest .0 .1), not-among (47 ∷ 91 ∷ []) _ (c .match .rest .1))
+returns-3 c = rw (ne-eqb _ _ (c .match .rest .0 .1), not-among (messageKind ∷ arrayKind ∷ []) _ (c .match .rest .1))
 
 pub may-contain-spec : {M : Type 1} → statement M
 may-contain-spec =

@@ -15,36 +15,23 @@ Inv-loop table container lo hi at₀ at = Walked table container lo hi at
 abbrev μ-loop : tie.MeasureT-loop
 μ-loop table container lo hi at₀ at = hi - at
 
-loop-holds : tie.Need-loop-holds Inv-loop μ-loop
-loop-holds c = walk
-
 returns : tie.Need-returns Inv-loop μ-loop
 returns c =
-    let p2 = c .before .before in
-    let p3 = p2 .before in
-    let p4 = p3 .before in
-    let l = p4 in
-    not-allowed (l .loop .inv) (p2 .read-record .ensures) (p3 .loop-test .taken)
+    let k = c .before .before in
+    not-allowed (k .before .before .loop .inv) (k .kind-at .ensures) (k .before .loop-test .taken)
     (sym (c .before .may-contain .ensures) ∙ not-true _ (c .if1 .taken))
 
 returns-2 : tie.Need-returns-2 Inv-loop μ-loop
 returns-2 c =
-    let p4 = c .before .before .before .before in
-    let p5 = p4 .before in
-    let p6 = p5 .before in
-    let l = p6 in
-    ends-early (l .loop .inv) (p4 .read-record .ensures) (p5 .loop-test .taken) (omega arith)
+    let k = c .before .before .before .before in
+    ends-early (k .before .before .loop .inv) (k .kind-at .ensures) (k .before .loop-test .taken) (c .before .field-at .ensures) (c .if2 .taken)
 
 loop-again : tie.Need-loop-again Inv-loop μ-loop
 loop-again c =
-    let p2 = c .before .before in
-    let p3 = p2 .before in
-    let p4 = p3 .before in
-    let p5 = p4 .before in
-    let p6 = p5 .before in
-    let l = p6 in
-    walked-on (l .loop .inv) (p4 .read-record .ensures) (p5 .loop-test .taken)
-    (sym (p3 .may-contain .ensures) ∙ not-false _ (p2 .if1 .left)) (c .if2 .left)
+    let b = c .before .before in
+    let k = b .before .before in
+    walked-on (k .before .before .loop .inv) (k .kind-at .ensures) (k .before .loop-test .taken) (c .before .field-at .ensures)
+    (sym (b .before .may-contain .ensures) ∙ not-false _ (b .if1 .left)) (omega (arith, c .if2 .left))
 
 returns-3 : tie.Need-returns-3 Inv-loop μ-loop
 returns-3 c = walked-end (c .before .loop .inv) (c .loop-test .left)
@@ -55,10 +42,11 @@ tiles-spec =
     (tie.spec
     Inv-loop
     μ-loop
-    loop-holds
+    (λ c. walk)
     (λ c κs. search needs)
     (λ c κs. search needs)
     returns
+    (λ c κs. search needs)
     (λ c. search needs)
     returns-2
     (λ c. search needs)

@@ -1,19 +1,18 @@
--- `encoder::write::encode_arg_data` meets its contract: of the row, what is written and what is left. The number of records falls.
+-- `writers::encode_arg_data` meets its contract: of the row, what is written and what is left. The number of records falls.
 use Prim.Native.Nat.{_-_, ℕ, _<_}
 use native.Mathlib.Omega.{arith}
 use borrow.Author.Needs.{needs}
 use Rattle.wire.proofs.Writers.{filled-length}
-use Rattle.writers.specs.Osc.{dataOf}
-use Rattle.writers.specs.Writers.{Sound}
+use Rattle.writers.specs.Osc.{writeData}
+use Rattle.writers.specs.CodeWriters.{Sound}
 use Rattle.writers.proofs.Classed.{data-none}
 use Rattle.writers.proofs.Rows.{Going, begun-empty, ended, ends, room-left}
 use Rattle.writers.proofs.Arguments.{data-inside, array-after, array-gone, closes-gone, leaf-asked, leaf-after, leaf-gone}
 use Rattle.strings.proofs.encode_leaf_data.Reads as encode-leaf-data-reads
 use Rattle.node.proofs.tags.sort_of.Reads as sort-of-reads
-use Rattle.node.proofs.record.end_at.Reads as end-at-reads
+use Rattle.node.proofs.record.field_at.Reads as field-at-reads
 use Rattle.node.proofs.record.kind_at.Reads as kind-at-reads
-use Rattle.node.proofs.record.a_at.Reads as a-at-reads
-use Rattle.node.proofs.record.b_at.Reads as b-at-reads
+use Rattle.node.proofs.record.item_at.Reads as item-at-reads
 use borrow.Fn.Kinds.{In}
 use borrow.Fn.PlainCycle.{Measures, is, falls, and}
 use Rattle.writers.proofs.encode_arg_data.Reads as encode-arg-data
@@ -43,25 +42,23 @@ encode-arg-data-below t =
 
 abbrev encode-arg-data-Inv-loop : encode-arg-data-lts.InvT-loop
 encode-arg-data-Inv-loop table lo hi source out₀ at₀ written₀ out at written =
-    Going (Sound source) (dataOf source) (dataOf source) table lo hi out₀ out at written
+    Going (Sound source) (writeData source) (writeData source) table lo hi out₀ out at written
 
 abbrev encode-arg-data-μ-loop : encode-arg-data-lts.MeasureT-loop
 encode-arg-data-μ-loop table lo hi source out₀ at₀ written₀ out at written = hi - at
 
 pub +encode-arg-data-spec : {M : Type 1} → statement M
 +encode-arg-data-spec = close μ-encode-arg-data λ t. encode-arg-data-lts.spec (
-  end-at-reads.Asked,
-  end-at-reads.Learnt,
+  field-at-reads.Asked,
+  field-at-reads.Learnt,
   kind-at-reads.Asked,
   kind-at-reads.Learnt,
   sort-of-reads.Asked,
   sort-of-reads.Learnt,
   encode-arg-data-below t,
   encode-arg-data.Post,
-  a-at-reads.Asked,
-  a-at-reads.Learnt,
-  b-at-reads.Asked,
-  b-at-reads.Learnt,
+  item-at-reads.Asked,
+  item-at-reads.Learnt,
   encode-leaf-data-reads.Asked,
   encode-leaf-data-reads.Learnt,
 )
@@ -70,13 +67,13 @@ pub +encode-arg-data-spec : {M : Type 1} → statement M
     encode-arg-data-Inv-loop
     encode-arg-data-μ-loop
     (λ c. begun-empty (c .before .before .before .pre .1))
-    (λ c κs. omega (arith, c .before .loop .inv .table))
+    (λ c κs. (omega (arith, c .before .loop .inv .table), omega arith))
     (λ c. omega arith)
     (λ c κs. omega (arith, c .before .before .loop .inv .table))
     (λ c κs. search needs)
     (λ c. search needs)
     (λ c. let p4 = c .before .before .before .before in let p5 = p4 .before in let p6 = p5 .before in
-    omega (arith, ends (p6 .loop .inv) (p5 .loop-test .taken) (p4 .end-at .ensures)))
+    omega (arith, ends (p6 .loop .inv) (p5 .loop-test .taken) (p4 .field-at .ensures)))
     (λ c. let p6 = c .before .before .before .before .before .before in
     omega (arith, room-left (p6 .loop .inv), filled-length (p6 .loop .inv .filled)))
     (λ c. let p6 = c .before .before .before .before .before .before in
@@ -84,54 +81,53 @@ pub +encode-arg-data-spec : {M : Type 1} → statement M
     (λ c. omega arith)
     (λ c κs. let p3 = c .before .before .before in let p4 = p3 .before in let p5 = p4 .before in let p6 = p5 .before in
     let p7 = p6 .before in let p11 = p7 .before .before .before .before in (
-      omega (arith, ends (p7 .loop .inv) (p6 .loop-test .taken) (p5 .end-at .ensures), p7 .loop .inv .passed, p11 .pre .0),
+      omega (arith, ends (p7 .loop .inv) (p6 .loop-test .taken) (p5 .field-at .ensures), p7 .loop .inv .passed, p11 .pre .0),
       data-inside
-          (p7 .loop .inv) (p6 .loop-test .taken) (p5 .end-at .ensures) (p4 .kind-at .ensures) (p3 .sort-of .ensures)
+          (p7 .loop .inv) (p6 .loop-test .taken) (p5 .field-at .ensures) (p4 .kind-at .ensures) (p3 .sort-of .ensures)
           (c .before .enum-told .given .1),
     ))
     (λ c. let p2 = c .before .before in let p4 = p2 .before .before in let p6 = p4 .before .before in let p7 = p6 .before in
     let p8 = p7 .before in let p9 = p8 .before in let p10 = p9 .before in
     omega (
       arith,
-      array-after (p10 .loop .inv) (p9 .loop-test .taken) (p8 .end-at .ensures) (p7 .kind-at .ensures) (p6 .sort-of .ensures)
+      array-after (p10 .loop .inv) (p9 .loop-test .taken) (p8 .field-at .ensures) (p7 .kind-at .ensures) (p6 .sort-of .ensures)
           (p4 .enum-told .given .1) (p2 .encode-arg-data .ensures),
     ))
     (λ c. search needs)
     (λ c. search needs)
     (λ c κs. let p7 = c .before .before .before .before .before .before .before in omega (arith, p7 .loop .inv .table))
-    (λ c κs. let p8 = c .before .before .before .before .before .before .before .before in omega (arith, p8 .loop .inv .table))
-    (λ c. let p9 = c .before .before .before .before .before .before .before .before .before in
-    omega (arith, room-left (p9 .loop .inv), filled-length (p9 .loop .inv .filled)))
-    (λ c. let p9 = c .before .before .before .before .before .before .before .before .before in
-    omega (arith, room-left (p9 .loop .inv), filled-length (p9 .loop .inv .filled)))
+    (λ c. let p8 = c .before .before .before .before .before .before .before .before in
+    omega (arith, room-left (p8 .loop .inv), filled-length (p8 .loop .inv .filled)))
+    (λ c. let p8 = c .before .before .before .before .before .before .before .before in
+    omega (arith, room-left (p8 .loop .inv), filled-length (p8 .loop .inv .filled)))
     (λ c. omega arith)
-    (λ c κs. let p2 = c .before .before in let p4 = p2 .before .before in let p6 = p4 .before .before in let p7 = p6 .before in
-    let p8 = p7 .before in let p9 = p8 .before in let p10 = p9 .before in
-    leaf-asked (p10 .loop .inv) (p9 .loop-test .taken) (p8 .end-at .ensures) (p7 .kind-at .ensures) (p6 .sort-of .ensures)
-    (p4 .class .given .1) (p2 .a-at .ensures) (c .before .b-at .ensures))
-    (λ c. let p2 = c .before .before in let p4 = p2 .before .before in let p5 = p4 .before in let p7 = p5 .before .before in
-    let p9 = p7 .before .before in let p10 = p9 .before in let p11 = p10 .before in let p12 = p11 .before in let p13 = p12 .before in
+    (λ c κs. let p3 = c .before .before .before in let p5 = p3 .before .before in let p6 = p5 .before in let p7 = p6 .before in
+    let p8 = p7 .before in let p9 = p8 .before in
+    leaf-asked (p9 .loop .inv) (p8 .loop-test .taken) (p7 .field-at .ensures) (p6 .kind-at .ensures) (p5 .sort-of .ensures)
+    (p3 .class .given .1) (c .before .item-at .ensures))
+    (λ c. let p2 = c .before .before in let p4 = p2 .before .before in let p6 = p4 .before .before in let p8 = p6 .before .before in
+    let p9 = p8 .before in let p10 = p9 .before in let p11 = p10 .before in let p12 = p11 .before in
     omega (
       arith,
-      leaf-after (p13 .loop .inv) (p12 .loop-test .taken) (p11 .end-at .ensures) (p10 .kind-at .ensures)
-          (p9 .sort-of .ensures) (p7 .class .given .1) (p5 .a-at .ensures) (p4 .b-at .ensures) (p2 .encode-leaf-data .ensures),
+      leaf-after (p12 .loop .inv) (p11 .loop-test .taken) (p10 .field-at .ensures) (p9 .kind-at .ensures)
+          (p8 .sort-of .ensures) (p6 .class .given .1) (p4 .item-at .ensures) (p2 .encode-leaf-data .ensures),
     ))
     (λ c. let p8 = c .before .before .before .before .before .before .before .before in let p9 = p8 .before in let p10 = p9 .before in
-    omega (arith, ends (p10 .loop .inv) (p9 .loop-test .taken) (p8 .end-at .ensures)))
+    omega (arith, ends (p10 .loop .inv) (p9 .loop-test .taken) (p8 .field-at .ensures)))
     (λ c. let p2 = c .before .before in let p4 = p2 .before .before in let p6 = p4 .before .before in let p7 = p6 .before in
     let p8 = p7 .before in let p9 = p8 .before in let p10 = p9 .before in
-    array-gone (p10 .loop .inv) (p9 .loop-test .taken) (p8 .end-at .ensures) (p7 .kind-at .ensures) (p6 .sort-of .ensures)
+    array-gone (p10 .loop .inv) (p9 .loop-test .taken) (p8 .field-at .ensures) (p7 .kind-at .ensures) (p6 .sort-of .ensures)
     (p4 .enum-told .given .1) (p2 .encode-arg-data .ensures))
     (λ c. let p4 = c .before .before .before .before in let p5 = p4 .before in let p6 = p5 .before in
-    omega (arith, ends (p6 .loop .inv) (p5 .loop-test .taken) (p4 .end-at .ensures)))
+    omega (arith, ends (p6 .loop .inv) (p5 .loop-test .taken) (p4 .field-at .ensures)))
     (λ c. let p2 = c .before .before in let p3 = p2 .before in let p4 = p3 .before in let p5 = p4 .before in let p6 = p5 .before in
-    closes-gone (p6 .loop .inv) (p5 .loop-test .taken) (p4 .end-at .ensures) (p3 .kind-at .ensures) (p2 .sort-of .ensures)
+    closes-gone (p6 .loop .inv) (p5 .loop-test .taken) (p4 .field-at .ensures) (p3 .kind-at .ensures) (p2 .sort-of .ensures)
     (c .enum-told2 .given .1))
-    (λ c. let p11 = c .before .before .before .before .before .before .before .before .before .before .before in let p12 = p11 .before in
-    let p13 = p12 .before in omega (arith, ends (p13 .loop .inv) (p12 .loop-test .taken) (p11 .end-at .ensures)))
-    (λ c. let p2 = c .before .before in let p4 = p2 .before .before in let p5 = p4 .before in let p7 = p5 .before .before in
-    let p9 = p7 .before .before in let p10 = p9 .before in let p11 = p10 .before in let p12 = p11 .before in let p13 = p12 .before in
-    leaf-gone (p13 .loop .inv) (p12 .loop-test .taken) (p11 .end-at .ensures) (p10 .kind-at .ensures) (p9 .sort-of .ensures)
-    (p7 .class .given .1) (p5 .a-at .ensures) (p4 .b-at .ensures) (p2 .encode-leaf-data .ensures))
+    (λ c. let p10 = c .before .before .before .before .before .before .before .before .before .before in let p11 = p10 .before in
+    let p12 = p11 .before in omega (arith, ends (p12 .loop .inv) (p11 .loop-test .taken) (p10 .field-at .ensures)))
+    (λ c. let p2 = c .before .before in let p4 = p2 .before .before in let p6 = p4 .before .before in let p8 = p6 .before .before in
+    let p9 = p8 .before in let p10 = p9 .before in let p11 = p10 .before in let p12 = p11 .before in
+    leaf-gone (p12 .loop .inv) (p11 .loop-test .taken) (p10 .field-at .ensures) (p9 .kind-at .ensures) (p8 .sort-of .ensures)
+    (p6 .class .given .1) (p4 .item-at .ensures) (p2 .encode-leaf-data .ensures))
     (λ c. filled-length (c .before .loop .inv .filled))
     (λ c. ended (c .before .loop .inv) (data-none _) (c .loop-test .left))

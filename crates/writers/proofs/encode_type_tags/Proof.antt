@@ -1,4 +1,4 @@
--- `encoder::write::encode_type_tags` meets its contract.
+-- `writers::encode_type_tags` meets its contract.
 use Prim.Native.Nat.{ℕ, _+_, _-_, _%_}
 use native.Mathlib.Omega.{arith}
 use lib.ListN.{length-set, length-replicate}

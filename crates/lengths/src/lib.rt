@@ -1,17 +1,22 @@
 // How long a packet will be: its length is known before a byte of it is written.
-use node::record::read_record;
+use node::record::B;
+use node::record::END;
+use node::record::field_at;
+use node::record::kind_at;
+use node::tags::BUNDLE;
 use node::tags::Class;
+use node::tags::MESSAGE;
 use node::tags::Sort;
 use node::tags::sort_of;
+use writers::BUNDLE_HEAD;
+use writers::LONGEST_ELEMENT;
 ghost use mathlib.Core.Path.{_≡_};
 ghost use Prim.Native.Nat.{ℕ, _+_, _*_, _^_, _≤_, _<_};
 ghost use lib.ListN.{length};
-ghost use Rattle.node.specs.Records.{recordSize, endAt};
-ghost use Rattle.strings.specs.Atomic.{stringLength, blobLength};
-ghost use Rattle.survey.specs.Measure.{argumentLength, dataLength, tagLength, sumTo, messageLength, elementLength, Measured};
-
-// The longest packet that is measured exactly, with the size before it.
-const MOST: usize = 65_539;
+ghost use Rattle.node.specs.Records.{recordSize, mostRecords, endAt};
+ghost use Rattle.strings.specs.CodeStrings.{stringLength, blobLength};
+ghost use Rattle.lengths.specs.CodeLengths.{InTable, argumentLength, dataLength, tagLength, sumTo, messageLength, elementLength};
+ghost use Rattle.lengths.specs.CodeLengths.{LengthOrOver};
 
 // The length of a text of n bytes with its NULs.
 pub fn string_length(n: usize) -> usize
@@ -68,50 +73,48 @@ fn tag_length(sort: Sort) -> usize
 
 // The length of the message at a record: each record that it contains is looked at once, at any depth of arrays.
 fn message_length(table: &[u8], at: usize) -> usize
-    requires { ⌜ (at < endAt (now table) at) × (endAt (now table) at ≤ 65535) × (recordSize * endAt (now table) at ≤ length (now table)) ⌝ }
+    requires { ⌜ InTable (now table) at ⌝ }
     ensures { λ r. ⌜ (r ≡ messageLength (now (table .entry)) at) × (r < 2 ^ 52) ⌝ }
 {
-    let record = read_record(table, at);
-    let end = record.end as usize;
+    let end = field_at(table, at, END) as usize;
     let mut tags: usize = 1;
     let mut content: usize = 0;
     let mut i = at + 1;
     while i < end {
-        let argument = read_record(table, i);
-        let sort = sort_of(argument.kind);
+        let sort = sort_of(kind_at(table, i));
         tags += tag_length(sort);
-        content += data_length(sort, argument.b);
+        content += data_length(sort, field_at(table, i, B));
         i += 1;
     }
-    string_length(record.b as usize) + string_length(tags) + content
+    string_length(field_at(table, at, B) as usize) + string_length(tags) + content
 }
 
 // What a record adds to the length of the packet as an element.
 fn element_length(table: &[u8], at: usize) -> usize
-    requires { ⌜ (at < endAt (now table) at) × (endAt (now table) at ≤ 65535) × (recordSize * endAt (now table) at ≤ length (now table)) ⌝ }
+    requires { ⌜ InTable (now table) at ⌝ }
     ensures { λ r. ⌜ (r ≡ elementLength (now (table .entry)) at) × (r < 2 ^ 53) ⌝ }
 {
-    let record = read_record(table, at);
-    if record.kind == b'/' {
+    let kind = kind_at(table, at);
+    if kind == MESSAGE {
         return 4 + message_length(table, at);
     }
-    if record.kind == b'#' {
-        return 20;
+    if kind == BUNDLE {
+        return 4 + BUNDLE_HEAD;
     }
     0
 }
 
 // The length of the packet as an element, its size with it. No sum wraps: nothing is added once it is over the limit.
-pub fn measure(table: &[u8], count: usize) -> usize
-    requires { ⌜ (count ≤ 65535) × (recordSize * count ≤ length (now table)) ⌝ }
+pub fn packet_length(table: &[u8], count: usize) -> usize
+    requires { ⌜ (count ≤ mostRecords) × (recordSize * count ≤ length (now table)) ⌝ }
     requires { ⌜ ((i : ℕ) → i < count → (i < endAt (now table) i) × (endAt (now table) i ≤ count)) ⌝ }
-    ensures { λ r. ⌜ Measured r (sumTo (elementLength (now (table .entry))) count) ⌝ }
+    ensures { λ r. ⌜ LengthOrOver r (sumTo (elementLength (now (table .entry))) count) ⌝ }
 {
     let mut total: usize = 0;
     let mut at: usize = 0;
     while at < count {
         total += element_length(table, at);
-        if MOST < total {
+        if LONGEST_ELEMENT < total {
             return total;
         }
         at += 1;

@@ -1,16 +1,24 @@
--- How long a packet will be, by the records of its table and without writing it.
+-- Describes code, and no part of the document: how long a packet will be, by the records of its table and without writing it.
 use mathlib.Core.Path.{_≡_}
 use mathlib.Core.Bool.{cond}
 use mathlib.Core.List.{List}
-use Prim.Native.Nat.{ℕ, zero, suc, _+_, _-_, _≤_, _<_}
+use Prim.Native.Nat.{ℕ, zero, suc, _+_, _-_, _*_, _≤_, _<_}
 use lib.Dec.{eqb}
-use Rattle.node.specs.Tags.{sortOf}
-use Rattle.node.specs.Records.{kindAt, endAt, bAt}
+use lib.ListN.{length}
+use Rattle.node.specs.Tags.{sortOf, messageKind, bundleKind}
+use Rattle.node.specs.Records.{kindAt, endAt, bAt, recordSize, mostRecords}
 use Rattle.node.specs.declared.tags.Class.{Class}
 use Rattle.node.specs.declared.tags.Class.the-variants.{Four, Eight, Bare, Text, Blob, Scalar, Unknown}
 use Rattle.node.specs.declared.tags.Sort.{Sort}
 use Rattle.node.specs.declared.tags.Sort.the-variants.{Opens, Closes, Leaf}
-use Rattle.strings.specs.Atomic.{stringLength, blobLength}
+use Rattle.writers.specs.CodeWriters.{bundleHead, longestElement}
+use Rattle.strings.specs.CodeStrings.{stringLength, blobLength}
+
+-- record `at` ends after itself, and it and what it contains are records of a table that may be encoded
+pub record InTable (t : List ℕ) (at : ℕ) : Type 0 where
+  pub on : at < endAt t at
+  pub low : endAt t at ≤ mostRecords
+  pub table : recordSize * endAt t at ≤ length t
 
 -- how many bytes the data of an argument takes whose second number is b
 abbrev pub argumentLength : Class → ℕ → ℕ
@@ -54,9 +62,10 @@ messageLength t at =
 
 -- what record `at` adds to a packet that stands as an element, after its size: a message itself, a bundle its mark and its time tag
 unfoldable pub elementLength : List ℕ → ℕ → ℕ
-elementLength t at = cond (eqb (kindAt t at) 47) (4 + messageLength t at) (cond (eqb (kindAt t at) 35) 20 0)
+elementLength t at =
+    cond (eqb (kindAt t at) messageKind) (4 + messageLength t at) (cond (eqb (kindAt t at) bundleKind) (4 + bundleHead) 0)
 
--- r is the length; where one is over 65,539, which is 65,535 and a size, so is the other
-pub record Measured (r total : ℕ) : Type 0 where
-  pub exact : r ≤ 65539 → r ≡ total
-  pub over : 65539 < r → 65539 < total
+-- r is the length of a packet as an element; where one is over the most that such a length may be, so is the other
+pub record LengthOrOver (r total : ℕ) : Type 0 where
+  pub exact : r ≤ longestElement → r ≡ total
+  pub over : longestElement < r → longestElement < total

@@ -1,7 +1,7 @@
--- `encoder::measure::data_length` meets its contract.
+-- `lengths::data_length` meets its contract.
 use borrow.Author.Needs.{needs}
-use Rattle.survey.proofs.length.data_length.Statement.{statement}
-use Rattle.survey.proofs.length.data_length.Tie as tie
+use Rattle.lengths.proofs.data_length.Statement.{statement}
+use Rattle.lengths.proofs.data_length.Tie as tie
 
 returns-3 : tie.Need-returns-3
 returns-3 c = rw (c .before .before .sort .given .1) (c .argument-length .ensures)
