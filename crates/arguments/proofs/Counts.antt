@@ -23,7 +23,7 @@ use Rattle.arguments.specs.declared.Measured.the-variants as measure
 use Rattle.scan.specs.declared.Scanned.{Scanned}
 use Rattle.scan.specs.declared.Scanned.the-variants.{Used, Refused}
 use Rattle.scan.specs.declared.Back.{Back}
-use Rattle.scan.specs.declared.Back.the-variants.{Whole, Cut}
+use Rattle.scan.specs.declared.Back.the-variants.{Uncut, Cut}
 use Rattle.argument.proofs.Within.{given-within}
 use Rattle.scan.proofs.Passed.{any-base}
 
@@ -65,7 +65,7 @@ scan-law base (t ∷ ts) l p frame below = outcome-act (sortOf t) _ _ base t l p
 
 -- ---- the backward scan
 
--- so many records the first n frames give, with the array's own each
+-- so many records the first n frames give, with the array's own each; the second line is never met, by `deep-law`
 abbrev waiting : ℕ → List Open → ℕ
 waiting zero b = 0
 waiting (suc n) [] = 0
@@ -74,7 +74,7 @@ waiting (suc n) (waits f item ∷ b) = 1 + size f + waiting n b
 -- so many records are kept, where k is what later tags give, f the frame and b what waits below it
 abbrev total : Back → Forest → List Open → ℕ
 total (Cut n c) f b = c
-total (Whole n c) f b = c + size f + waiting n b
+total (Uncut n c) f b = c + size f + waiting n b
 
 -- n records are kept, unless the arguments are refused
 abbrev pub Counts : ℕ → Args → Type 0
@@ -88,19 +88,19 @@ counts-later n used (args kept used′) w = w
 total-opens : (k : Back) (f : Forest) (item : Item) (b : List Open) → total k nil (waits f item ∷ b) ≡ total (tagBefore Opens k) f b
 unfolding size
 total-opens (Cut n c) f item b = refl
-total-opens (Whole zero c) f item b = omega arith
-total-opens (Whole (suc n) c) f item b = omega arith
+total-opens (Uncut zero c) f item b = omega arith
+total-opens (Uncut (suc n) c) f item b = omega arith
 
 total-closes : (k : Back) (f g : Forest) (item : Item) (b : List Open)
     → total k (snoc g item f) b ≡ total (tagBefore Closes k) f (waits g item ∷ b)
 total-closes (Cut n c) f g item b = refl
-total-closes (Whole n c) f g item b = omega (arith, size-snoc g item f)
+total-closes (Uncut n c) f g item b = omega (arith, size-snoc g item f)
 
 total-leaf : (class : Class) (k : Back) (f : Forest) (b : List Open) (item : Item)
     → total k (snoc f item nil) b ≡ total (tagBefore (Leaf class) k) f b
 unfolding size
 total-leaf class (Cut n c) f b item = refl
-total-leaf class (Whole n c) f b item = omega (arith, size-snoc f item nil)
+total-leaf class (Uncut n c) f b item = omega (arith, size-snoc f item nil)
 
 counts-act : (s : Sort) (k : Back) (go : List ℕ → ℕ → Forest → List Open → Args) (base tag : ℕ) (l : List ℕ) (p : ℕ) (frame : Forest)
     (below : List Open)
@@ -126,14 +126,14 @@ counts-law base (t ∷ ts) l p frame below = counts-act (sortOf t) (back ts) _ b
 
 -- how many records are kept, if nothing is read yet
 abbrev pub counted : Back → ℕ
-counted (Whole n c) = c
+counted (Uncut n c) = c
 counted (Cut n c) = c
 
 total-none : (k : Back) → total k nil [] ≡ counted k
 unfolding size
 total-none (Cut n c) = refl
-total-none (Whole zero c) = omega arith
-total-none (Whole (suc n) c) = omega arith
+total-none (Uncut zero c) = omega arith
+total-none (Uncut (suc n) c) = omega arith
 
 -- the backward scan counts the records that are kept
 pub args-counted : (base : ℕ) (ts l : List ℕ) (p : ℕ) → Counts (counted (back ts)) (readArgs base ts l p)
@@ -171,12 +171,12 @@ counted-le (t ∷ ts) = by-sort (sortOf t) (back ts) (counted-le ts)
   where
     by-sort : (s : Sort) (k : Back) → counted k ≤ length ts → counted (tagBefore s k) ≤ suc (length ts)
     by-sort Opens (Cut n c) h = omega arith
-    by-sort Opens (Whole zero c) h = omega arith
-    by-sort Opens (Whole (suc n) c) h = omega arith
+    by-sort Opens (Uncut zero c) h = omega arith
+    by-sort Opens (Uncut (suc n) c) h = omega arith
     by-sort Closes (Cut n c) h = omega arith
-    by-sort Closes (Whole n c) h = omega arith
+    by-sort Closes (Uncut n c) h = omega arith
     by-sort (Leaf class) (Cut n c) h = omega arith
-    by-sort (Leaf class) (Whole n c) h = omega arith
+    by-sort (Leaf class) (Uncut n c) h = omega arith
 
 -- no more records are kept than there are tags
 pub kept-few : (base : ℕ) (ts l : List ℕ) (p : ℕ) → size (keptOf (readArgs base ts l p)) ≤ length ts

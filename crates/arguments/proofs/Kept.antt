@@ -21,12 +21,12 @@ use Rattle.argument.specs.declared.Arg.the-variants as arg
 use Rattle.scan.specs.declared.Scanned.{Scanned}
 use Rattle.scan.specs.declared.Scanned.the-variants.{Used, Refused}
 use Rattle.scan.specs.declared.Back.{Back}
-use Rattle.scan.specs.declared.Back.the-variants.{Whole, Cut}
+use Rattle.scan.specs.declared.Back.the-variants.{Uncut, Cut}
 use Rattle.argument.proofs.Within.{given-within}
 use Rattle.scan.proofs.Passed.{any-base}
 
--- tags that close what they open are not cut
-pub clash : {m d n c : ℕ} → Whole m d ≡ Cut n c → ⊥
+-- tags are not both cut and uncut
+pub clash : {m d n c : ℕ} → Uncut m d ≡ Cut n c → ⊥
 clash e = let z : _≡_ {A = ℕ} 0 1 = cc in omega arith
 
 -- 0 bytes later is the same
@@ -51,7 +51,7 @@ accepted-later n (args kept used) w = tt
 
 -- no more than m arrays are closed that were open before
 abbrev pub Deep : Back → ℕ → Type 0
-Deep (Whole n c) m = n ≤ m
+Deep (Uncut n c) m = n ≤ m
 Deep (Cut n c) m = Unit {0}
 
 deep-act : (s : Sort) (k : Back) (go : List ℕ → ℕ → Forest → List Open → Args) (base tag : ℕ) (l : List ℕ) (p : ℕ) (frame : Forest)
@@ -59,13 +59,13 @@ deep-act : (s : Sort) (k : Back) (go : List ℕ → ℕ → Forest → List Open
     → ((m : List ℕ) (q : ℕ) (f : Forest) (b : List Open) → ArgsAccepted (go m q f b) → Deep k (length b))
     → ArgsAccepted (act s go base tag l p frame below) → Deep (tagBefore s k) (length below)
 deep-act Opens (Cut n c) go base tag l p frame below h w = tt
-deep-act Opens (Whole zero c) go base tag l p frame below h w = tt
-deep-act Opens (Whole (suc n) c) go base tag l p frame below h w = omega (arith, h l p nil (waits frame arrayItem ∷ below) w)
+deep-act Opens (Uncut zero c) go base tag l p frame below h w = tt
+deep-act Opens (Uncut (suc n) c) go base tag l p frame below h w = omega (arith, h l p nil (waits frame arrayItem ∷ below) w)
 deep-act Closes k go base tag l p frame [] h w = absurd w
 deep-act Closes (Cut n c) go base tag l p frame (waits f item ∷ b) h w = tt
-deep-act Closes (Whole n c) go base tag l p frame (waits f item ∷ b) h w = omega (arith, h l p (snoc f item frame) b w)
+deep-act Closes (Uncut n c) go base tag l p frame (waits f item ∷ b) h w = omega (arith, h l p (snoc f item frame) b w)
 deep-act (Leaf class) (Cut n c) go base tag l p frame below h w = tt
-deep-act (Leaf class) (Whole n c) go base tag l p frame below h w = by-arg (readArg tag class base l p) w
+deep-act (Leaf class) (Uncut n c) go base tag l p frame below h w = by-arg (readArg tag class base l p) w
   where
     by-arg : (x : Arg) → ArgsAccepted (argTaken (λ m q f. go m q f below) l p frame x) → n ≤ length below
     by-arg (arg.Refused fault) w = absurd w
@@ -84,7 +84,7 @@ deep-law base (t ∷ ts) l p frame below w =
 -- ---- frames below those that are closed change nothing
 
 abbrev Closed : Back → ℕ → Type 0
-Closed (Whole n c) m = n ≤ m
+Closed (Uncut n c) m = n ≤ m
 Closed (Cut n c) m = ⊥
 
 under-act : (s : Sort) (k : Back) (go : List ℕ → ℕ → Forest → List Open → Args) (base tag : ℕ) (l : List ℕ) (p : ℕ) (frame : Forest)
@@ -93,13 +93,13 @@ under-act : (s : Sort) (k : Back) (go : List ℕ → ℕ → Forest → List Ope
     → Closed (tagBefore s k) (length A)
     → act s go base tag l p frame (A ++ B) ≡ act s go base tag l p frame A
 under-act Opens (Cut n c) go base tag l p frame A B h w = absurd w
-under-act Opens (Whole zero c) go base tag l p frame A B h w = absurd w
-under-act Opens (Whole (suc n) c) go base tag l p frame A B h w = h l p nil (waits frame arrayItem ∷ A) (omega arith)
+under-act Opens (Uncut zero c) go base tag l p frame A B h w = absurd w
+under-act Opens (Uncut (suc n) c) go base tag l p frame A B h w = h l p nil (waits frame arrayItem ∷ A) (omega arith)
 under-act Closes (Cut n c) go base tag l p frame A B h w = absurd w
-under-act Closes (Whole n c) go base tag l p frame [] B h w = absurd (omega arith)
-under-act Closes (Whole n c) go base tag l p frame (waits f item ∷ A) B h w = h l p (snoc f item frame) A (omega arith)
+under-act Closes (Uncut n c) go base tag l p frame [] B h w = absurd (omega arith)
+under-act Closes (Uncut n c) go base tag l p frame (waits f item ∷ A) B h w = h l p (snoc f item frame) A (omega arith)
 under-act (Leaf class) (Cut n c) go base tag l p frame A B h w = absurd w
-under-act (Leaf class) (Whole n c) go base tag l p frame A B h w = by-arg (readArg tag class base l p)
+under-act (Leaf class) (Uncut n c) go base tag l p frame A B h w = by-arg (readArg tag class base l p)
   where
     by-arg : (x : Arg) → argTaken (λ m q f. go m q f (A ++ B)) l p frame x ≡ argTaken (λ m q f. go m q f A) l p frame x
     by-arg (arg.Refused fault) = refl
@@ -150,7 +150,7 @@ cut-act : (s : Sort) (k : Back) (base tag : ℕ) (ts l : List ℕ) (p : ℕ) (fr
 unfolding scan
 cut-act Opens (Cut m d) base tag ts l p frame below n c h e x w =
     h l p nil (waits frame arrayItem ∷ below) n c (let z : m ≡ n = cc in e ∙ cc) w
-cut-act Opens (Whole zero d) base tag ts l p frame below n c h e x w =
+cut-act Opens (Uncut zero d) base tag ts l p frame below n c h e x w =
     let z : n ≡ 0 = (let y : suc n ≡ 1 = cc in omega arith) in
     let q : p + 0 ≡ p = omega arith in
     let shut : Closed (back ts) 0 = subst (λ (k : Back). Closed k 0) (sym e) (omega arith) in
@@ -164,12 +164,12 @@ cut-act Opens (Whole zero d) base tag ts l p frame below n c h e x w =
       same = under-law base ts l p nil [] (waits frame arrayItem ∷ below) shut ∙ sym (later-none (readArgs base ts l p)) ∙ rw q;
       closed = shut;
     })
-cut-act Opens (Whole (suc m) d) base tag ts l p frame below n c h e x w = absurd (clash x)
-cut-act Closes (Whole m d) base tag ts l p frame below n c h e x w = absurd (clash x)
+cut-act Opens (Uncut (suc m) d) base tag ts l p frame below n c h e x w = absurd (clash x)
+cut-act Closes (Uncut m d) base tag ts l p frame below n c h e x w = absurd (clash x)
 cut-act Closes (Cut m d) base tag ts l p frame [] n c h e x w = absurd w
 cut-act Closes (Cut m d) base tag ts l p frame (waits f item ∷ b) n c h e x w =
     h l p (snoc f item frame) b n c (let z : m ≡ n = cc in e ∙ cc) w
-cut-act (Leaf class) (Whole m d) base tag ts l p frame below n c h e x w = absurd (clash x)
+cut-act (Leaf class) (Uncut m d) base tag ts l p frame below n c h e x w = absurd (clash x)
 cut-act (Leaf class) (Cut m d) base tag ts l p frame below n c h e x w =
     rw (any-base tag class 0 base l p) (by-arg (readArg tag class base l p) refl w)
   where
@@ -187,12 +187,12 @@ cut-act (Leaf class) (Cut m d) base tag ts l p frame below n c h e x w =
 -- how many tags a cut takes of those from some tag on
 first-le : (s : Sort) (k : Back) (n c : ℕ) → tagBefore s k ≡ Cut n c → (m : ℕ) → ((j d : ℕ) → k ≡ Cut j d → j ≤ m) → (1 ≤ n) × (n ≤ suc m)
 first-le Opens (Cut j d) n c e m h = let z : suc j ≡ n = cc in (omega arith, omega (arith, h j d refl))
-first-le Opens (Whole zero d) n c e m h = let z : 1 ≡ n = cc in (omega arith, omega arith)
-first-le Opens (Whole (suc j) d) n c e m h = absurd (clash e)
+first-le Opens (Uncut zero d) n c e m h = let z : 1 ≡ n = cc in (omega arith, omega arith)
+first-le Opens (Uncut (suc j) d) n c e m h = absurd (clash e)
 first-le Closes (Cut j d) n c e m h = let z : suc j ≡ n = cc in (omega arith, omega (arith, h j d refl))
-first-le Closes (Whole j d) n c e m h = absurd (clash e)
+first-le Closes (Uncut j d) n c e m h = absurd (clash e)
 first-le (Leaf class) (Cut j d) n c e m h = let z : suc j ≡ n = cc in (omega arith, omega (arith, h j d refl))
-first-le (Leaf class) (Whole j d) n c e m h = absurd (clash e)
+first-le (Leaf class) (Uncut j d) n c e m h = absurd (clash e)
 
 cut-few : (ts : List ℕ) (n c : ℕ) → back ts ≡ Cut n c → n ≤ length ts
 unfolding back
@@ -212,13 +212,13 @@ cut-law base (t ∷ ts) l p frame below (suc n) c e w = cut-act (sortOf t) (back
 pub cut-le : {n c : ℕ} (ts : List ℕ) → Cut n c ≡ back ts → n ≤ length ts
 cut-le {n} {c} ts e = cut-few ts n c (sym e)
 
--- tags that are whole close all that they open
-pub all-closed : {n c : ℕ} (k : Back) → Whole n c ≡ k → AllClosed k
-all-closed (Whole m d) e = tt
+-- tags that are not cut close all that they open
+pub all-closed : {n c : ℕ} (k : Back) → Uncut n c ≡ k → AllClosed k
+all-closed (Uncut m d) e = tt
 all-closed (Cut m d) e = absurd (clash e)
 
 closed-all : (k : Back) → Closed k 0 → AllClosed k
-closed-all (Whole n c) w = tt
+closed-all (Uncut n c) w = tt
 closed-all (Cut n c) w = w
 
 -- what is left of tags and data, as it is lent: the tags from n on, and the data after `used` bytes

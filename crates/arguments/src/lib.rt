@@ -22,14 +22,14 @@ pub enum Measured {
 
 // First reading of the arguments: nothing is written. Their offsets don't matter here, so it takes no `base`.
 //
-// Ruled out: the tags before an unclosed array counted too; a fault answered as another.
+// Ruled out: the bytes in place of the records; padding counted from the arguments, and not from the frame.
 pub fn measure_osc_args(tags: &[u8], input: &[u8], pos: usize) -> Measured
     requires { ⌜ pos + length (now input) ≤ longest ⌝ }
     ensures { λ r. ⌜ ((base : ℕ) → r ≡ measured (readArgs base (now (tags .entry)) (now (input .entry)) pos)) ⌝ }
 {
     match scan::scan_args(tags, input, pos) {
         Scanned::Used(used) => match scan::look_back(tags) {
-            Back::Whole { closed: _, count } => Measured::Kept { count, used },
+            Back::Uncut { closed: _, count } => Measured::Kept { count, used },
             Back::Cut { first: _, count } => Measured::Kept { count, used },
         },
         Scanned::Refused(fault) => Measured::Refused(fault),
@@ -55,7 +55,7 @@ pub fn read_osc_args(
         (now (table .entry)) (now (table .exit)) ⌝ }
 {
     match scan::look_back(tags) {
-        Back::Whole {
+        Back::Uncut {
             closed: _,
             count: _,
         } => records::fill_whole(tags, input, base, pos, table, index),

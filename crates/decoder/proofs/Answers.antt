@@ -1,7 +1,7 @@
 -- What the decoders answer, from what the first reading gave, and that an answer of packets leaves room for their records.
 use mathlib.Core.Path.{_≡_, refl, ap, sym, _∙_, subst}
 use mathlib.Core.List.{List}
-use Prim.Native.Nat.{ℕ, _+_, _/_, _<_, _≤_}
+use Prim.Native.Nat.{ℕ, _+_, _<_, _≤_}
 use native.Mathlib.Nat.{zero-add}
 use native.Mathlib.Omega.{arith}
 use borrow.Author.Tests.{le-leb, lt-leb}
@@ -9,16 +9,17 @@ use lib.Dec.{leb}
 use lib.ListN.{length}
 use Rattle.refusal.specs.declared.Refusal.{Refusal}
 use Rattle.refusal.specs.declared.Refusal.the-variants.{TooLong, DepthLimit}
+use Rattle.wire.specs.Limits.{longest, deepest}
 use Rattle.wire.proofs.Choices.{by-test, by-both}
 use Rattle.node.specs.Forest.{Forest, nil, node, size, depth, level}
 use Rattle.node.specs.declared.record.Item.{Item}
-use Rattle.node.specs.Records.{recordSize, stored}
+use Rattle.node.specs.Records.{capacity, stored, TableRoom}
 use Rattle.packet.specs.Packet.{Out, fault, one, readPacket}
 use Rattle.packet.proofs.Within.{Within, packet-in}
 use Rattle.measure.specs.CodeMeasure.{extent}
 use Rattle.measure.specs.declared.Extent.{Extent}
 use Rattle.measure.specs.declared.Extent.the-variants.{Tree}
-use Rattle.fill.specs.CodeFill.{treeOf, TableRoom, Known}
+use Rattle.fill.specs.CodeFill.{treeOf, Known}
 use Rattle.decoder.specs.Framing.{Whole, trees, waiting, refusal, single, udp, Frame, wait, read, readFrame, first, tcp, ruleOf}
 use Rattle.decoder.specs.Limits.{limited, decoded, forestOf, tabled}
 use Rattle.decoder.specs.CodeFrames.{frameExtent, framePacket, totalOf, EndsIn, totalOfOne, answered, Accepted, Fillable}
@@ -42,21 +43,21 @@ limited-is capacity limit (trees f left) = by-both (λ (x : Decoded) (y : Total)
 
 module _ (rule : List ℕ → Whole) (capacity limit : ℕ) (msg : List ℕ) where
   -- 13 comes first
-  pub depth-over : 64 < limit → Refused DepthLimit ≡ decoded rule capacity limit msg
+  pub depth-over : deepest < limit → Refused DepthLimit ≡ decoded rule capacity limit msg
   unfolding decoded
-  depth-over h = rw (decoded, lt-leb limit 64 h)
+  depth-over h = rw (decoded, lt-leb limit deepest h)
 
   -- then 1
-  pub length-over : limit ≤ 64 → 65535 < length msg → Refused TooLong ≡ decoded rule capacity limit msg
+  pub length-over : limit ≤ deepest → longest < length msg → Refused TooLong ≡ decoded rule capacity limit msg
   unfolding decoded
-  length-over h g = rw (decoded, le-leb limit 64 h, lt-leb (length msg) 65535 g)
+  length-over h g = rw (decoded, le-leb limit deepest h, lt-leb (length msg) longest g)
 
   -- then the first reading within the limits
-  pub decoded-is : {r : Total} {x : Decoded} → limit ≤ 64 → length msg ≤ 65535 → x ≡ answered capacity r
+  pub decoded-is : {r : Total} {x : Decoded} → limit ≤ deepest → length msg ≤ longest → x ≡ answered capacity r
       → r ≡ totalOf limit (rule msg) → x ≡ decoded rule capacity limit msg
   unfolding decoded
   decoded-is h g a e = a ∙ ap (answered capacity) e ∙ sym (limited-is capacity limit (rule msg))
-      ∙ rw (decoded, le-leb limit 64 h, le-leb (length msg) 65535 g)
+      ∙ rw (decoded, le-leb limit deepest h, le-leb (length msg) longest g)
 
 -- ---- the first reading of one packet, and of one frame
 
@@ -133,7 +134,7 @@ no-packets e = let z : _≡_ {A = ℕ} 0 1 = cc in absurd (omega arith)
 
 -- the input is short enough and accepted, and its records fit
 record Fitting (w : Whole) (capacity n count : ℕ) : Type 0 where
-  short : n ≤ 65535
+  short : n ≤ longest
   accepted : Accepted w
   records : size (forestOf w) ≡ count
   fits : count ≤ capacity
@@ -144,7 +145,7 @@ packets-fit {count} {left} rule capacity limit msg e =
     by-decoded (λ (x : Decoded). Packets count left ≡ x → Fitting (rule msg) capacity (length msg) count) rule capacity limit msg
     (λ _. no-packets) (λ _. no-packets) (λ _ h. by-whole h (rule msg)) e
   where
-    by-whole : length msg ≤ 65535 → (w : Whole) → Packets count left ≡ limited capacity limit w → Fitting w capacity (length msg) count
+    by-whole : length msg ≤ longest → (w : Whole) → Packets count left ≡ limited capacity limit w → Fitting w capacity (length msg) count
     by-whole h waiting i = let z : _≡_ {A = ℕ} 0 1 = cc in absurd (omega arith)
     by-whole h (refusal k) i = no-packets i
     by-whole h (trees f n) i =
@@ -154,10 +155,10 @@ packets-fit {count} {left} rule capacity limit msg e =
 
 -- where packets are answered, the second reading has what it needs
 pub fillable : {count left : ℕ} (framing : Framing) (limit : ℕ) (msg T : List ℕ)
-    → Packets count left ≡ decoded (ruleOf framing) (length T / recordSize) limit msg
+    → Packets count left ≡ decoded (ruleOf framing) (capacity T) limit msg
     → Fillable (ruleOf framing msg) (length msg) count T
 fillable framing limit msg T e =
-    let w = packets-fit (ruleOf framing) (length T / recordSize) limit msg e in
+    let w = packets-fit (ruleOf framing) (capacity T) limit msg e in
     record {
       short = w .short;
       accepted = w .accepted;

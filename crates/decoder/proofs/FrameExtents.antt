@@ -21,7 +21,7 @@ use Rattle.measure.specs.CodeMeasure.{extent}
 use Rattle.measure.specs.declared.Extent.{Extent}
 use Rattle.measure.specs.declared.Extent.the-variants.{Tree, Deep, Refused}
 use Rattle.measure.proofs.Extents.{extent-after, max-low}
-use Rattle.decoder.specs.Framing.{Whole, trees, waiting, refusal, Frame, wait, read, prefixed, readFrame, before, afterFrame}
+use Rattle.decoder.specs.Framing.{Whole, trees, waiting, refusal, Frame, wait, read, frameWith, readFrame, before, afterFrame}
 use Rattle.decoder.specs.Framing.{framesAt, readFrames, tcpVec}
 use Rattle.decoder.specs.CodeFrames.{frameExtent, totalOf, added}
 use Rattle.decoder.specs.declared.frames.FrameExtent.{FrameExtent}
@@ -39,17 +39,17 @@ module _ (base : ℕ) (l : List ℕ) where
   unfolding readFrame
   frame-ready {r} limit rest e s g =
       let is : r ≡ extent limit 4 (readPacket base (drop 4 l) 4) = rw s at g in
-      ap Packet (is ∙ extent-after limit 0 4 (readPacket base (drop 4 l) 4)) ∙ ap (λ x. frameExtent limit (prefixed base l x)) e
+      ap Packet (is ∙ extent-after limit 0 4 (readPacket base (drop 4 l) 4)) ∙ ap (λ x. frameExtent limit (frameWith base l x)) e
 
   -- a frame that is not all there waits
   pub frame-waits : (limit : ℕ) → prefix.Waiting ≡ prefixOf l → Waiting ≡ frameExtent limit (readFrame base l)
   unfolding readFrame
-  frame-waits limit e = ap (λ x. frameExtent limit (prefixed base l x)) e
+  frame-waits limit e = ap (λ x. frameExtent limit (frameWith base l x)) e
 
   -- a prefix that is not all there is refused
   pub frame-runs-out : (limit : ℕ) → prefix.RunsOut ≡ prefixOf l → Packet (Refused faults.RunsOut) ≡ frameExtent limit (readFrame base l)
   unfolding readFrame extent
-  frame-runs-out limit e = ap (λ x. frameExtent limit (prefixed base l x)) e
+  frame-runs-out limit e = ap (λ x. frameExtent limit (frameWith base l x)) e
 
 module _ (base : ℕ) (l : List ℕ) where
   -- ---- the list after a frame

@@ -11,13 +11,13 @@ use Rattle.refusal.specs.declared.Fault.the-variants as faults
 use Rattle.wire.proofs.Parts.{tail, length-lent}
 use Rattle.node.specs.Forest.{Forest, nil, node, size}
 use Rattle.node.specs.declared.record.Item.{Item}
-use Rattle.node.specs.Records.{recordSize, stored}
+use Rattle.node.specs.Records.{recordSize, mostRecords, stored, TableRoom}
 use Rattle.packet.specs.Packet.{fault, one, after, readPacket}
-use Rattle.decoder.specs.Framing.{Whole, trees, waiting, refusal, Frame, wait, read, prefixed, readFrame, before, framesAt}
+use Rattle.decoder.specs.Framing.{Whole, trees, waiting, refusal, Frame, wait, read, frameWith, readFrame, before, framesAt}
 use Rattle.decoder.specs.Framing.{readFrames, tcpVec}
 use Rattle.decoder.specs.Limits.{forestOf}
 use Rattle.packet.specs.Heads.{prefixOf}
-use Rattle.fill.specs.CodeFill.{treeOf, reread, TableRoom, Fills}
+use Rattle.fill.specs.CodeFill.{treeOf, reread, Fills}
 use Rattle.decoder.specs.CodeFrames.{framePacket, Accepted}
 use Rattle.packet.specs.declared.Prefix.the-variants as prefix
 use Rattle.fill.specs.declared.Reread.{Reread}
@@ -32,7 +32,7 @@ use Rattle.node.proofs.Stored.{completed, length-completed, completed-nil, lent
 module _ (base : ℕ) (l rest : List ℕ) (e : prefix.Ready ≡ prefixOf l) (s : rest ≡ drop 4 l) where
   ready-frame : framePacket (readFrame base l) ≡ after 4 (readPacket base rest 4)
   unfolding readFrame
-  ready-frame = ap (λ x. framePacket (prefixed base l x)) (sym e) ∙ rw s
+  ready-frame = ap (λ x. framePacket (frameWith base l x)) (sym e) ∙ rw s
 
   -- room for a frame is room for its packet
   pub frame-room : {i : ℕ} {T : List ℕ} → TableRoom (treeOf (framePacket (readFrame base l))) i T → TableRoom (treeOf (readPacket base rest 4)) i T
@@ -47,12 +47,12 @@ module _ (base : ℕ) (l : List ℕ) where
   -- nothing is written of a frame that waits
   pub waits-nothing : prefix.Waiting ≡ prefixOf l → framePacket (readFrame base l) ≡ fault faults.RunsOut
   unfolding readFrame
-  waits-nothing e = ap (λ x. framePacket (prefixed base l x)) (sym e)
+  waits-nothing e = ap (λ x. framePacket (frameWith base l x)) (sym e)
 
   -- nothing is written of a prefix that is not all there
   pub short-nothing : prefix.RunsOut ≡ prefixOf l → framePacket (readFrame base l) ≡ fault faults.RunsOut
   unfolding readFrame
-  short-nothing e = ap (λ x. framePacket (prefixed base l x)) (sym e)
+  short-nothing e = ap (λ x. framePacket (frameWith base l x)) (sym e)
 
 -- ---- a list
 
@@ -76,7 +76,7 @@ pub record Listing (msg T₀ T : List ℕ) (at c : ℕ) : Type 0 where
   pub accepted : Accepted (remaining at (drop at msg))
   pub same : length T ≡ length T₀
   pub fits : recordSize * (c + size (forestOf (remaining at (drop at msg)))) ≤ length T
-  pub low : c + size (forestOf (remaining at (drop at msg))) ≤ 65535
+  pub low : c + size (forestOf (remaining at (drop at msg))) ≤ mostRecords
   pub left : completed T c c (forestOf (remaining at (drop at msg))) ≡ stored 0 (forestOf (tcpVec msg)) T₀
 
 -- before the first frame
@@ -128,12 +128,12 @@ module _ (msg T₀ T : List ℕ) (at c : ℕ) (w : Listing msg T₀ T at c) (som
 
   -- a frame that was written takes its prefix, and its records fit
   pub next-in : {n next : ℕ} {x : Reread} {Y : List ℕ} → Fills (framePacket (readFrame at (drop at msg))) 0 c later x Y → x ≡ Wrote n next
-      → (4 ≤ next) × (at + next ≤ length msg) × (c + n ≤ 65535)
+      → (4 ≤ next) × (at + next ≤ length msg) × (c + n ≤ mostRecords)
   unfolding size
   next-in {n} {next} f z = by-frame (readFrame at (drop at msg)) refl (frame-in at (drop at msg)) (sym z ∙ f .answered)
     where
       by-frame : (x : Frame) → readFrame at (drop at msg) ≡ x → FrameIn (length (drop at msg)) x
-          → Wrote n next ≡ reread 0 (framePacket x) → (4 ≤ next) × (at + next ≤ length msg) × (c + n ≤ 65535)
+          → Wrote n next ≡ reread 0 (framePacket x) → (4 ≤ next) × (at + next ≤ length msg) × (c + n ≤ mostRecords)
       by-frame wait e i h = let z : _≡_ {A = ℕ} 0 1 = cc in absurd (omega arith)
       by-frame (read (fault k)) e i h = let z : _≡_ {A = ℕ} 0 1 = cc in absurd (omega arith)
       by-frame (read (one item g u)) e i h =

@@ -14,7 +14,7 @@ use Rattle.packet.specs.declared.Prefix.{Prefix}
 use Rattle.packet.specs.declared.Prefix.the-variants as prefix
 use Rattle.packet.proofs.Heads.{PrefixIn, prefix-within}
 use Rattle.packet.proofs.Within.{Within, packet-in}
-use Rattle.decoder.specs.Framing.{Whole, trees, Frame, wait, read, prefixed, readFrame, before, afterFrame, framesAt, readFrames}
+use Rattle.decoder.specs.Framing.{Whole, trees, Frame, wait, read, frameWith, readFrame, before, afterFrame, framesAt, readFrames}
 
 -- a frame of m bytes takes its prefix and a byte for each node
 abbrev pub FrameIn : ℕ → Frame → Type 0
@@ -26,15 +26,15 @@ after-in : (m : ℕ) (o : Out) → 4 ≤ m → Within (m - 4) o → FrameIn m (r
 after-in m (fault k) h w = tt
 after-in m (one item f u) h w = omega arith
 
-prefixed-in : (base : ℕ) (l : List ℕ) (x : Prefix) → PrefixIn (length l) x → FrameIn (length l) (prefixed base l x)
-prefixed-in base l prefix.Ready w = after-in (length l) (readPacket base (drop 4 l) 4) w (rw length-drop at (packet-in base (drop 4 l) 4))
-prefixed-in base l prefix.Waiting w = tt
-prefixed-in base l prefix.RunsOut w = tt
+with-in : (base : ℕ) (l : List ℕ) (x : Prefix) → PrefixIn (length l) x → FrameIn (length l) (frameWith base l x)
+with-in base l prefix.Ready w = after-in (length l) (readPacket base (drop 4 l) 4) w (rw length-drop at (packet-in base (drop 4 l) 4))
+with-in base l prefix.Waiting w = tt
+with-in base l prefix.RunsOut w = tt
 
 -- a frame lies in its input
 pub frame-in : (base : ℕ) (l : List ℕ) → FrameIn (length l) (readFrame base l)
 unfolding readFrame
-frame-in base l = prefixed-in base l (prefixOf l) (prefix-within l)
+frame-in base l = with-in base l (prefixOf l) (prefix-within l)
 
 after-cong : (go go' : ℕ → List ℕ → Whole) (base : ℕ) (l : List ℕ) (x : Frame) → FrameIn (length l) x
     → ((q : ℕ) (m : List ℕ) → length m < length l → go q m ≡ go' q m)

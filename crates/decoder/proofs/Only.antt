@@ -1,9 +1,8 @@
 -- No second outcome, answer and table, satisfies the contract of a decoder.
 use mathlib.Core.Path.{_≡_, ap, sym, _∙_}
 use mathlib.Core.List.{List}
-use Prim.Native.Nat.{ℕ, _/_}
-use lib.ListN.{length}
-use Rattle.node.specs.Records.{recordSize}
+use Prim.Native.Nat.{ℕ}
+use Rattle.node.specs.Records.{capacity}
 use Rattle.decoder.specs.Framing.{Whole, udp, tcp, tcpVec, ruleOf}
 use Rattle.decoder.specs.declared.Framing.{Framing}
 use Rattle.decoder.specs.Limits.{decoded, forestOf, tabled}
@@ -11,7 +10,7 @@ use Rattle.decoder.specs.declared.Decoded.{Decoded}
 
 -- what the contract of a decoder with this rule says of its answer r and of the table T, which was T₀
 pub record Contract (rule : List ℕ → Whole) (msg T₀ : List ℕ) (depth : ℕ) (r : Decoded) (T : List ℕ) : Type 0 where
-  pub answer : r ≡ decoded rule (length T₀ / recordSize) depth msg
+  pub answer : r ≡ decoded rule (capacity T₀) depth msg
   pub table : T ≡ tabled r (forestOf (rule msg)) T₀
 
 -- two outcomes are one

@@ -1,5 +1,5 @@
--- What the two readings of a whole input answer: the first writes nothing, the second fills a table that has room. These describe
--- code, not the document.
+-- Describes code, and no part of the document: what the two readings of a whole input answer. The first writes nothing, the second
+-- fills a table that has room.
 use mathlib.Core.Path.{_≡_}
 use mathlib.Core.List.{List}
 use mathlib.Core.Bool.{Bool, true, false, cond}
@@ -7,12 +7,13 @@ use Prim.Native.Nat.{ℕ, _+_, _-_, _≤_}
 use lib.Dec.{leb}
 use Rattle.refusal.specs.declared.Fault.the-variants.{RunsOut}
 use Rattle.refusal.specs.declared.Refusal.the-variants.{Unreadable, TooDeep, TableFull}
+use Rattle.wire.specs.Limits.{longest}
 use Rattle.node.specs.Forest.{size, depth}
+use Rattle.node.specs.Records.{TableRoom}
 use Rattle.packet.specs.Packet.{Out, fault}
 use Rattle.measure.specs.CodeMeasure.{extent}
 use Rattle.measure.specs.declared.Extent.{Extent}
 use Rattle.measure.specs.declared.Extent.the-variants as extents
-use Rattle.fill.specs.CodeFill.{TableRoom}
 use Rattle.decoder.specs.Framing.{Whole, trees, waiting, refusal, Frame, wait, read}
 use Rattle.decoder.specs.Limits.{forestOf}
 use Rattle.decoder.specs.declared.Decoded.{Decoded}
@@ -77,7 +78,7 @@ Accepted (refusal k) = ⊥
 
 -- what the second reading of n bytes needs: they are few and accepted, and the table has room for so many records
 pub record Fillable (w : Whole) (n count : ℕ) (table : List ℕ) : Type 0 where
-  pub short : n ≤ 65535
+  pub short : n ≤ longest
   pub accepted : Accepted w
   pub records : size (forestOf w) ≡ count
   pub room : TableRoom (forestOf w) 0 table

@@ -36,14 +36,14 @@ pub data Frame : Type 0 where
   read : Out → Frame
 
 -- the frame with this prefix: a packet from everything after it, and its length cuts nothing
-abbrev pub prefixed : ℕ → List ℕ → Prefix → Frame
-prefixed base l prefix.Ready = read (after 4 (readPacket base (drop 4 l) 4))
-prefixed base l prefix.Waiting = wait
-prefixed base l prefix.RunsOut = read (fault RunsOut)
+abbrev pub frameWith : ℕ → List ℕ → Prefix → Frame
+frameWith base l prefix.Ready = read (after 4 (readPacket base (drop 4 l) 4))
+frameWith base l prefix.Waiting = wait
+frameWith base l prefix.RunsOut = read (fault RunsOut)
 
 -- rule 6: the frame at the front of l, which stands at offset `base` of the call's input
 unfoldable pub readFrame : ℕ → List ℕ → Frame
-readFrame base l = prefixed base l (prefixOf l)
+readFrame base l = frameWith base l (prefixOf l)
 
 -- the answer of one frame of n bytes of input
 abbrev pub first : ℕ → Frame → Whole

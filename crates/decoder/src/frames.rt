@@ -2,18 +2,19 @@
 use crate::Decoded;
 use crate::Framing;
 use fill::Reread;
-use packet::Prefix;
 use measure::Extent;
+use node::record;
+use packet::Prefix;
 use refusal::Fault;
 use refusal::Refusal;
-use node::record;
 ghost use mathlib.Core.Path.{_≡_};
 ghost use Prim.Native.Nat.{ℕ, _+_, _≤_};
 ghost use lib.ListN.{length};
 ghost use Rattle.decoder.specs.Framing.{readFrame, tcp, tcpVec, ruleOf};
 ghost use Rattle.decoder.specs.Limits.{decoded, forestOf};
-ghost use Rattle.node.specs.Records.{stored};
-ghost use Rattle.fill.specs.CodeFill.{treeOf, TableRoom, Fills};
+ghost use Rattle.wire.specs.Limits.{longest};
+ghost use Rattle.node.specs.Records.{stored, TableRoom};
+ghost use Rattle.fill.specs.CodeFill.{treeOf, Fills};
 ghost use Rattle.decoder.specs.CodeFrames.{framePacket, frameExtent, EndsIn, totalOf, totalOfOne, added, answered, Accepted, Fillable};
 
 // What the first reading of a frame answers.
@@ -37,10 +38,10 @@ pub enum Total {
 pub fn answer(framing: Framing, msg: &[u8], capacity: usize, depth: usize) -> Decoded
     ensures { λ r. ⌜ r ≡ decoded (ruleOf framing) capacity depth (now (msg .entry)) ⌝ }
 {
-    if 64 < depth {
+    if wire::DEEPEST < depth {
         return Decoded::Refused(Refusal::DepthLimit);
     }
-    if 65535 < msg.len() {
+    if wire::LONGEST < msg.len() {
         return Decoded::Refused(Refusal::TooLong);
     }
     within(capacity, measure_input(framing, msg, depth))
@@ -65,7 +66,7 @@ fn within(capacity: usize, total: Total) -> Decoded
 
 // The first reading of a whole input.
 fn measure_input(framing: Framing, msg: &[u8], depth: usize) -> Total
-    requires { ⌜ length (now msg) ≤ 65535 ⌝ }
+    requires { ⌜ length (now msg) ≤ longest ⌝ }
     ensures { λ r. ⌜ r ≡ totalOf depth (ruleOf framing (now (msg .entry))) ⌝ }
 {
     match framing {
@@ -92,7 +93,7 @@ fn measure_one(extent: Extent, n: usize) -> Total
 
 // The first reading of one frame.
 fn measure_tcp(msg: &[u8], depth: usize) -> Total
-    requires { ⌜ length (now msg) ≤ 65535 ⌝ }
+    requires { ⌜ length (now msg) ≤ longest ⌝ }
     ensures { λ r. ⌜ r ≡ totalOf depth (tcp (now (msg .entry))) ⌝ }
 {
     match measure_frame(msg, depth) {
@@ -103,7 +104,7 @@ fn measure_tcp(msg: &[u8], depth: usize) -> Total
 
 // The first reading of a list of frames. A frame that is too deep is passed over: a later one may be refused.
 fn measure_tcp_vec(msg: &[u8], depth: usize) -> Total
-    requires { ⌜ length (now msg) ≤ 65535 ⌝ }
+    requires { ⌜ length (now msg) ≤ longest ⌝ }
     ensures { λ r. ⌜ r ≡ totalOf depth (tcpVec (now (msg .entry))) ⌝ }
 {
     if msg.len() == 0 {
@@ -143,7 +144,7 @@ fn counted(count: usize, deep: bool, left: usize) -> Total
 
 // The first reading of a frame: a packet from everything after the prefix.
 fn measure_frame(input: &[u8], depth: usize) -> FrameExtent
-    requires { ⌜ length (now input) ≤ 65535 ⌝ }
+    requires { ⌜ length (now input) ≤ longest ⌝ }
     ensures { λ r. ⌜ ((base : ℕ) → r ≡ frameExtent depth (readFrame base (now (input .entry)))) ⌝ }
 {
     match packet::read_prefix(input) {
@@ -169,7 +170,7 @@ pub fn write(framing: Framing, msg: &[u8], table: &mut [u8], count: usize)
 
 // The second reading of a frame, which stands at `base` of the call's input.
 fn decode_frame(input: &[u8], base: usize, table: &mut [u8], index: usize) -> Reread
-    requires { ⌜ base + length (now input) ≤ 65535 ⌝ }
+    requires { ⌜ base + length (now input) ≤ longest ⌝ }
     requires { ⌜ TableRoom (treeOf (framePacket (readFrame base (now input)))) index (now table) ⌝ }
     ensures { λ r. ⌜ Fills (framePacket (readFrame base (now (input .entry)))) 0 index (now (table .entry)) r (now (table .exit)) ⌝ }
 {
@@ -182,7 +183,7 @@ fn decode_frame(input: &[u8], base: usize, table: &mut [u8], index: usize) -> Re
 
 // The second reading of a list of frames.
 fn decode_frames(msg: &[u8], table: &mut [u8])
-    requires { ⌜ length (now msg) ≤ 65535 ⌝ }
+    requires { ⌜ length (now msg) ≤ longest ⌝ }
     requires { ⌜ Accepted (tcpVec (now msg)) ⌝ }
     requires { ⌜ TableRoom (forestOf (tcpVec (now msg))) 0 (now table) ⌝ }
     ensures { λ _. ⌜ now (table .exit) ≡ stored 0 (forestOf (tcpVec (now (msg .entry)))) (now (table .entry)) ⌝ }

@@ -7,11 +7,11 @@ use native.Mathlib.Numerals.{add-one}
 use lib.Dec.{eqb}
 use lib.ListN.{length, drop, getD}
 use lib.Seq.{drop-cons, drop-length}
-use Rattle.node.specs.Tags.{classOf, sortOf}
+use Rattle.node.specs.Tags.{arrayKind, classOf, sortOf}
 use Rattle.node.specs.declared.tags.Sort.{Sort}
 use Rattle.node.specs.declared.tags.Sort.the-variants.{Leaf}
 use Rattle.scan.specs.CodeScans.{tagBefore, back, bracket, brackets}
-use Rattle.scan.specs.declared.Back.the-variants.{Whole}
+use Rattle.scan.specs.declared.Back.the-variants.{Uncut}
 
 -- ---- the loop that looks for a bracket
 
@@ -52,12 +52,12 @@ second-false false y e = e
 leaf : (tag : ℕ) → bracket tag ≡ false → sortOf tag ≡ Leaf (classOf tag)
 unfolding sortOf
 leaf tag e =
-    let n : eqb tag 91 ≡ false = first-false (eqb tag 91) (eqb tag 93 || false) e in
-    let m : eqb tag 93 ≡ false = first-false (eqb tag 93) false (second-false (eqb tag 91) (eqb tag 93 || false) e) in
+    let n : eqb tag arrayKind ≡ false = first-false (eqb tag arrayKind) (eqb tag 93 || false) e in
+    let m : eqb tag 93 ≡ false = first-false (eqb tag 93) false (second-false (eqb tag arrayKind) (eqb tag 93 || false) e) in
     rw (n, m)
 
 -- they are all kept
-pub flat : (tags : List ℕ) → brackets tags ≡ false → Whole 0 (length tags) ≡ back tags
+pub flat : (tags : List ℕ) → brackets tags ≡ false → Uncut 0 (length tags) ≡ back tags
 unfolding back
 flat [] e = refl
 flat (tag ∷ tags) e =

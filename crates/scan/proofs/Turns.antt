@@ -19,7 +19,7 @@ use Rattle.scan.proofs.Passed.{used-within}
 use Rattle.scan.specs.CodeScans.{usedOf, moreUsed, turn, scan, tagBefore, back}
 use Rattle.scan.specs.declared.Scanned.{Scanned}
 use Rattle.scan.specs.declared.Scanned.the-variants.{Used, Refused}
-use Rattle.scan.specs.declared.Back.the-variants.{Whole, Cut}
+use Rattle.scan.specs.declared.Back.the-variants.{Uncut, Cut}
 
 more-more : (m n : ℕ) (s : Scanned) → moreUsed m (moreUsed n s) ≡ moreUsed (m + n) s
 more-more m n (Used used) = ap Used (omega arith)
@@ -155,7 +155,7 @@ cut-up (suc j) (t ∷ ts) n c h e =
 pub record Looking (tags : List ℕ) (j n c : ℕ) : Type 0 where
   pub inside : j ≤ length tags
   pub few : n + c + j ≤ length tags
-  pub whole : back (drop j tags) ≡ Whole n c
+  pub whole : back (drop j tags) ≡ Uncut n c
 
 -- at the end of the tags nothing was looked at
 pub looking-start : (tags : List ℕ) → Looking tags (length tags) 0 0
@@ -163,15 +163,15 @@ unfolding back
 looking-start tags = record { inside = omega arith; few = omega arith; whole = rw (drop-length tags) }
 
 module _ {tags : List ℕ} {j n c : ℕ} (w : Looking tags j n c) (h : 0 < j) where
-  back-turn : {s : Sort} → s ≡ sortOf (getD tags (j - 1) 0) → back (drop (j - 1) tags) ≡ tagBefore s (Whole n c)
+  back-turn : {s : Sort} → s ≡ sortOf (getD tags (j - 1) 0) → back (drop (j - 1) tags) ≡ tagBefore s (Uncut n c)
   unfolding back
   back-turn e =
       let up : j ≡ suc (j - 1) = omega arith in
-      let later : back (drop (suc (j - 1)) tags) ≡ Whole n c = subst (λ (x : ℕ). back (drop x tags) ≡ Whole n c) up (w .whole) in
+      let later : back (drop (suc (j - 1)) tags) ≡ Uncut n c = subst (λ (x : ℕ). back (drop x tags) ≡ Uncut n c) up (w .whole) in
       rw (drop-cons tags (j - 1) 0 (omega (arith, w .inside)), ← e, later)
 
   -- one tag more was looked at
-  earlier : {s : Sort} (n′ c′ : ℕ) → s ≡ sortOf (getD tags (j - 1) 0) → n′ + c′ ≤ n + c + 1 → tagBefore s (Whole n c) ≡ Whole n′ c′
+  earlier : {s : Sort} (n′ c′ : ℕ) → s ≡ sortOf (getD tags (j - 1) 0) → n′ + c′ ≤ n + c + 1 → tagBefore s (Uncut n c) ≡ Uncut n′ c′
       → Looking tags (j - 1) n′ c′
   earlier n′ c′ e k b = record { inside = omega (arith, w .inside); few = omega (arith, w .few); whole = back-turn e ∙ b }
 
@@ -179,7 +179,7 @@ module _ {tags : List ℕ} {j n c : ℕ} (w : Looking tags j n c) (h : 0 < j) wh
   pub looking-opens : Opens ≡ sortOf (getD tags (j - 1) 0) → (n ≡ 0 → ⊥) → Looking tags (j - 1) (n - 1) (c + 1)
   looking-opens e z =
       let some : n ≡ suc (n - 1) = omega arith in
-      earlier (n - 1) (c + 1) e (omega arith) (ap (λ (k : ℕ). tagBefore Opens (Whole k c)) some ∙ rw (add-one c))
+      earlier (n - 1) (c + 1) e (omega arith) (ap (λ (k : ℕ). tagBefore Opens (Uncut k c)) some ∙ rw (add-one c))
 
   -- a tag that closes: one array more
   pub looking-closes : Closes ≡ sortOf (getD tags (j - 1) 0) → Looking tags (j - 1) (n + 1) c
@@ -193,8 +193,8 @@ module _ {tags : List ℕ} {j n c : ℕ} (w : Looking tags j n c) (h : 0 < j) wh
   pub looking-cut : Opens ≡ sortOf (getD tags (j - 1) 0) → n ≡ 0 → Cut (j - 1 + 1) c ≡ back tags
   looking-cut e z = sym (cut-up (j - 1) tags 1 c (omega (arith, w .inside)) (back-turn e ∙ rw z))
 
--- where all tags were looked at, they are whole
-pub looking-end : {tags : List ℕ} {j n c : ℕ} → Looking tags j n c → j ≤ 0 → Whole n c ≡ back tags
+-- where all tags were looked at, they are not cut
+pub looking-end : {tags : List ℕ} {j n c : ℕ} → Looking tags j n c → j ≤ 0 → Uncut n c ≡ back tags
 looking-end {tags} {j} {n} {c} w h =
     let z : j ≡ 0 = omega arith in
     sym (rw z at (w .whole))

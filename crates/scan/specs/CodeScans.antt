@@ -14,7 +14,7 @@ use Rattle.argument.specs.declared.Arg.the-variants as arg
 use Rattle.scan.specs.declared.Scanned.{Scanned}
 use Rattle.scan.specs.declared.Scanned.the-variants.{Used, Refused}
 use Rattle.scan.specs.declared.Back.{Back}
-use Rattle.scan.specs.declared.Back.the-variants.{Whole, Cut}
+use Rattle.scan.specs.declared.Back.the-variants.{Uncut, Cut}
 
 -- ---- forward: whether tags and data are accepted, and how many bytes they take
 
@@ -50,22 +50,22 @@ scan (tag ∷ tags) l p n = turn (sortOf tag) (λ m q k. scan tags m q k) tag l 
 -- a tag stands before those that were looked at
 abbrev pub tagBefore : Sort → Back → Back
 tagBefore Opens (Cut n c) = Cut (suc n) c
-tagBefore Opens (Whole zero c) = Cut 1 c
-tagBefore Opens (Whole (suc n) c) = Whole n (suc c)
+tagBefore Opens (Uncut zero c) = Cut 1 c
+tagBefore Opens (Uncut (suc n) c) = Uncut n (suc c)
 tagBefore Closes (Cut n c) = Cut (suc n) c
-tagBefore Closes (Whole n c) = Whole (suc n) c
+tagBefore Closes (Uncut n c) = Uncut (suc n) c
 tagBefore (Leaf class) (Cut n c) = Cut (suc n) c
-tagBefore (Leaf class) (Whole n c) = Whole n (suc c)
+tagBefore (Leaf class) (Uncut n c) = Uncut n (suc c)
 
--- what the tags keep, from the last to the first: `Whole` where they close every array that they open, else `Cut` after the last '['
+-- what the tags keep, from the last to the first: `Uncut` where they close every array that they open, else `Cut` after the last '['
 -- that stays open
 unfoldable pub back : List ℕ → Back
-back [] = Whole 0 0
+back [] = Uncut 0 0
 back (tag ∷ tags) = tagBefore (sortOf tag) (back tags)
 
 -- every array that the tags open is closed by them
 abbrev pub AllClosed : Back → Type 0
-AllClosed (Whole n c) = Unit {0}
+AllClosed (Uncut n c) = Unit {0}
 AllClosed (Cut n c) = ⊥
 
 -- a tag that opens or closes an array (rule 3)

@@ -1,6 +1,7 @@
 // The tags and their data without records: what the first reading finds out. Linear, with no stack for arrays.
 use argument::Arg;
 use argument::read_checked;
+use node::tags::ARRAY;
 use node::tags::Class;
 use node::tags::Sort;
 use node::tags::sort_of;
@@ -22,7 +23,7 @@ pub enum Scanned {
 // What the tags from some place on keep.
 pub enum Back {
     // They close every array that they open, and `closed` more; they give `count` records.
-    Whole { closed: usize, count: usize },
+    Uncut { closed: usize, count: usize },
     // An array that they open stays open. The last such '[' ends the first `first` of them; those after it give `count` records.
     Cut { first: usize, count: usize },
 }
@@ -55,7 +56,7 @@ fn pass_arg(tag: u8, class: Class, input: &[u8], pos: usize) -> Scanned
 
 // Forward: whether the tags and their data are accepted, and how many bytes they take. Only the number of open arrays is kept.
 //
-// Ruled out: `]` with no array open passed over; the data of one argument read twice.
+// Ruled out: `]` with no array open passed over; padding counted from where an earlier argument stands.
 pub fn scan_args(tags: &[u8], input: &[u8], pos: usize) -> Scanned
     requires { ⌜ pos + length (now input) ≤ longest ⌝ }
     ensures { λ r. ⌜ r ≡ scan (now (tags .entry)) (now (input .entry)) pos 0 ⌝ }
@@ -92,7 +93,7 @@ fn is_bracket(tag: u8) -> bool
     ensures { λ r. ⌜ r ≡ bracket tag ⌝ }
 {
     match tag {
-        b'[' | b']' => true,
+        ARRAY | b']' => true,
         _ => false,
     }
 }
@@ -134,7 +135,7 @@ fn walk_back(tags: &[u8]) -> Back
             Sort::Leaf(_) => count += 1,
         }
     }
-    Back::Whole { closed, count }
+    Back::Uncut { closed, count }
 }
 
 // The same. Where no tag is a bracket, each one is a record, and none is looked at by itself.
@@ -146,7 +147,7 @@ pub fn look_back(tags: &[u8]) -> Back
     if any_bracket(tags) {
         return walk_back(tags);
     }
-    Back::Whole {
+    Back::Uncut {
         closed: 0,
         count: tags.len(),
     }

@@ -16,7 +16,7 @@ write-requires c κs =
     let a = p5 .before .before .before .before .args in
     fillable (a .framing) (a .depth) (a .msg .now) (a .table .now)
     (sym (p2 .answer2 .given .1) ∙ p4 .answer .ensures
-    ∙ ap (λ (k : ℕ). decoded (ruleOf (a .framing)) k (a .depth) (a .msg .now)) (p5 .capacity .ensures))
+    ∙ ap (λ (k : ℕ). decoded (ruleOf (a .framing)) k (a .depth) (a .msg .now)) (p5 .capacity-of .ensures))
 
 returns : tie.Need-returns
 returns c =
@@ -26,7 +26,7 @@ returns c =
     let p8 = p7 .before in
     let a = p8 .before .before .before .before .args in (
       sym (p5 .answer2 .given .1) ∙ p7 .answer .ensures
-          ∙ ap (λ (k : ℕ). decoded (ruleOf (a .framing)) k (a .depth) (a .msg .now)) (p8 .capacity .ensures),
+          ∙ ap (λ (k : ℕ). decoded (ruleOf (a .framing)) k (a .depth) (a .msg .now)) (p8 .capacity-of .ensures),
       p2 .write .ensures,
     )
 
@@ -35,7 +35,7 @@ returns-2 c =
     let p2 = c .before .before in
     let p3 = p2 .before in
     let a = p3 .before .before .before .before .args in (
-      p2 .answer .ensures ∙ ap (λ (k : ℕ). decoded (ruleOf (a .framing)) k (a .depth) (a .msg .now)) (p3 .capacity .ensures),
+      p2 .answer .ensures ∙ ap (λ (k : ℕ). decoded (ruleOf (a .framing)) k (a .depth) (a .msg .now)) (p3 .capacity-of .ensures),
       unwritten (forestOf (ruleOf (a .framing) (a .msg .now))) (a .table .now) (c .enum-told .given .1) refl,
     )
 
@@ -44,7 +44,7 @@ returns-3 c =
     let p2 = c .before .before in
     let p3 = p2 .before in
     let a = p3 .before .before .before .before .args in (
-      p2 .answer .ensures ∙ ap (λ (k : ℕ). decoded (ruleOf (a .framing)) k (a .depth) (a .msg .now)) (p3 .capacity .ensures),
+      p2 .answer .ensures ∙ ap (λ (k : ℕ). decoded (ruleOf (a .framing)) k (a .depth) (a .msg .now)) (p3 .capacity-of .ensures),
       unwritten (forestOf (ruleOf (a .framing) (a .msg .now))) (a .table .now) (c .enum-told2 .given .1) refl,
     )
 
