@@ -8,9 +8,11 @@ use lib.ListN.{length, drop}
 use Rattle.refusal.specs.declared.Fault.the-variants.{Empty, RunsOut, NotUtf8, BadStart, NotOpen, UnknownTag, NotScalar}
 use Rattle.wire.specs.Pad.{padOf}
 use Rattle.utf8.specs.Derive.{utf8}
+use Rattle.wire.specs.Limits.{longest, deepest}
 use Rattle.node.specs.Forest.{Forest, nil, node, depth}
 use Rattle.node.specs.Tags.{among}
-use Rattle.node.specs.Records.{zerosAt, capacity}
+use Rattle.node.specs.Records.{zerosAt, itemAt, capacity}
+use Rattle.node.specs.declared.record.Item.{Item}
 use Rattle.node.specs.Rules.{ownRules}
 use Rattle.values.specs.Look.{lookAt}
 use Rattle.values.specs.declared.look.Looked.{Looked}
@@ -24,7 +26,8 @@ use Rattle.decoder.specs.declared.Framing.the-variants.{Udp, Tcp, TcpVec}
 use Rattle.decoder.specs.Limits.{limited, decoded}
 use Rattle.decoder.specs.declared.Decoded.{Decoded}
 use Rattle.strings.specs.Atomic.{oscString}
-use Rattle.encoder.specs.Outcome.{Outcome, write, Encodes, malformed, formed, stringOutcome}
+use Rattle.writers.specs.Osc.{writePacket}
+use Rattle.encoder.specs.Outcome.{Outcome, bytesOutcome, treeOutcome, Encodes, malformed, formed, stringOutcome}
 use Rattle.demands.specs.Calls.{decode, encode, encode-tcp, encode-string, pad, look, text-of}
 use Rattle.demands.specs.Calls.{byDecoded, byEncoded, byPadded, byLooked, decodeOrder, encodeOrder, numbersOf, Listed}
 use Rattle.demands.specs.Calls.{AnswersListed}

@@ -12,7 +12,8 @@ use Rattle.decoder.specs.Framing.{Whole, ruleOf}
 use Rattle.decoder.specs.Limits.{forestOf, tabled}
 use Rattle.decoder.specs.declared.Decoded.{Decoded}
 use Rattle.decoder.specs.declared.Decoded.the-variants.{Packets, Waiting, Refused}
-use Rattle.encoder.specs.Outcome.{Outcome, write, Encodes, malformed, formed, unframed, prefixed, stringOutcome}
+use Rattle.writers.specs.Osc.{writePacket}
+use Rattle.encoder.specs.Outcome.{Outcome, bytesOutcome, treeOutcome, Encodes, malformed, formed, unframed, prefixed, stringOutcome}
 use Rattle.strings.specs.Atomic.{oscString}
 use Rattle.demands.specs.Calls.{Call, decode, encode, encode-tcp, encode-string, pad, look, text-of}
 use Rattle.demands.specs.Calls.{Ending, Decodes, Answer, Lent, result, byDecoded, byEncoded, Settled, Met, NothingChanged}

@@ -1,5 +1,5 @@
 -- What is decoded can be encoded: a table that was answered for one packet is well formed over the call's input.
-use mathlib.Core.Path.{_≡_, sym, ap, subst, _∙_}
+use mathlib.Core.Path.{_≡_, refl, sym, ap, subst, _∙_}
 use mathlib.Core.Logic.{⊎-elim}
 use mathlib.Core.List.{List, _++_}
 use Prim.Native.Nat.{ℕ, zero, suc, _+_, _*_, _^_, _≤_, _<_}
@@ -16,7 +16,7 @@ use Rattle.packet.specs.Heads.{prefixOf}
 use Rattle.packet.specs.Packet.{Out, fault, one, readPacket}
 use Rattle.packet.specs.declared.Prefix.{Prefix}
 use Rattle.packet.specs.declared.Prefix.the-variants as prefix
-use Rattle.decoder.specs.Framing.{Whole, trees, waiting, refusal, single, udp, Frame, wait, read, prefixed, readFrame, first, tcp, before}
+use Rattle.decoder.specs.Framing.{Whole, trees, waiting, refusal, single, udp, Frame, wait, read, frameWith, readFrame, first, tcp, before}
 use Rattle.decoder.specs.Framing.{afterFrame, framesAt, readFrames, tcpVec, ruleOf}
 use Rattle.decoder.specs.declared.Framing.{Framing}
 use Rattle.decoder.specs.declared.Framing.the-variants.{Udp, Tcp, TcpVec}
@@ -69,7 +69,7 @@ module _ (s : List ℕ) (small : Bytes s) (low : length s < 256 ^ 4) where
   unfolding readFrame
   frame-sound base {l} at = by-prefix (prefixOf l) refl
     where
-      by-prefix : (x : Prefix) → x ≡ prefixOf l → FrameSound s (prefixed base l x)
+      by-prefix : (x : Prefix) → x ≡ prefixOf l → FrameSound s (frameWith base l x)
       by-prefix prefix.Ready e =
           after-sound s 4 (readPacket base (drop 4 l) 4) (packet-sound small low base (drop 4 l) 4 (at-drop 4 (prefix-in l e) at))
       by-prefix prefix.Waiting e = tt

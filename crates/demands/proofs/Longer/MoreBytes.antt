@@ -14,7 +14,7 @@ use Rattle.packet.specs.Heads.{prefixOf}
 use Rattle.packet.specs.Packet.{Out}
 use Rattle.packet.specs.declared.Prefix.{Prefix}
 use Rattle.packet.specs.declared.Prefix.the-variants as prefix
-use Rattle.decoder.specs.Framing.{Whole, trees, waiting, refusal, single, udp, prefixed, readFrame, first, tcp}
+use Rattle.decoder.specs.Framing.{Whole, trees, waiting, refusal, single, udp, frameWith, readFrame, first, tcp}
 use Rattle.decoder.specs.Limits.{decoded, forestOf}
 use Rattle.decoder.specs.declared.Decoded.the-variants.{Packets}
 use Rattle.demands.specs.Words.{Continues, message, bundle, Unlimited}
@@ -66,7 +66,7 @@ unfolding tcp readFrame
 tcp-longer msg more = by-prefix (prefixOf msg) (prefixOf (msg ++ more)) refl (prefix-longer msg more)
   where
     by-prefix : (x y : Prefix) → x ≡ prefixOf msg → KeptPrefix x y
-        → Longer (first (length msg) (prefixed 0 msg x)) (first (length (msg ++ more)) (prefixed 0 (msg ++ more) y))
+        → Longer (first (length msg) (frameWith 0 msg x)) (first (length (msg ++ more)) (frameWith 0 (msg ++ more) y))
     by-prefix prefix.Ready y e k =
         rw (k, drop-append-le 4 msg more (prefix-in msg e))
         (single-longer (length msg) (length (msg ++ more)) (after-grows 4 (packet-grows 0 more (drop 4 msg) 4)))
