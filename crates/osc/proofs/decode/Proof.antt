@@ -5,7 +5,10 @@ use Rattle.osc.proofs.decode.Statement.{statement}
 use Rattle.osc.proofs.decode.Tie as tie
 
 decoded-number-requires : tie.Need-decoded-number-requires
-decoded-number-requires c κs = fits _ _ _ _ (c .before .before .decode .ensures .0)
+decoded-number-requires c κs =
+    let p2 = c .before .before in
+    let a = p2 .before .before .before .before .args in
+    fits _ _ (a .framing) (a .msg .now) (p2 .decode .ensures .0)
 
 returns : tie.Need-returns
 returns c =
