@@ -33,12 +33,13 @@ pub data OscArguments : Type 0 where
   atom : Atom → OscArguments → OscArguments
   array : (within rest : OscArguments) → OscArguments
 
--- OSC Packet: an OSC Message or an OSC Bundle; and the elements of a bundle
 mutual
+  -- OSC Packet: an OSC Message or an OSC Bundle
   pub data Packet : Type 0 where
     message : (address : List ℕ) (arguments : OscArguments) → Packet
     bundle : (seconds fractional : ℕ) (elements : Packets) → Packet
 
+  -- the packets that a bundle's elements hold, in order
   pub data Packets : Type 0 where
     none : Packets
     also : Packet → Packets → Packets
@@ -77,22 +78,24 @@ ArgumentsAllowed end = Unit {0}
 ArgumentsAllowed (atom value rest) = AtomAllowed value × ArgumentsAllowed rest
 ArgumentsAllowed (array within rest) = ArgumentsAllowed within × ArgumentsAllowed rest
 
--- "An OSC Address Pattern is an OSC-string beginning with the character '/'"; a time tag is 64 bits, as two halves
 unfoldable mutual
+  -- "An OSC Address Pattern is an OSC-string beginning with the character '/'"; a time tag is 64 bits, as two halves
   pub Allowed : Packet → Type 0
   Allowed (message address arguments) = (getD address 0 0 ≡ slash) × IsText address × ArgumentsAllowed arguments
   Allowed (bundle seconds fractional elements) = (seconds < 256 ^ 4) × (fractional < 256 ^ 4) × AllAllowed elements
 
+  -- every packet is allowed
   pub AllAllowed : Packets → Type 0
   AllAllowed none = Unit {0}
   AllAllowed (also packet rest) = Allowed packet × AllAllowed rest
 
--- how deep bundles are nested
 unfoldable mutual
+  -- how deep bundles are nested: a bundle has depth 1, one in it 2
   pub deep : Packet → ℕ
   deep (message address arguments) = 0
   deep (bundle seconds fractional elements) = deepAll elements + 1
 
+  -- the depth of the deepest
   pub deepAll : Packets → ℕ
   deepAll none = 0
   deepAll (also packet rest) = max (deep packet) (deepAll rest)
@@ -155,16 +158,16 @@ pub data ArgumentsSpell : OscArguments → List ℕ → Type 0 where
 abbrev pub hashBundle : List ℕ
 hashBundle = 35 ∷ 98 ∷ 117 ∷ 110 ∷ 100 ∷ 108 ∷ 101 ∷ []
 
--- OSC Message: an OSC Address Pattern, an OSC Type Tag String ("an OSC-string beginning with the character ','"), the OSC Arguments.
--- OSC Bundle: the OSC-string "#bundle", an OSC Time Tag, zero or more OSC Bundle Elements.
--- OSC Bundle Element: its size, an int32 that "will always be a multiple of 4", and its contents
 mutual
+  -- OSC Message: an OSC Address Pattern, an OSC Type Tag String ("an OSC-string beginning with the character ','"), the OSC Arguments.
+  -- OSC Bundle: the OSC-string "#bundle", an OSC Time Tag, zero or more OSC Bundle Elements
   pub data Spells : Packet → List ℕ → Type 0 where
     as-message : {address : List ℕ} {arguments : OscArguments} {a t d : List ℕ} → OscString address a → OscString (44 ∷ tagsOf arguments) t
         → ArgumentsSpell arguments d → Spells (message address arguments) (a ++ (t ++ d))
     as-bundle : {seconds fractional : ℕ} {elements : Packets} {w es : List ℕ} → OscString hashBundle w → ElementsSpell elements es
         → Spells (bundle seconds fractional elements) (w ++ (oscInt32 seconds ++ (oscInt32 fractional ++ es)))
 
+  -- OSC Bundle Element: its size, an int32 that "will always be a multiple of 4", and its contents
   pub data ElementsSpell : Packets → List ℕ → Type 0 where
     no-element : ElementsSpell none []
     element : {packet : Packet} {rest : Packets} {content es : List ℕ} → length content % 4 ≡ 0 → Spells packet content
@@ -217,14 +220,15 @@ pub record BundleIs (seconds fractional : ℕ) (item : Item) : Type 0 where
   pub first : item .a ≡ seconds
   pub second : item .b ≡ fractional
 
--- a node stands for a packet, and a forest for a bundle's elements
 mutual
+  -- a node stands for a packet
   pub data StandsFor (source : List ℕ) : Packet → Item → Forest → Type 0 where
     is-message : {address : List ℕ} {arguments : OscArguments} {item : Item} {f : Forest} → MessageIs source address item
         → ArgumentsAre source arguments f → StandsFor source (message address arguments) item f
     is-bundle : {seconds fractional : ℕ} {elements : Packets} {item : Item} {f : Forest} → BundleIs seconds fractional item
         → StandFor source elements f → StandsFor source (bundle seconds fractional elements) item f
 
+  -- a forest stands for a bundle's elements
   pub data StandFor (source : List ℕ) : Packets → Forest → Type 0 where
     no-packet : StandFor source none nil
     packet : {first : Packet} {rest : Packets} {item : Item} {f g : Forest} → StandsFor source first item f → StandFor source rest g

@@ -19,7 +19,7 @@ pub fn there_and_back(
     match encoder::encode(table, count, source, out) {
         Encoded::Written(n) => {
             if n <= out.len() {
-                return decoder::decode_udp(&out[0..n], back, 64);
+                return decoder::decode_udp(&out[0..n], back, wire::DEEPEST);
             }
             Decoded::Waiting
         }

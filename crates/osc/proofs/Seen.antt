@@ -7,7 +7,7 @@ use borrow.Author.Tests.{ne-eqb, ltb-true}
 use lib.Dec.{eqb, ltb}
 use mathlib.Core.Logic.{⊎-elim}
 use Rattle.wire.proofs.Choices.{by-test, by-eq, is-or}
-use Rattle.node.specs.Tags.{classOf, sortOf}
+use Rattle.node.specs.Tags.{messageKind, bundleKind, arrayKind, classOf, sortOf}
 use Rattle.node.specs.Rules.{ownRules}
 use Rattle.node.specs.Records.{kindAt, zerosAt, itemAt, capacity}
 use Rattle.node.specs.declared.record.Item.{Item}
@@ -27,15 +27,16 @@ unfolding valueBy narrowOf bareOf ownRules sortOf classOf
 kind-kept item o =
     let k = item .kind in
     let P : OscType → Type 0 = λ v. kindOf v ≡ k in
-    by-eq P k 47 (λ e. sym e) (λ n47. by-eq P k 35 (λ e. sym e) (λ n35. by-eq P k 115 (λ e. sym e) (λ n115. by-eq P k 98 (λ e. sym e)
+    by-eq P k messageKind (λ e. sym e)
+    (λ n47. by-eq P k bundleKind (λ e. sym e) (λ n35. by-eq P k 115 (λ e. sym e) (λ n115. by-eq P k 98 (λ e. sym e)
     (λ n98. by-eq P k 116 (λ e. sym e) (λ n116. by-eq P k 104 (λ e. sym e) (λ n104. by-eq P k 100 (λ e. sym e)
     (λ n100. by-eq P k 105 (λ e. sym e) (λ n105. by-eq P k 102 (λ e. sym e) (λ n102. by-eq P k 99 (λ e. sym e)
     (λ n99. by-eq P k 114 (λ e. sym e) (λ n114. by-eq P k 109 (λ e. sym e) (λ n109. by-eq P k 84 (λ e. sym e)
     (λ n84. by-eq P k 70 (λ e. sym e) (λ n70. by-eq P k 78 (λ e. sym e) (λ n78. by-eq P k 73 (λ e. sym e)
     (λ n73. ⊎-elim (λ e. sym e) (λ n91. ⊎-elim (λ e. no-way (rw e at o)) (λ n93. no-way (rw (
-      ne-eqb k 35 n35,
-      ne-eqb k 47 n47,
-      ne-eqb k 91 n91,
+      ne-eqb k bundleKind n35,
+      ne-eqb k messageKind n47,
+      ne-eqb k arrayKind n91,
       ne-eqb k 93 n93,
       ne-eqb k 102 n102,
       ne-eqb k 105 n105,
@@ -51,7 +52,7 @@ kind-kept item o =
       ne-eqb k 115 n115,
       ne-eqb k 98 n98,
       ne-eqb k 99 n99,
-    ) at o)) (is-or k 93)) (is-or k 91)))))))))))))))))
+    ) at o)) (is-or k 93)) (is-or k arrayKind)))))))))))))))))
 
 -- what an answer of `look` shows of the record: it exists, and the value has its kind
 abbrev Seen : List ℕ → ℕ → Looked → Type 0

@@ -6,7 +6,7 @@ use Prim.Native.Nat.{ℕ, _^_, _<_}
 use native.Mathlib.Omega.{arith}
 use borrow.Author.Tests.{eqb-true, eqb-false, ltb-true, leb-true}
 use lib.Dec.{eqb, leb, ltb}
-use Rattle.node.specs.Tags.{among, isScalar, classOf, sortOf}
+use Rattle.node.specs.Tags.{arrayKind, among, isScalar, classOf, sortOf}
 use Rattle.node.specs.declared.tags.Class.{Class}
 use Rattle.node.specs.declared.tags.Class.the-variants.{Four, Eight, Bare, Text, Blob, Scalar, Unknown}
 use Rattle.node.specs.declared.tags.Sort.{Sort}
@@ -78,16 +78,16 @@ has-tag k =
 
 -- what the sort of a kind says of it
 abbrev pub HasSort : ℕ → Sort → Type 0
-HasSort k Opens = k ≡ 91
+HasSort k Opens = k ≡ arrayKind
 HasSort k Closes = k ≡ 93
-HasSort k (Leaf class) = (k ≡ 91 → ⊥) × HasTag k class
+HasSort k (Leaf class) = (k ≡ arrayKind → ⊥) × HasTag k class
 
 -- every kind is of its sort, and its tag one of those that OSC 1.0 lists for its class
 pub has-sort : (k : ℕ) → HasSort k (sortOf k)
 unfolding sortOf
 has-sort k =
-    by-test (HasSort k) (eqb k 91) (eqb-true k 91)
-    (λ e. by-test (HasSort k) (eqb k 93) (eqb-true k 93) (λ _. (eqb-false k 91 e, has-tag k)))
+    by-test (HasSort k) (eqb k arrayKind) (eqb-true k arrayKind)
+    (λ e. by-test (HasSort k) (eqb k 93) (eqb-true k 93) (λ _. (eqb-false k arrayKind e, has-tag k)))
 
 -- a scalar number fits 4 bytes
 pub scalar-small : (x : ℕ) → isScalar x ≡ true → x < 256 ^ 4
