@@ -84,7 +84,7 @@ pub fn read_start(input: &[u8], pos: usize) -> Start
 
 // The tags of a type text: its first character is skipped, whatever it is.
 //
-// Ruled out: a type text without a comma rejected; half of a first character of two bytes skipped.
+// Ruled out: a type text without a comma rejected; only a byte of a longer first character skipped.
 pub fn tags_in(types: &[u8]) -> &[u8]
     requires { ⌜ utf8 (now types) ≡ true ⌝ }
     ensures { λ r. ⌜ now r ≡ tagsIn (now (types .entry)) ⌝ }
