@@ -29,7 +29,7 @@ pub prefixed-even : (source : List ℕ) (item : Item) (inside : Forest)
 prefixed-even source item inside =
     let e = packet-even source item inside in
     by-test (λ (bs : List ℕ). length bs % 4 ≡ 0) (eqb (item .kind) messageKind) (λ _. element-even (writePacket source item inside) e)
-        (λ _. e)
+    (λ _. e)
 
 -- an outcome that answers a count answers a multiple of four
 abbrev Even : Outcome → Type 0

@@ -83,7 +83,7 @@ tiles-of t source container lo hi (node item inside rest) s o =
     let i = spans-size t (lo + 1) (endAt t lo) inside (s .1) in
     let r = spans-size t (endAt t lo) hi rest (s .2) in
     step {i = lo} {j = hi} (omega arith) (rw (← s .0) at (o .2)) (omega arith)
-        (tiles-of t source container (endAt t lo) hi rest (s .2) (o .4))
+    (tiles-of t source container (endAt t lo) hi rest (s .2) (o .4))
 
 -- what each record of a row keeps
 record Kept (t source : List ℕ) (hi i : ℕ) : Type 0 where

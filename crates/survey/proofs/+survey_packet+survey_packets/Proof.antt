@@ -116,7 +116,7 @@ pub +survey-packet+survey-packets-spec : {M : Type 1} → statement M
     -- returns-3
     (λ c. let p2 = c .before .before in let p3 = p2 .before in let p4 = p3 .before in (
       (λ h. surveyed-bundle
-      (sym (p4 .kind-at .ensures) ∙ sym (by-keys (λ (k : ℕ). k) bundleKind (bundleKind ∷ []) (refl, tt) _ (p3 .match .keys2)))
+          (sym (p4 .kind-at .ensures) ∙ sym (by-keys (λ (k : ℕ). k) bundleKind (bundleKind ∷ []) (refl, tt) _ (p3 .match .keys2)))
           (p2 .if1 .left) (rw (c .before .field-at .ensures) at (c .survey-packets .ensures .0 (omega (arith, h))))),
       omega (arith, c .survey-packets .ensures .1),
     ))

@@ -79,9 +79,11 @@ pub +deeper-spec : {M : Type 1} → statement M
     let k = c .before .before .before .before in
     let l = k .before .before in
     let w = l .before .before .before .pre .1 in
-    omega
-    (arith, next-on (l .before .loop .inv (w .forest) (w .spans)) (k .kind-at .ensures) (k .before .field-at .ensures)
-    (l .loop-test .taken)))
+    omega (
+      arith,
+      next-on (l .before .loop .inv (w .forest) (w .spans)) (k .kind-at .ensures) (k .before .field-at .ensures)
+          (l .loop-test .taken),
+    ))
     -- loop-again: past a bundle
     (λ c. let p2 = c .before .before in let b = p2 .before in let k = b .before in let l = k .before .before in λ F s.
     passed-bundle (l .before .loop .inv F s) (k .kind-at .ensures) (k .before .field-at .ensures) (l .loop-test .taken)
@@ -91,9 +93,11 @@ pub +deeper-spec : {M : Type 1} → statement M
     let k = c .before in
     let l = k .before .before in
     let w = l .before .before .before .pre .1 in
-    omega
-    (arith, next-on (l .before .loop .inv (w .forest) (w .spans)) (k .kind-at .ensures) (k .before .field-at .ensures)
-    (l .loop-test .taken)))
+    omega (
+      arith,
+      next-on (l .before .loop .inv (w .forest) (w .spans)) (k .kind-at .ensures) (k .before .field-at .ensures)
+          (l .loop-test .taken),
+    ))
     -- loop-again-2: past any other node
     (λ c. λ F s.
     let k = c .before in

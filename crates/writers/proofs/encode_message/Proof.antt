@@ -47,7 +47,7 @@ add-head c =
     let s = p13 in omega (
       arith,
       head-room (s .args .out .now) (s .pre .0) (s .pre .1) (p9 .field-at .ensures) (p8 .item-at .ensures) (p6 .encode-leaf-data .ensures)
-      (p2 .encode-type-tags .ensures),
+          (p2 .encode-type-tags .ensures),
     )
 
 add-encode-arg-data : tie.Need-add-encode-arg-data
@@ -65,7 +65,7 @@ sub-encode-arg-data c =
     let s = p13 in omega (
       arith,
       head-room (s .args .out .now) (s .pre .0) (s .pre .1) (p9 .field-at .ensures) (p8 .item-at .ensures) (p6 .encode-leaf-data .ensures)
-      (p2 .encode-type-tags .ensures),
+          (p2 .encode-type-tags .ensures),
     )
 
 part-encode-arg-data-start : tie.Need-part-encode-arg-data-start
@@ -78,7 +78,7 @@ part-encode-arg-data-start c =
     let s = p13 in omega (
       arith,
       head-room (s .args .out .now) (s .pre .0) (s .pre .1) (p9 .field-at .ensures) (p8 .item-at .ensures) (p6 .encode-leaf-data .ensures)
-      (p2 .encode-type-tags .ensures),
+          (p2 .encode-type-tags .ensures),
     )
 
 encode-arg-data-requires : tie.Need-encode-arg-data-requires
@@ -102,7 +102,7 @@ add-result c =
     let s = p17 in omega (
       arith,
       message-end (s .args .out .now) (s .pre .0) (s .pre .1) (p13 .field-at .ensures) (p12 .item-at .ensures)
-      (p10 .encode-leaf-data .ensures) (p6 .encode-type-tags .ensures) (p2 .encode-arg-data .ensures),
+          (p10 .encode-leaf-data .ensures) (p6 .encode-type-tags .ensures) (p2 .encode-arg-data .ensures),
     )
 
 returns : tie.Need-returns
