@@ -1,4 +1,4 @@
--- The answers of `argOf`, each by the tests that lead to it.
+-- The answers of `readArg`, each by the tests that lead to it.
 use mathlib.Core.Path.{_≡_, ap, sym, _∙_}
 use mathlib.Core.Bool.{true, false}
 use mathlib.Core.List.{List}
@@ -12,10 +12,10 @@ use Rattle.wire.specs.Number.{number}
 use Rattle.node.specs.Tags.{isScalar}
 use Rattle.node.specs.declared.tags.Class.{Class}
 use Rattle.node.specs.declared.tags.Class.the-variants.{Four, Eight, Text as String, Blob, Scalar}
-use Rattle.text.specs.Text.{reach, textOf, faultOf}
+use Rattle.text.specs.Text.{reach, readText, faultOf}
 use Rattle.text.specs.declared.Lack.{Lack}
 use Rattle.text.specs.declared.Text.the-variants.{Found, Lacks}
-use Rattle.argument.specs.Argument.{argOf, having}
+use Rattle.argument.specs.Argument.{readArg, having, argItem}
 use Rattle.argument.specs.declared.Arg.{Arg}
 use Rattle.argument.specs.declared.Arg.the-variants.{Given, Refused}
 
@@ -30,59 +30,73 @@ module _ (l : List ℕ) where
   lacking : (n : ℕ) (x : Arg) → length l < n → having n l x ≡ Refused RunsOut
   lacking n x h = rw (lt-leb n (length l) h)
 
-  module _ (base p : ℕ) where
+  module _ (tag base p : ℕ) where
     -- an answer for the class that a match found
-    pub of-class : {k class : Class} {r : Arg} → class ≡ k → r ≡ argOf k base l p → r ≡ argOf class base l p
-    of-class e f = f ∙ ap (λ (c : Class). argOf c base l p) (sym e)
+    pub of-class : {k class : Class} {r : Arg} → class ≡ k → r ≡ readArg tag k base l p → r ≡ readArg tag class base l p
+    of-class e f = f ∙ ap (λ (c : Class). readArg tag c base l p) (sym e)
 
-    pub four-short : length l < 4 → Refused RunsOut ≡ argOf Four base l p
-    unfolding argOf
-    four-short h = rw (lacking 4 (Given (number 4 l) 0 4) h)
+    -- fewer than 4 bytes are refused
+    pub four-short : length l < 4 → Refused RunsOut ≡ readArg tag Four base l p
+    unfolding readArg
+    four-short h = rw (lacking 4 (Given (argItem tag (number 4 l) 0) 4) h)
 
-    pub four-given : {x : ℕ} → 4 ≤ length l → x ≡ number 4 l → Given x 0 4 ≡ argOf Four base l p
-    unfolding argOf
-    four-given h e = rw (e, there 4 (Given (number 4 l) 0 4) h)
+    -- 4 bytes are the first field
+    pub four-given : {x : ℕ} → 4 ≤ length l → x ≡ number 4 l → Given (argItem tag x 0) 4 ≡ readArg tag Four base l p
+    unfolding readArg
+    four-given h e = rw (e, there 4 (Given (argItem tag (number 4 l) 0) 4) h)
 
-    pub eight-short : length l < 8 → Refused RunsOut ≡ argOf Eight base l p
-    unfolding argOf
-    eight-short h = rw (lacking 8 (Given (number 4 l) (number 4 (drop 4 l)) 8) h)
+    -- fewer than 8 bytes are refused
+    pub eight-short : length l < 8 → Refused RunsOut ≡ readArg tag Eight base l p
+    unfolding readArg
+    eight-short h = rw (lacking 8 (Given (argItem tag (number 4 l) (number 4 (drop 4 l))) 8) h)
 
-    pub eight-given : {x y : ℕ} → 8 ≤ length l → x ≡ number 4 l → y ≡ number 4 (drop 4 l) → Given x y 8 ≡ argOf Eight base l p
-    unfolding argOf
-    eight-given h e f = rw (e, f, there 8 (Given (number 4 l) (number 4 (drop 4 l)) 8) h)
+    -- of 8 bytes the first field is the high half, the second the low half
+    pub eight-given : {x y : ℕ} → 8 ≤ length l → x ≡ number 4 l → y ≡ number 4 (drop 4 l)
+        → Given (argItem tag x y) 8 ≡ readArg tag Eight base l p
+    unfolding readArg
+    eight-given h e f = rw (e, f, there 8 (Given (argItem tag (number 4 l) (number 4 (drop 4 l))) 8) h)
 
-    pub scalar-short : length l < 4 → Refused RunsOut ≡ argOf Scalar base l p
-    unfolding argOf
+    -- fewer than 4 bytes are no scalar number either
+    pub scalar-short : length l < 4 → Refused RunsOut ≡ readArg tag Scalar base l p
+    unfolding readArg
     scalar-short h = rw (lt-leb 4 (length l) h)
 
-    pub scalar-given : {x : ℕ} → 4 ≤ length l → x ≡ number 4 l → isScalar x ≡ true → Given x 0 4 ≡ argOf Scalar base l p
-    unfolding argOf
+    -- 4 bytes that are a scalar number are the first field
+    pub scalar-given : {x : ℕ} → 4 ≤ length l → x ≡ number 4 l → isScalar x ≡ true → Given (argItem tag x 0) 4 ≡ readArg tag Scalar base l p
+    unfolding readArg
     scalar-given h e s = rw (le-leb 4 (length l) h, ← e, s)
 
-    pub not-scalar : {x : ℕ} → 4 ≤ length l → x ≡ number 4 l → isScalar x ≡ false → Refused NotScalar ≡ argOf Scalar base l p
-    unfolding argOf
+    -- 4 bytes that are no scalar number are refused
+    pub not-scalar : {x : ℕ} → 4 ≤ length l → x ≡ number 4 l → isScalar x ≡ false → Refused NotScalar ≡ readArg tag Scalar base l p
+    unfolding readArg
     not-scalar h e s = rw (le-leb 4 (length l) h, ← e, s)
 
-    pub text-given : {n used : ℕ} → Found n used ≡ textOf l p → Given (base + p) n used ≡ argOf String base l p
-    unfolding argOf
+    -- a text that is found gives its range
+    pub text-given : {n used : ℕ} → Found n used ≡ readText l p → Given (argItem tag (base + p) n) used ≡ readArg tag String base l p
+    unfolding readArg
     text-given e = rw (← e)
 
-    pub text-lacks : {lack : Lack} {fault : Fault} → Lacks lack ≡ textOf l p → fault ≡ faultOf lack → Refused fault ≡ argOf String base l p
-    unfolding argOf
+    -- a text that lacks something is refused by what it lacks
+    pub text-lacks : {lack : Lack} {fault : Fault} → Lacks lack ≡ readText l p → fault ≡ faultOf lack
+        → Refused fault ≡ readArg tag String base l p
+    unfolding readArg
     text-lacks e f = rw (f, ← e)
 
-    pub blob-short : length l < 4 → Refused RunsOut ≡ argOf Blob base l p
-    unfolding argOf
+    -- a blob without a size is refused
+    pub blob-short : length l < 4 → Refused RunsOut ≡ readArg tag Blob base l p
+    unfolding readArg
     blob-short h = rw (lt-leb 4 (length l) h)
 
+    -- a blob whose bytes and padding are not all there is refused
     pub blob-lacks : {n : ℕ} → 4 ≤ length l → n ≡ number 4 l → length l < (p + 4 + n + 3) / 4 * 4 - p
-        → Refused RunsOut ≡ argOf Blob base l p
-    unfolding argOf
+        → Refused RunsOut ≡ readArg tag Blob base l p
+    unfolding readArg
     blob-lacks {n} h e k = rw (le-leb 4 (length l) h, ← e, lt-leb (reach p (4 + n)) (length l) (rw reached at k))
 
+    -- a blob that is all there gives its range
     pub blob-given : {n : ℕ} → 4 ≤ length l → n ≡ number 4 l → (p + 4 + n + 3) / 4 * 4 - p ≤ length l
-        → Given (base + p + 4) n ((p + 4 + n + 3) / 4 * 4 - p) ≡ argOf Blob base l p
-    unfolding argOf
+        → Given (argItem tag (base + p + 4) n) ((p + 4 + n + 3) / 4 * 4 - p) ≡ readArg tag Blob base l p
+    unfolding readArg
     blob-given {n} h e k =
         let s : base + p + 4 ≡ base + (p + 4) = omega arith in
         rw (le-leb 4 (length l) h, ← e, le-leb (reach p (4 + n)) (length l) (rw reached at k), reached p n, s)

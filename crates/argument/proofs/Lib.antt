@@ -1,2 +1,4 @@
 pub mod Argued
+pub mod Classes
+pub mod Only
 pub mod Within

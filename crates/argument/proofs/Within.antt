@@ -12,61 +12,76 @@ use Rattle.text.proofs.Within.{found-in}
 use Rattle.wire.proofs.Numbers.{number-small}
 use Rattle.wire.proofs.Parts.{drop-small}
 use Rattle.node.specs.Tags.{isScalar}
+use Rattle.node.specs.declared.record.Item.{Item}
 use Rattle.node.specs.declared.tags.Class.{Class}
 use Rattle.node.specs.declared.tags.Class.the-variants.{Four, Eight, Bare, Text as String, Blob, Scalar, Unknown}
-use Rattle.text.specs.Text.{reach, textOf}
+use Rattle.text.specs.Text.{reach, readText}
 use Rattle.text.specs.declared.Text.{Text}
 use Rattle.text.specs.declared.Text.the-variants.{Found, Lacks}
-use Rattle.argument.specs.Argument.{argOf, having, textArg}
+use Rattle.argument.specs.Argument.{readArg, having, textArg, argItem}
 use Rattle.argument.specs.declared.Arg.{Arg}
 use Rattle.argument.specs.declared.Arg.the-variants.{Given, Refused}
 
--- ---- what holds of the fields and of the bytes used
+-- ---- what holds of the numbers and of the bytes used
 
-abbrev pub Holds : (ℕ → ℕ → ℕ → Type 0) → Arg → Type 0
-Holds P (Given a b used) = P a b used
+-- P holds of what is given; of a refusal nothing is said
+abbrev pub Holds : (Item → ℕ → Type 0) → Arg → Type 0
+Holds P (Given item used) = P item used
 Holds P (Refused k) = Unit {0}
 
-module _ (P : ℕ → ℕ → ℕ → Type 0) where
+module _ (P : Item → ℕ → Type 0) where
   -- of an argument that is read only if n bytes are there
   if-there : (n : ℕ) (l : List ℕ) (x : Arg) → (n ≤ length l → Holds P x) → Holds P (having n l x)
   if-there n l x f = by-test (Holds P) (leb n (length l)) (λ h. f (leb-true n (length l) h)) (λ _. tt)
 
-  of-text : (offset : ℕ) (t : Text) → ((n used : ℕ) → Found n used ≡ t → P offset n used) → Holds P (textArg offset t)
-  of-text offset (Found n used) f = f n used refl
-  of-text offset (Lacks k) f = tt
+  -- of a text, if it holds of each that is found
+  of-text : (tag offset : ℕ) (t : Text) → ((n used : ℕ) → Found n used ≡ t → P (argItem tag offset n) used) → Holds P (textArg tag offset t)
+  of-text tag offset (Found n used) f = f n used refl
+  of-text tag offset (Lacks k) f = tt
 
   -- five cases are enough for all classes
-  module _ (base : ℕ) (l : List ℕ) (p : ℕ)
-      (four : 4 ≤ length l → P (number 4 l) 0 4)
-      (eight : 8 ≤ length l → P (number 4 l) (number 4 (drop 4 l)) 8)
-      (bare : P 0 0 0)
-      (string : (n used : ℕ) → Found n used ≡ textOf l p → P (base + p) n used)
-      (blob : 4 ≤ length l → reach p (4 + number 4 l) ≤ length l → P (base + (p + 4)) (number 4 l) (reach p (4 + number 4 l))) where
-    pub arg-holds : (class : Class) → Holds P (argOf class base l p)
-    unfolding argOf
+  module _ (tag base : ℕ) (l : List ℕ) (p : ℕ)
+      (four : 4 ≤ length l → P (argItem tag (number 4 l) 0) 4)
+      (eight : 8 ≤ length l → P (argItem tag (number 4 l) (number 4 (drop 4 l))) 8)
+      (bare : P (argItem tag 0 0) 0)
+      (string : (n used : ℕ) → Found n used ≡ readText l p → P (argItem tag (base + p) n) used)
+      (blob : 4 ≤ length l → reach p (4 + number 4 l) ≤ length l
+      → P (argItem tag (base + (p + 4)) (number 4 l)) (reach p (4 + number 4 l))) where
+    -- P holds of each argument, if it does of those five
+    pub arg-holds : (class : Class) → Holds P (readArg tag class base l p)
+    unfolding readArg
     arg-holds Four = if-there 4 l _ four
     arg-holds Eight = if-there 8 l _ eight
     arg-holds Bare = bare
-    arg-holds String = of-text (base + p) (textOf l p) string
+    arg-holds String = of-text tag (base + p) (readText l p) string
     arg-holds Blob = if-there 4 l _ (λ h. if-there (reach p (4 + number 4 l)) l _ (blob h))
     arg-holds Scalar = if-there 4 l _ (λ h. by-test (Holds P) (isScalar (number 4 l)) (λ _. four h) (λ _. tt))
     arg-holds Unknown = tt
 
--- an argument lies in its part
-pub given-within : {a b used : ℕ} (class : Class) (base : ℕ) (l : List ℕ) (p : ℕ) → Given a b used ≡ argOf class base l p → used ≤ length l
-given-within class base l p e =
-    subst (Holds (λ a b used. used ≤ length l)) (sym e)
-    (arg-holds (λ a b used. used ≤ length l) base l p (λ h. h) (λ h. h) (omega arith) (λ n used f. found-in l p f .1) (λ h k. k) class)
+-- an argument's data lies in its part
+pub arg-within : (tag : ℕ) (class : Class) (base : ℕ) (l : List ℕ) (p : ℕ)
+    → Holds (λ item used. used ≤ length l) (readArg tag class base l p)
+arg-within tag class base l p =
+    arg-holds (λ item used. used ≤ length l) tag base l p (λ h. h) (λ h. h) (omega arith) (λ n used f. found-in l p f .1) (λ h k. k) class
 
--- its fields fit in 4 bytes
-pub given-fits : {a b used : ℕ} (class : Class) (base : ℕ) (l : List ℕ) (p : ℕ) → ((j : ℕ) → getD l j 0 < 256)
-    → base + p + length l < 256 ^ 4
-    → Given a b used ≡ argOf class base l p → (a < 256 ^ 4) × (b < 256 ^ 4)
-given-fits class base l p bytes low e =
-    let P : ℕ → ℕ → ℕ → Type 0 = λ a b used. (a < 256 ^ 4) × (b < 256 ^ 4) in
-    let n : number 4 l < 256 ^ 4 = number-small 4 l bytes in
-    let m : number 4 (drop 4 l) < 256 ^ 4 = number-small 4 (drop 4 l) (drop-small 4 l bytes) in
-    subst (Holds P) (sym e)
-    (arg-holds P base l p (λ h. (n, omega arith)) (λ h. (n, m)) (omega arith, omega arith)
-    (λ k used f. (omega arith, omega (arith, found-in l p f))) (λ h k. (omega arith, n)) class)
+module _ {item : Item} {used : ℕ} (tag : ℕ) (class : Class) (base : ℕ) (l : List ℕ) (p : ℕ)
+    (e : Given item used ≡ readArg tag class base l p) where
+  -- so does one that is given
+  pub given-within : used ≤ length l
+  given-within = subst (Holds (λ item used. used ≤ length l)) (sym e) (arg-within tag class base l p)
+
+  -- its kind is its tag
+  pub given-kind : item .kind ≡ tag
+  given-kind =
+      subst (Holds (λ item used. item .kind ≡ tag)) (sym e)
+      (arg-holds (λ item used. item .kind ≡ tag) tag base l p (λ h. refl) (λ h. refl) refl (λ n used f. refl) (λ h k. refl) class)
+
+  -- its fields fit in 4 bytes
+  pub given-fits : ((j : ℕ) → getD l j 0 < 256) → base + p + length l < 256 ^ 4 → (item .a < 256 ^ 4) × (item .b < 256 ^ 4)
+  given-fits bytes low =
+      let P : Item → ℕ → Type 0 = λ item used. (item .a < 256 ^ 4) × (item .b < 256 ^ 4) in
+      let n : number 4 l < 256 ^ 4 = number-small 4 l bytes in
+      let m : number 4 (drop 4 l) < 256 ^ 4 = number-small 4 (drop 4 l) (drop-small 4 l bytes) in
+      subst (Holds P) (sym e)
+      (arg-holds P tag base l p (λ h. (n, omega arith)) (λ h. (n, m)) (omega arith, omega arith)
+      (λ k used f. (omega arith, omega (arith, found-in l p f))) (λ h k. (omega arith, n)) class)

@@ -8,29 +8,35 @@ use lib.ListN.{length, drop}
 use Rattle.refusal.specs.declared.Fault.the-variants.{RunsOut, UnknownTag, NotScalar}
 use Rattle.wire.specs.Number.{number}
 use Rattle.node.specs.Tags.{isScalar}
+use Rattle.node.specs.declared.record.Item.{Item}
 use Rattle.node.specs.declared.tags.Class.{Class}
 use Rattle.node.specs.declared.tags.Class.the-variants.{Four, Eight, Bare, Text as String, Blob, Scalar, Unknown}
-use Rattle.text.specs.Text.{reach, textOf, faultOf}
+use Rattle.text.specs.Text.{reach, readText, faultOf}
 use Rattle.text.specs.declared.Text.{Text}
 use Rattle.text.specs.declared.Text.the-variants.{Found, Lacks}
 use Rattle.argument.specs.declared.Arg.{Arg}
 use Rattle.argument.specs.declared.Arg.the-variants.{Given, Refused}
+
+-- an argument's own numbers: its kind is its tag
+abbrev pub argItem : ℕ → ℕ → ℕ → Item
+argItem tag a b = record { kind = tag; a = a; b = b }
 
 -- n bytes are there, or the field runs past them (refusal 3)
 abbrev pub having : ℕ → List ℕ → Arg → Arg
 having n l x = cond (leb n (length l)) x (Refused RunsOut)
 
 -- a text is a range: its offset and its length
-abbrev pub textArg : ℕ → Text → Arg
-textArg offset (Found n used) = Given offset n used
-textArg offset (Lacks lack) = Refused (faultOf lack)
+abbrev pub textArg : ℕ → ℕ → Text → Arg
+textArg tag offset (Found n used) = Given (argItem tag offset n) used
+textArg tag offset (Lacks lack) = Refused (faultOf lack)
 
 -- the data of one argument, one class to a line ("Data: big-endian. b is a 4-byte size, the bytes, then padding as for text")
-unfoldable pub argOf : Class → ℕ → List ℕ → ℕ → Arg
-argOf Four base l p = having 4 l (Given (number 4 l) 0 4)
-argOf Eight base l p = having 8 l (Given (number 4 l) (number 4 (drop 4 l)) 8)
-argOf Bare base l p = Given 0 0 0
-argOf String base l p = textArg (base + p) (textOf l p)
-argOf Blob base l p = having 4 l (having (reach p (4 + number 4 l)) l (Given (base + (p + 4)) (number 4 l) (reach p (4 + number 4 l))))
-argOf Scalar base l p = having 4 l (cond (isScalar (number 4 l)) (Given (number 4 l) 0 4) (Refused NotScalar))
-argOf Unknown base l p = Refused UnknownTag
+unfoldable pub readArg : ℕ → Class → ℕ → List ℕ → ℕ → Arg
+readArg tag Four base l p = having 4 l (Given (argItem tag (number 4 l) 0) 4)
+readArg tag Eight base l p = having 8 l (Given (argItem tag (number 4 l) (number 4 (drop 4 l))) 8)
+readArg tag Bare base l p = Given (argItem tag 0 0) 0
+readArg tag String base l p = textArg tag (base + p) (readText l p)
+readArg tag Blob base l p =
+    having 4 l (having (reach p (4 + number 4 l)) l (Given (argItem tag (base + (p + 4)) (number 4 l)) (reach p (4 + number 4 l))))
+readArg tag Scalar base l p = having 4 l (cond (isScalar (number 4 l)) (Given (argItem tag (number 4 l) 0) 4) (Refused NotScalar))
+readArg tag Unknown base l p = Refused UnknownTag

@@ -1,4 +1,5 @@
 // The data of one argument, one function to each class of data. Bytes that are missing are `RunsOut`.
+use node::record::Item;
 use node::tags::Class;
 use refusal::Fault;
 use text::Text;
@@ -6,67 +7,95 @@ use wire::be_u32;
 ghost use mathlib.Core.Path.{_≡_};
 ghost use Prim.Native.Nat.{ℕ, _+_, _≤_};
 ghost use lib.ListN.{length};
+ghost use Rattle.wire.specs.Limits.{longest};
 ghost use Rattle.node.specs.declared.tags.Class.the-variants as class;
-ghost use Rattle.argument.specs.Argument.{argOf};
+ghost use Rattle.argument.specs.Argument.{readArg};
+ghost use Rattle.argument.specs.CodeClasses.{Checked};
 
 // What reading one argument gives.
 pub enum Arg {
-    // The two fields of its record, and how many bytes of data it takes.
-    Given { a: u32, b: u32, used: usize },
+    // Its own numbers, and how many bytes of data it takes.
+    Given { item: Item, used: usize },
     Refused(Fault),
 }
 
-// The data of one argument at the front of `input`, whose first byte stands at `pos` of its frame: padding counts from there.
-// An offset is `base` more than a position.
+// The data of one argument of this tag and class at the front of `input`, whose first byte stands at `pos` of its frame: padding
+// counts from there. An offset is `base` more than a position.
 //
-// Ruled out: the offset of a blob's size, in place of its bytes; a surrogate as a 'c'.
-pub fn read_osc_arg(class: Class, input: &[u8], base: usize, pos: usize) -> Arg
-    requires { ⌜ base + pos + length (now input) ≤ 65535 ⌝ }
-    ensures { λ r. ⌜ r ≡ argOf class base (now (input .entry)) pos ⌝ }
+// Ruled out: the high half of 8 bytes in both fields; an argument without data that takes bytes.
+pub fn read_osc_arg(tag: u8, class: Class, input: &[u8], base: usize, pos: usize) -> Arg
+    requires { ⌜ base + pos + length (now input) ≤ longest ⌝ }
+    ensures { λ r. ⌜ r ≡ readArg tag class base (now (input .entry)) pos ⌝ }
 {
     match class {
-        Class::Four => read_four(input),
-        Class::Eight => read_eight(input),
+        Class::Four => read_four(tag, input),
+        Class::Eight => read_eight(tag, input),
         Class::Bare => Arg::Given {
-            a: 0,
-            b: 0,
+            item: Item {
+                kind: tag,
+                a: 0,
+                b: 0,
+            },
             used: 0,
         },
-        _ => read_rare(class, input, base, pos),
+        _ => read_checked(tag, class, input, base, pos),
+    }
+}
+
+// The same for the classes that are left, whose data is more than bytes as they are. Apart, so that the common classes are short
+// enough to be compiled into the loops that read arguments: with one function for all, a decode of numbers took twice the time.
+//
+// Ruled out: the offset of a blob's size, in place of its bytes; a surrogate as a 'c'.
+pub fn read_checked(tag: u8, class: Class, input: &[u8], base: usize, pos: usize) -> Arg
+    requires { ⌜ base + pos + length (now input) ≤ longest ⌝ }
+    requires { ⌜ Checked class ⌝ }
+    ensures { λ r. ⌜ r ≡ readArg tag class base (now (input .entry)) pos ⌝ }
+{
+    match class {
+        Class::Text => read_text(tag, input, base, pos),
+        Class::Blob => read_blob(tag, input, base, pos),
+        Class::Scalar => read_char(tag, input),
+        _ => Arg::Refused(Fault::UnknownTag),
     }
 }
 
 // 4 bytes as they are ('i', 'f', 'r', 'm'), wherever they stand.
-pub fn read_four(input: &[u8]) -> Arg
-    ensures { λ r. ⌜ ((base pos : ℕ) → r ≡ argOf class.Four base (now (input .entry)) pos) ⌝ }
+fn read_four(tag: u8, input: &[u8]) -> Arg
+    ensures { λ r. ⌜ ((base pos : ℕ) → r ≡ readArg tag class.Four base (now (input .entry)) pos) ⌝ }
 {
     if input.len() < 4 {
         return Arg::Refused(Fault::RunsOut);
     }
     Arg::Given {
-        a: be_u32(input, 0),
-        b: 0,
+        item: Item {
+            kind: tag,
+            a: be_u32(input, 0),
+            b: 0,
+        },
         used: 4,
     }
 }
 
 // 8 bytes as they are ('h', 'd', 't'), wherever they stand.
-pub fn read_eight(input: &[u8]) -> Arg
-    ensures { λ r. ⌜ ((base pos : ℕ) → r ≡ argOf class.Eight base (now (input .entry)) pos) ⌝ }
+fn read_eight(tag: u8, input: &[u8]) -> Arg
+    ensures { λ r. ⌜ ((base pos : ℕ) → r ≡ readArg tag class.Eight base (now (input .entry)) pos) ⌝ }
 {
     if input.len() < 8 {
         return Arg::Refused(Fault::RunsOut);
     }
     Arg::Given {
-        a: be_u32(input, 0),
-        b: be_u32(input, 4),
+        item: Item {
+            kind: tag,
+            a: be_u32(input, 0),
+            b: be_u32(input, 4),
+        },
         used: 8,
     }
 }
 
 // A scalar number ('c'), wherever it stands.
-pub fn read_char(input: &[u8]) -> Arg
-    ensures { λ r. ⌜ ((base pos : ℕ) → r ≡ argOf class.Scalar base (now (input .entry)) pos) ⌝ }
+fn read_char(tag: u8, input: &[u8]) -> Arg
+    ensures { λ r. ⌜ ((base pos : ℕ) → r ≡ readArg tag class.Scalar base (now (input .entry)) pos) ⌝ }
 {
     if input.len() < 4 {
         return Arg::Refused(Fault::RunsOut);
@@ -74,8 +103,11 @@ pub fn read_char(input: &[u8]) -> Arg
     let scalar = be_u32(input, 0);
     if node::tags::is_scalar(scalar) {
         return Arg::Given {
-            a: scalar,
-            b: 0,
+            item: Item {
+                kind: tag,
+                a: scalar,
+                b: 0,
+            },
             used: 4,
         };
     }
@@ -83,14 +115,17 @@ pub fn read_char(input: &[u8]) -> Arg
 }
 
 // A text ('s'): the range of its bytes.
-pub fn read_text(input: &[u8], base: usize, pos: usize) -> Arg
-    requires { ⌜ base + pos + length (now input) ≤ 65535 ⌝ }
-    ensures { λ r. ⌜ r ≡ argOf class.Text base (now (input .entry)) pos ⌝ }
+fn read_text(tag: u8, input: &[u8], base: usize, pos: usize) -> Arg
+    requires { ⌜ base + pos + length (now input) ≤ longest ⌝ }
+    ensures { λ r. ⌜ r ≡ readArg tag class.Text base (now (input .entry)) pos ⌝ }
 {
     match text::read_osc_string(input, pos) {
         Text::Found { length, used } => Arg::Given {
-            a: (base + pos) as u32,
-            b: length as u32,
+            item: Item {
+                kind: tag,
+                a: (base + pos) as u32,
+                b: length as u32,
+            },
             used,
         },
         Text::Lacks(lack) => Arg::Refused(text::fault_of(lack)),
@@ -98,9 +133,9 @@ pub fn read_text(input: &[u8], base: usize, pos: usize) -> Arg
 }
 
 // A size and so many bytes ('b'): the range of the bytes. A size is below 2^32, so no sum of 64 bits wraps.
-pub fn read_blob(input: &[u8], base: usize, pos: usize) -> Arg
-    requires { ⌜ base + pos + length (now input) ≤ 65535 ⌝ }
-    ensures { λ r. ⌜ r ≡ argOf class.Blob base (now (input .entry)) pos ⌝ }
+fn read_blob(tag: u8, input: &[u8], base: usize, pos: usize) -> Arg
+    requires { ⌜ base + pos + length (now input) ≤ longest ⌝ }
+    ensures { λ r. ⌜ r ≡ readArg tag class.Blob base (now (input .entry)) pos ⌝ }
 {
     if input.len() < 4 {
         return Arg::Refused(Fault::RunsOut);
@@ -111,28 +146,11 @@ pub fn read_blob(input: &[u8], base: usize, pos: usize) -> Arg
         return Arg::Refused(Fault::RunsOut);
     }
     Arg::Given {
-        a: (base + pos + 4) as u32,
-        b: size,
-        used,
-    }
-}
-
-// The data of one argument, of whatever class: the readers call it for the classes that they do not read themselves.
-pub fn read_rare(class: Class, input: &[u8], base: usize, pos: usize) -> Arg
-    requires { ⌜ base + pos + length (now input) ≤ 65535 ⌝ }
-    ensures { λ r. ⌜ r ≡ argOf class base (now (input .entry)) pos ⌝ }
-{
-    match class {
-        Class::Four => read_four(input),
-        Class::Eight => read_eight(input),
-        Class::Bare => Arg::Given {
-            a: 0,
-            b: 0,
-            used: 0,
+        item: Item {
+            kind: tag,
+            a: (base + pos + 4) as u32,
+            b: size,
         },
-        Class::Text => read_text(input, base, pos),
-        Class::Blob => read_blob(input, base, pos),
-        Class::Scalar => read_char(input),
-        Class::Unknown => Arg::Refused(Fault::UnknownTag),
+        used,
     }
 }

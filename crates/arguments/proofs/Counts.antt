@@ -1,4 +1,4 @@
--- The scans answer as `argsOf` does: the bytes used and the fault from the forward scan, the count of records from the backward one.
+-- The scans answer as `readArgs` does: the bytes used and the fault from the forward scan, the count of records from the backward one.
 use mathlib.Core.Path.{_≡_, refl, ap, sym, _∙_, subst}
 use Prim.Native.Nat.{ℕ, zero, suc, _+_, _*_, _≤_}
 use mathlib.Core.List.{List, [], _∷_}
@@ -6,25 +6,26 @@ use native.Mathlib.Omega.{arith}
 use lib.ListN.{length, drop, length-drop}
 use Rattle.refusal.specs.declared.Fault.{Fault}
 use Rattle.node.specs.Forest.{Forest, nil, size, snoc}
-use Rattle.node.specs.Records.{recordSize}
+use Rattle.node.specs.Records.{recordSize, mostRecords}
 use Rattle.node.specs.Tags.{sortOf}
+use Rattle.node.specs.declared.record.Item.{Item}
 use Rattle.node.specs.declared.tags.Class.{Class}
 use Rattle.node.specs.declared.tags.Sort.{Sort}
 use Rattle.node.specs.declared.tags.Sort.the-variants.{Opens, Closes, Leaf}
 use Rattle.node.proofs.Forests.{size-snoc}
-use Rattle.argument.specs.Argument.{argOf}
-use Rattle.arguments.specs.Arguments.{Args, refused, args, later, taken, act, readArgs, argsOf}
-use Rattle.arguments.specs.Readings.{measured, keptOf, Room}
-use Rattle.scan.specs.Scans.{usedOf, more, passed, turn, scan, before, back}
+use Rattle.argument.specs.Argument.{readArg}
+use Rattle.arguments.specs.Arguments.{Args, refused, args, later, argTaken, Open, waits, arrayItem, act, readTags, readArgs}
+use Rattle.arguments.specs.CodeReadings.{measured, keptOf, ArgsRoom}
+use Rattle.scan.specs.CodeScans.{usedOf, moreUsed, argPassed, turn, scan, tagBefore, back}
 use Rattle.argument.specs.declared.Arg.{Arg}
 use Rattle.argument.specs.declared.Arg.the-variants as arg
 use Rattle.arguments.specs.declared.Measured.the-variants as measure
 use Rattle.scan.specs.declared.Scanned.{Scanned}
 use Rattle.scan.specs.declared.Scanned.the-variants.{Used, Refused}
 use Rattle.scan.specs.declared.Back.{Back}
-use Rattle.scan.specs.declared.Back.the-variants.{Whole, Cut}
+use Rattle.scan.specs.declared.Back.the-variants.{Uncut, Cut}
 use Rattle.argument.proofs.Within.{given-within}
-use Rattle.scan.proofs.Within.{any-base}
+use Rattle.scan.proofs.Passed.{any-base}
 
 -- ---- the forward scan
 
@@ -33,48 +34,49 @@ abbrev outcome : Args → Scanned
 outcome (refused fault) = Refused fault
 outcome (args kept used) = Used used
 
-outcome-later : (n : ℕ) (o : Args) → outcome (later n o) ≡ more n (outcome o)
+outcome-later : (n : ℕ) (o : Args) → outcome (later n o) ≡ moreUsed n (outcome o)
 outcome-later n (refused fault) = refl
 outcome-later n (args kept used) = refl
 
-outcome-taken : (go : List ℕ → ℕ → Forest → Args) (goS : List ℕ → ℕ → Scanned) (tag : ℕ) (l : List ℕ) (p : ℕ) (frame : Forest) (x : Arg)
-    → ((m : List ℕ) (q : ℕ) (f : Forest) → outcome (go m q f) ≡ goS m q) → outcome (taken go tag l p frame x) ≡ passed goS l p (usedOf x)
-outcome-taken go goS tag l p frame (arg.Refused fault) h = refl
-outcome-taken go goS tag l p frame (arg.Given a b used) h =
-    let f = snoc frame tag a b nil in
-    outcome-later used (go (drop used l) (p + used) f) ∙ ap (more used) (h (drop used l) (p + used) f)
+outcome-taken : (go : List ℕ → ℕ → Forest → Args) (goS : List ℕ → ℕ → Scanned) (l : List ℕ) (p : ℕ) (frame : Forest) (x : Arg)
+    → ((m : List ℕ) (q : ℕ) (f : Forest) → outcome (go m q f) ≡ goS m q) → outcome (argTaken go l p frame x) ≡ argPassed goS l p (usedOf x)
+outcome-taken go goS l p frame (arg.Refused fault) h = refl
+outcome-taken go goS l p frame (arg.Given item used) h =
+    let f = snoc frame item nil in
+    outcome-later used (go (drop used l) (p + used) f) ∙ ap (moreUsed used) (h (drop used l) (p + used) f)
 
-outcome-act : (s : Sort) (go : List ℕ → ℕ → Forest → List Forest → Args) (goS : List ℕ → ℕ → ℕ → Scanned) (base tag : ℕ) (l : List ℕ)
+outcome-act : (s : Sort) (go : List ℕ → ℕ → Forest → List Open → Args) (goS : List ℕ → ℕ → ℕ → Scanned) (base tag : ℕ) (l : List ℕ)
     (p : ℕ)
-    (frame : Forest) (below : List Forest)
-    → ((m : List ℕ) (q : ℕ) (f : Forest) (b : List Forest) → outcome (go m q f b) ≡ goS m q (length b))
-    → outcome (act s go base tag l p frame below) ≡ turn s goS l p (length below)
-outcome-act Opens go goS base tag l p frame below h = h l p nil (frame ∷ below)
+    (frame : Forest) (below : List Open)
+    → ((m : List ℕ) (q : ℕ) (f : Forest) (b : List Open) → outcome (go m q f b) ≡ goS m q (length b))
+    → outcome (act s go base tag l p frame below) ≡ turn s goS tag l p (length below)
+outcome-act Opens go goS base tag l p frame below h = h l p nil (waits frame arrayItem ∷ below)
 outcome-act Closes go goS base tag l p frame [] h = refl
-outcome-act Closes go goS base tag l p frame (outer ∷ below) h = h l p _ below
+outcome-act Closes go goS base tag l p frame (waits outer item ∷ below) h = h l p _ below
 outcome-act (Leaf class) go goS base tag l p frame below h =
-    outcome-taken _ _ tag l p frame (argOf class base l p) (λ m q f. h m q f below)
-    ∙ ap (passed (λ m q. goS m q (length below)) l p) (any-base class base 0 l p)
+    outcome-taken _ _ l p frame (readArg tag class base l p) (λ m q f. h m q f below)
+    ∙ ap (argPassed (λ m q. goS m q (length below)) l p) (any-base tag class base 0 l p)
 
-scan-law : (base : ℕ) (ts l : List ℕ) (p : ℕ) (frame : Forest) (below : List Forest)
-    → outcome (readArgs base ts l p frame below) ≡ scan ts l p (length below)
-unfolding readArgs scan
+scan-law : (base : ℕ) (ts l : List ℕ) (p : ℕ) (frame : Forest) (below : List Open)
+    → outcome (readTags base ts l p frame below) ≡ scan ts l p (length below)
+unfolding readTags scan
 scan-law base [] l p frame below = refl
 scan-law base (t ∷ ts) l p frame below = outcome-act (sortOf t) _ _ base t l p frame below (λ m q f b. scan-law base ts m q f b)
 
 -- ---- the backward scan
 
--- so many records the first n frames give, with the array's own each
-abbrev waiting : ℕ → List Forest → ℕ
+-- so many records the first n frames give, with the array's own each; the second line is never met, by `deep-law`
+abbrev waiting : ℕ → List Open → ℕ
 waiting zero b = 0
 waiting (suc n) [] = 0
-waiting (suc n) (f ∷ b) = 1 + size f + waiting n b
+waiting (suc n) (waits f item ∷ b) = 1 + size f + waiting n b
 
 -- so many records are kept, where k is what later tags give, f the frame and b what waits below it
-abbrev total : Back → Forest → List Forest → ℕ
+abbrev total : Back → Forest → List Open → ℕ
 total (Cut n c) f b = c
-total (Whole n c) f b = c + size f + waiting n b
+total (Uncut n c) f b = c + size f + waiting n b
 
+-- n records are kept, unless the arguments are refused
 abbrev pub Counts : ℕ → Args → Type 0
 Counts n (refused fault) = Unit {0}
 Counts n (args kept used) = size kept ≡ n
@@ -83,74 +85,78 @@ counts-later : (n used : ℕ) (o : Args) → Counts n o → Counts n (later used
 counts-later n used (refused fault) w = tt
 counts-later n used (args kept used′) w = w
 
-total-opens : (k : Back) (f : Forest) (b : List Forest) → total k nil (f ∷ b) ≡ total (before Opens k) f b
+total-opens : (k : Back) (f : Forest) (item : Item) (b : List Open) → total k nil (waits f item ∷ b) ≡ total (tagBefore Opens k) f b
 unfolding size
-total-opens (Cut n c) f b = refl
-total-opens (Whole zero c) f b = omega arith
-total-opens (Whole (suc n) c) f b = omega arith
+total-opens (Cut n c) f item b = refl
+total-opens (Uncut zero c) f item b = omega arith
+total-opens (Uncut (suc n) c) f item b = omega arith
 
-total-closes : (k : Back) (f g : Forest) (b : List Forest) → total k (snoc g 91 0 0 f) b ≡ total (before Closes k) f (g ∷ b)
-total-closes (Cut n c) f g b = refl
-total-closes (Whole n c) f g b = omega (arith, size-snoc g 91 0 0 f)
+total-closes : (k : Back) (f g : Forest) (item : Item) (b : List Open)
+    → total k (snoc g item f) b ≡ total (tagBefore Closes k) f (waits g item ∷ b)
+total-closes (Cut n c) f g item b = refl
+total-closes (Uncut n c) f g item b = omega (arith, size-snoc g item f)
 
-total-leaf : (class : Class) (k : Back) (f : Forest) (b : List Forest) (j x y : ℕ)
-    → total k (snoc f j x y nil) b ≡ total (before (Leaf class) k) f b
+total-leaf : (class : Class) (k : Back) (f : Forest) (b : List Open) (item : Item)
+    → total k (snoc f item nil) b ≡ total (tagBefore (Leaf class) k) f b
 unfolding size
-total-leaf class (Cut n c) f b j x y = refl
-total-leaf class (Whole n c) f b j x y = omega (arith, size-snoc f j x y nil)
+total-leaf class (Cut n c) f b item = refl
+total-leaf class (Uncut n c) f b item = omega (arith, size-snoc f item nil)
 
-counts-act : (s : Sort) (k : Back) (go : List ℕ → ℕ → Forest → List Forest → Args) (base tag : ℕ) (l : List ℕ) (p : ℕ) (frame : Forest)
-    (below : List Forest)
-    → ((m : List ℕ) (q : ℕ) (f : Forest) (b : List Forest) → Counts (total k f b) (go m q f b))
-    → Counts (total (before s k) frame below) (act s go base tag l p frame below)
-counts-act Opens k go base tag l p frame below h = rw (total-opens k frame below) at (h l p nil (frame ∷ below))
+counts-act : (s : Sort) (k : Back) (go : List ℕ → ℕ → Forest → List Open → Args) (base tag : ℕ) (l : List ℕ) (p : ℕ) (frame : Forest)
+    (below : List Open)
+    → ((m : List ℕ) (q : ℕ) (f : Forest) (b : List Open) → Counts (total k f b) (go m q f b))
+    → Counts (total (tagBefore s k) frame below) (act s go base tag l p frame below)
+counts-act Opens k go base tag l p frame below h = rw (total-opens k frame arrayItem below) at (h l p nil (waits frame arrayItem ∷ below))
 counts-act Closes k go base tag l p frame [] h = tt
-counts-act Closes k go base tag l p frame (outer ∷ below) h =
-    rw (total-closes k frame outer below) at (h l p (snoc outer 91 0 0 frame) below)
-counts-act (Leaf class) k go base tag l p frame below h = by-arg (argOf class base l p)
+counts-act Closes k go base tag l p frame (waits outer item ∷ below) h =
+    rw (total-closes k frame outer item below) at (h l p (snoc outer item frame) below)
+counts-act (Leaf class) k go base tag l p frame below h = by-arg (readArg tag class base l p)
   where
-    by-arg : (x : Arg) → Counts (total (before (Leaf class) k) frame below) (taken (λ m q f. go m q f below) tag l p frame x)
+    by-arg : (x : Arg) → Counts (total (tagBefore (Leaf class) k) frame below) (argTaken (λ m q f. go m q f below) l p frame x)
     by-arg (arg.Refused fault) = tt
-    by-arg (arg.Given a b used) =
-        counts-later (total (before (Leaf class) k) frame below) used (go (drop used l) (p + used) (snoc frame tag a b nil) below)
-        (rw (total-leaf class k frame below tag a b) at (h (drop used l) (p + used) (snoc frame tag a b nil) below))
+    by-arg (arg.Given item used) =
+        counts-later (total (tagBefore (Leaf class) k) frame below) used (go (drop used l) (p + used) (snoc frame item nil) below)
+        (rw (total-leaf class k frame below item) at (h (drop used l) (p + used) (snoc frame item nil) below))
 
-counts-law : (base : ℕ) (ts l : List ℕ) (p : ℕ) (frame : Forest) (below : List Forest)
-    → Counts (total (back ts) frame below) (readArgs base ts l p frame below)
-unfolding readArgs back
+counts-law : (base : ℕ) (ts l : List ℕ) (p : ℕ) (frame : Forest) (below : List Open)
+    → Counts (total (back ts) frame below) (readTags base ts l p frame below)
+unfolding readTags back
 counts-law base [] l p frame below = omega arith
 counts-law base (t ∷ ts) l p frame below = counts-act (sortOf t) (back ts) _ base t l p frame below (λ m q f b. counts-law base ts m q f b)
 
 -- how many records are kept, if nothing is read yet
 abbrev pub counted : Back → ℕ
-counted (Whole n c) = c
+counted (Uncut n c) = c
 counted (Cut n c) = c
 
 total-none : (k : Back) → total k nil [] ≡ counted k
 unfolding size
 total-none (Cut n c) = refl
-total-none (Whole zero c) = omega arith
-total-none (Whole (suc n) c) = omega arith
+total-none (Uncut zero c) = omega arith
+total-none (Uncut (suc n) c) = omega arith
 
-pub args-counted : (base : ℕ) (ts l : List ℕ) (p : ℕ) → Counts (counted (back ts)) (argsOf base ts l p)
+-- the backward scan counts the records that are kept
+pub args-counted : (base : ℕ) (ts l : List ℕ) (p : ℕ) → Counts (counted (back ts)) (readArgs base ts l p)
 args-counted base ts l p = rw (total-none (back ts)) at (counts-law base ts l p nil [])
 
 -- ---- the first reading
 
+-- a fault of the forward scan is the fault of the reading
 pub measured-refused : {fault : Fault} (base : ℕ) (ts l : List ℕ) (p : ℕ) → Refused fault ≡ scan ts l p 0
-    → measure.Refused fault ≡ measured (argsOf base ts l p)
+    → measure.Refused fault ≡ measured (readArgs base ts l p)
 unfolding measured
-measured-refused {fault} base ts l p e = by-out (argsOf base ts l p) (e ∙ sym (scan-law base ts l p nil []))
+measured-refused {fault} base ts l p e = by-out (readArgs base ts l p) (e ∙ sym (scan-law base ts l p nil []))
   where
     by-out : (o : Args) → Refused fault ≡ outcome o → measure.Refused fault ≡ measured o
     by-out (refused k) s = let z : fault ≡ k = cc in rw z
     by-out (args kept used) s = let z : _≡_ {A = ℕ} 0 1 = cc in absurd (omega arith)
 
+-- what both scans answer is what the reading keeps and uses
 pub measured-kept : {used : ℕ} (base : ℕ) (ts l : List ℕ) (p : ℕ) (k : Back) → Used used ≡ scan ts l p 0 → k ≡ back ts
-    → measure.Kept (counted k) used ≡ measured (argsOf base ts l p)
+    → measure.Kept (counted k) used ≡ measured (readArgs base ts l p)
 unfolding measured
 measured-kept {used} base ts l p k e b =
-    by-out (argsOf base ts l p) (e ∙ sym (scan-law base ts l p nil [])) (rw (← b) at (args-counted base ts l p))
+    by-out (readArgs base ts l p) (e ∙ sym (scan-law base ts l p nil [])) (rw (← b) at (args-counted base ts l p))
   where
     by-out : (o : Args) → Used used ≡ outcome o → Counts (counted k) o → measure.Kept (counted k) used ≡ measured o
     by-out (refused fault) s w = let z : _≡_ {A = ℕ} 0 1 = cc in absurd (omega arith)
@@ -163,18 +169,19 @@ unfolding back
 counted-le [] = omega arith
 counted-le (t ∷ ts) = by-sort (sortOf t) (back ts) (counted-le ts)
   where
-    by-sort : (s : Sort) (k : Back) → counted k ≤ length ts → counted (before s k) ≤ suc (length ts)
+    by-sort : (s : Sort) (k : Back) → counted k ≤ length ts → counted (tagBefore s k) ≤ suc (length ts)
     by-sort Opens (Cut n c) h = omega arith
-    by-sort Opens (Whole zero c) h = omega arith
-    by-sort Opens (Whole (suc n) c) h = omega arith
+    by-sort Opens (Uncut zero c) h = omega arith
+    by-sort Opens (Uncut (suc n) c) h = omega arith
     by-sort Closes (Cut n c) h = omega arith
-    by-sort Closes (Whole n c) h = omega arith
+    by-sort Closes (Uncut n c) h = omega arith
     by-sort (Leaf class) (Cut n c) h = omega arith
-    by-sort (Leaf class) (Whole n c) h = omega arith
+    by-sort (Leaf class) (Uncut n c) h = omega arith
 
-pub kept-few : (base : ℕ) (ts l : List ℕ) (p : ℕ) → size (keptOf (argsOf base ts l p)) ≤ length ts
+-- no more records are kept than there are tags
+pub kept-few : (base : ℕ) (ts l : List ℕ) (p : ℕ) → size (keptOf (readArgs base ts l p)) ≤ length ts
 unfolding size
-kept-few base ts l p = by-out (argsOf base ts l p) (args-counted base ts l p)
+kept-few base ts l p = by-out (readArgs base ts l p) (args-counted base ts l p)
   where
     by-out : (o : Args) → Counts (counted (back ts)) o → size (keptOf o) ≤ length ts
     by-out (refused fault) w = omega arith
@@ -188,35 +195,37 @@ used-later : (n : ℕ) (l : List ℕ) (o : Args) → n ≤ length l → UsedIn (
 used-later n l (refused fault) h w = tt
 used-later n l (args kept used) h w = omega (arith, length-drop n l)
 
-used-act : (s : Sort) (go : List ℕ → ℕ → Forest → List Forest → Args) (base tag : ℕ) (l : List ℕ) (p : ℕ) (frame : Forest)
-    (below : List Forest)
-    → ((m : List ℕ) (q : ℕ) (f : Forest) (b : List Forest) → UsedIn (length m) (go m q f b))
+used-act : (s : Sort) (go : List ℕ → ℕ → Forest → List Open → Args) (base tag : ℕ) (l : List ℕ) (p : ℕ) (frame : Forest)
+    (below : List Open)
+    → ((m : List ℕ) (q : ℕ) (f : Forest) (b : List Open) → UsedIn (length m) (go m q f b))
     → UsedIn (length l) (act s go base tag l p frame below)
-used-act Opens go base tag l p frame below h = h l p nil (frame ∷ below)
+used-act Opens go base tag l p frame below h = h l p nil (waits frame arrayItem ∷ below)
 used-act Closes go base tag l p frame [] h = tt
-used-act Closes go base tag l p frame (outer ∷ below) h = h l p (snoc outer 91 0 0 frame) below
-used-act (Leaf class) go base tag l p frame below h = by-arg (argOf class base l p) refl
+used-act Closes go base tag l p frame (waits outer item ∷ below) h = h l p (snoc outer item frame) below
+used-act (Leaf class) go base tag l p frame below h = by-arg (readArg tag class base l p) refl
   where
-    by-arg : (x : Arg) → x ≡ argOf class base l p → UsedIn (length l) (taken (λ m q f. go m q f below) tag l p frame x)
+    by-arg : (x : Arg) → x ≡ readArg tag class base l p → UsedIn (length l) (argTaken (λ m q f. go m q f below) l p frame x)
     by-arg (arg.Refused fault) e = tt
-    by-arg (arg.Given a b used) e =
-        let f = snoc frame tag a b nil in
-        used-later used l (go (drop used l) (p + used) f below) (given-within class base l p e) (h (drop used l) (p + used) f below)
+    by-arg (arg.Given item used) e =
+        let f = snoc frame item nil in
+        used-later used l (go (drop used l) (p + used) f below) (given-within tag class base l p e) (h (drop used l) (p + used) f below)
 
-used-law : (base : ℕ) (ts l : List ℕ) (p : ℕ) (frame : Forest) (below : List Forest) → UsedIn (length l) (readArgs base ts l p frame below)
-unfolding readArgs
+used-law : (base : ℕ) (ts l : List ℕ) (p : ℕ) (frame : Forest) (below : List Open) → UsedIn (length l) (readTags base ts l p frame below)
+unfolding readTags
 used-law base [] l p frame below = omega arith
 used-law base (t ∷ ts) l p frame below = used-act (sortOf t) _ base t l p frame below (λ m q f b. used-law base ts m q f b)
 
-pub args-within : {kept : Forest} {used : ℕ} (base : ℕ) (ts l : List ℕ) (p : ℕ) → args kept used ≡ argsOf base ts l p → used ≤ length l
+-- the arguments' data lies in its part
+pub args-within : {kept : Forest} {used : ℕ} (base : ℕ) (ts l : List ℕ) (p : ℕ) → args kept used ≡ readArgs base ts l p → used ≤ length l
 args-within base ts l p e = subst (UsedIn (length l)) (sym e) (used-law base ts l p nil [])
 
 -- ---- what a caller knows by the first reading
 
-pub measured-within : {count used : ℕ} (base : ℕ) (ts l : List ℕ) (p : ℕ) → measure.Kept count used ≡ measured (argsOf base ts l p)
+-- so does the first reading answer no more records than tags, and no more bytes than there are
+pub measured-within : {count used : ℕ} (base : ℕ) (ts l : List ℕ) (p : ℕ) → measure.Kept count used ≡ measured (readArgs base ts l p)
     → (count ≤ length ts) × (used ≤ length l)
 unfolding measured
-measured-within {count} {used} base ts l p e = by-out (argsOf base ts l p) e (kept-few base ts l p) (used-law base ts l p nil [])
+measured-within {count} {used} base ts l p e = by-out (readArgs base ts l p) e (kept-few base ts l p) (used-law base ts l p nil [])
   where
     by-out : (o : Args) → measure.Kept count used ≡ measured o → size (keptOf o) ≤ length ts → UsedIn (length l) o
         → (count ≤ length ts) × (used ≤ length l)
@@ -225,9 +234,9 @@ measured-within {count} {used} base ts l p e = by-out (argsOf base ts l p) e (ke
 
 -- the second reading has room, if the table has room for the count
 pub measured-room : {count used : ℕ} (o : Args) (index : ℕ) (table : List ℕ) → measure.Kept count used ≡ measured o
-    → recordSize * count ≤ length table → index + count ≤ 65535 → Room o index table
+    → recordSize * count ≤ length table → index + count ≤ mostRecords → ArgsRoom o index table
 unfolding measured
 measured-room (refused fault) index table e h k = let z : _≡_ {A = ℕ} 0 1 = cc in absurd (omega arith)
 measured-room {count} (args kept used) index table e h k =
     let z : count ≡ size kept = cc in
-    record { accepted = tt; fits = omega arith; low = omega arith }
+    record { accepted = tt; room = record { fits = omega arith; low = omega arith } }

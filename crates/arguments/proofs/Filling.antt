@@ -12,19 +12,20 @@ use Rattle.wire.proofs.Numbers.{length-bytes}
 use Rattle.wire.proofs.Parts.{tail}
 use Rattle.wire.proofs.Writers.{wrote-none, wrote-length, wrote-next, wrote-over}
 use Rattle.node.specs.Forest.{Forest, nil, size, snoc}
-use Rattle.node.specs.Records.{recordSize, recordOf, recordsOf, endAt}
+use Rattle.node.specs.Records.{recordSize, mostRecords, recordOf, recordsOf, endAt, TableRoom}
 use Rattle.node.specs.Tags.{sortOf}
+use Rattle.node.specs.declared.record.Item.{Item}
 use Rattle.node.specs.declared.tags.Class.{Class}
 use Rattle.node.specs.declared.tags.Sort.{Sort}
 use Rattle.node.specs.declared.tags.Sort.the-variants.{Opens, Closes, Leaf}
 use Rattle.node.proofs.Forests.{size-snoc}
-use Rattle.argument.specs.Argument.{argOf}
-use Rattle.arguments.specs.Arguments.{Args, refused, args, later, taken, act, readArgs, argsOf}
-use Rattle.arguments.specs.Readings.{keptOf, Room}
-use Rattle.scan.specs.Scans.{before, back, AllClosed}
+use Rattle.argument.specs.Argument.{readArg}
+use Rattle.arguments.specs.Arguments.{Args, refused, args, later, argTaken, Open, waits, arrayItem, act, readTags, readArgs}
+use Rattle.arguments.specs.CodeReadings.{keptOf, ArgsRoom}
+use Rattle.scan.specs.CodeScans.{tagBefore, back, AllClosed}
 use Rattle.argument.specs.declared.Arg.the-variants as arg
 use Rattle.scan.specs.declared.Back.{Back}
-use Rattle.scan.specs.declared.Back.the-variants.{Whole, Cut}
+use Rattle.scan.specs.declared.Back.the-variants.{Uncut, Cut}
 use Rattle.argument.proofs.Within.{given-within}
 use Rattle.arguments.proofs.Counts.{Counts, counted, args-counted}
 use Rattle.arguments.proofs.Kept.{clash, Deep, deep-law}
@@ -35,31 +36,32 @@ use Rattle.arguments.proofs.Frames.{while-open, once-closed, link-there
 -- index i: those of a frame and of the frames that wait below it. The link to the open array is `top`
 pub record Filling (base : ℕ) (F : Forest) (i E : ℕ) (T₀ T ts m : List ℕ) (q n top : ℕ) : Type 0 where
   pub frame : Forest
-  pub below : List Forest
+  pub below : List Open
   pub left : ℕ
   pub used : ℕ
-  pub reads : readArgs base ts m q frame below ≡ args F used
-  pub ahead : back ts ≡ Whole (length below) left
+  pub reads : readTags base ts m q frame below ≡ args F used
+  pub ahead : back ts ≡ Uncut (length below) left
   pub count : n + left ≡ size F
   pub place : n ≡ held frame below
   pub linked : top ≡ link below
   pub table : Wrote (layout i frame below) T₀ T
   pub ends : q + length m ≡ E
-  pub fits : recordSize * size F ≤ length T₀
-  pub low : i + size F ≤ 65535
+  pub room : TableRoom F i T₀
 
-pub filling-start : (base : ℕ) (ts m : List ℕ) (q i : ℕ) (T₀ : List ℕ) → Room (argsOf base ts m q) i T₀ → AllClosed (back ts)
-    → Filling base (keptOf (argsOf base ts m q)) i (q + length m) T₀ T₀ ts m q 0 0
+-- at the start nothing is written, and all is left
+pub filling-start : (base : ℕ) (ts m : List ℕ) (q i : ℕ) (T₀ : List ℕ) → ArgsRoom (readArgs base ts m q) i T₀ → AllClosed (back ts)
+    → Filling base (keptOf (readArgs base ts m q)) i (q + length m) T₀ T₀ ts m q 0 0
 unfolding recordsOf size
 filling-start base ts m q i T₀ w closed =
-    by-both (argsOf base ts m q) (back ts) refl refl w closed (deep-law base ts m q nil [] (w .accepted)) (args-counted base ts m q)
+    by-both (readArgs base ts m q) (back ts) refl refl w closed (deep-law base ts m q nil [] (w .accepted)) (args-counted base ts m q)
   where
-    by-both : (o : Args) (k : Back) → argsOf base ts m q ≡ o → back ts ≡ k → Room o i T₀ → AllClosed k → Deep k 0 → Counts (counted k) o
+    by-both : (o : Args) (k : Back) → readArgs base ts m q ≡ o → back ts ≡ k → ArgsRoom o i T₀ → AllClosed k → Deep k 0
+        → Counts (counted k) o
         → Filling base (keptOf o) i (q + length m) T₀ T₀ ts m q 0 0
     by-both (refused fault) k e b r closed d s = absurd (r .accepted)
     by-both (args kept used) (Cut n c) e b r closed d s = absurd closed
-    by-both (args kept used) (Whole (suc n) c) e b r closed d s = absurd (omega arith)
-    by-both (args kept used) (Whole zero c) e b r closed d s =
+    by-both (args kept used) (Uncut (suc n) c) e b r closed d s = absurd (omega arith)
+    by-both (args kept used) (Uncut zero c) e b r closed d s =
         record {
           frame = nil;
           below = [];
@@ -72,41 +74,40 @@ filling-start base ts m q i T₀ w closed =
           linked = refl;
           table = wrote-none T₀;
           ends = refl;
-          fits = r .fits;
-          low = r .low;
+          room = r .room;
         }
 
-link-le : (frame : Forest) (below : List Forest) → link below ≤ held frame below
+link-le : (frame : Forest) (below : List Open) → link below ≤ held frame below
 link-le frame [] = omega arith
-link-le frame (f ∷ below) = omega arith
+link-le frame (waits f item ∷ below) = omega arith
 
-held-snoc : (frame : Forest) (below : List Forest) (k a b : ℕ) (g : Forest)
-    → held (snoc frame k a b g) below ≡ held frame below + 1 + size g
-held-snoc frame [] k a b g = size-snoc frame k a b g
-held-snoc frame (f ∷ below) k a b g = omega (arith, size-snoc frame k a b g)
+held-snoc : (frame : Forest) (below : List Open) (item : Item) (g : Forest)
+    → held (snoc frame item g) below ≡ held frame below + 1 + size g
+held-snoc frame [] item g = size-snoc frame item g
+held-snoc frame (waits f item′ ∷ below) item g = omega (arith, size-snoc frame item g)
 
 -- ---- what later tags give, by what these give
 
 -- k says that d arrays are closed later; one record fewer than c is left
 record Fewer (k : Back) (d c : ℕ) : Type 0 where
   pub rest : ℕ
-  pub is : k ≡ Whole d rest
+  pub is : k ≡ Uncut d rest
   pub one : c ≡ suc rest
 
-fewer-opens : (k : Back) (d c : ℕ) → before Opens k ≡ Whole d c → Fewer k (suc d) c
+fewer-opens : (k : Back) (d c : ℕ) → tagBefore Opens k ≡ Uncut d c → Fewer k (suc d) c
 fewer-opens (Cut n x) d c e = absurd (clash (sym e))
-fewer-opens (Whole zero x) d c e = absurd (clash (sym e))
-fewer-opens (Whole (suc n) x) d c e =
-    let z : n ≡ d = cc in let y : suc x ≡ c = cc in record { rest = x; is = ap (λ (m : ℕ). Whole (suc m) x) z; one = sym y }
+fewer-opens (Uncut zero x) d c e = absurd (clash (sym e))
+fewer-opens (Uncut (suc n) x) d c e =
+    let z : n ≡ d = cc in let y : suc x ≡ c = cc in record { rest = x; is = ap (λ (m : ℕ). Uncut (suc m) x) z; one = sym y }
 
-fewer-leaf : (class : Class) (k : Back) (d c : ℕ) → before (Leaf class) k ≡ Whole d c → Fewer k d c
+fewer-leaf : (class : Class) (k : Back) (d c : ℕ) → tagBefore (Leaf class) k ≡ Uncut d c → Fewer k d c
 fewer-leaf class (Cut n x) d c e = absurd (clash (sym e))
-fewer-leaf class (Whole n x) d c e =
-    let z : n ≡ d = cc in let y : suc x ≡ c = cc in record { rest = x; is = ap (λ (m : ℕ). Whole m x) z; one = sym y }
+fewer-leaf class (Uncut n x) d c e =
+    let z : n ≡ d = cc in let y : suc x ≡ c = cc in record { rest = x; is = ap (λ (m : ℕ). Uncut m x) z; one = sym y }
 
-closes-one : (k : Back) (d c : ℕ) → before Closes k ≡ Whole d c → (d ≡ 0 → ⊥) × (k ≡ Whole (d - 1) c)
+closes-one : (k : Back) (d c : ℕ) → tagBefore Closes k ≡ Uncut d c → (d ≡ 0 → ⊥) × (k ≡ Uncut (d - 1) c)
 closes-one (Cut n x) d c e = absurd (clash (sym e))
-closes-one (Whole n x) d c e = let z : suc n ≡ d = cc in let y : x ≡ c = cc in let s : n ≡ d - 1 = omega arith in ((λ h. omega arith), cc)
+closes-one (Uncut n x) d c e = let z : suc n ≡ d = cc in let y : x ≡ c = cc in let s : n ≡ d - 1 = omega arith in ((λ h. omega arith), cc)
 
 record Later (o : Args) (F : Forest) : Type 0 where
   pub used : ℕ
@@ -122,22 +123,22 @@ module _ {base : ℕ} {F : Forest} {i E : ℕ} {T₀ T ts m : List ℕ} {q n top
     (h : 0 < length ts) where
   -- what the first tag does
   turned : {s : Sort} → s ≡ sortOf (getD ts 0 0)
-      → act s (λ m q f b. readArgs base (drop 1 ts) m q f b) base (getD ts 0 0) m q (w .frame) (w .below) ≡ args F (w .used)
-  unfolding readArgs
+      → act s (λ m q f b. readTags base (drop 1 ts) m q f b) base (getD ts 0 0) m q (w .frame) (w .below) ≡ args F (w .used)
+  unfolding readTags
   turned {s} e = rw e (by-list ts h (w .reads))
     where
-      by-list : (ts : List ℕ) → 0 < length ts → readArgs base ts m q (w .frame) (w .below) ≡ args F (w .used)
-          → act (sortOf (getD ts 0 0)) (λ m q f b. readArgs base (drop 1 ts) m q f b) base (getD ts 0 0) m q (w .frame) (w .below) ≡ args
+      by-list : (ts : List ℕ) → 0 < length ts → readTags base ts m q (w .frame) (w .below) ≡ args F (w .used)
+          → act (sortOf (getD ts 0 0)) (λ m q f b. readTags base (drop 1 ts) m q f b) base (getD ts 0 0) m q (w .frame) (w .below) ≡ args
           F (w .used)
       by-list [] h r = absurd (omega arith)
       by-list (t ∷ ts) h r = r
 
-  looked : {s : Sort} → s ≡ sortOf (getD ts 0 0) → before s (back (drop 1 ts)) ≡ Whole (length (w .below)) (w .left)
+  looked : {s : Sort} → s ≡ sortOf (getD ts 0 0) → tagBefore s (back (drop 1 ts)) ≡ Uncut (length (w .below)) (w .left)
   unfolding back
   looked {s} e = rw e (by-list ts h (w .ahead))
     where
-      by-list : (ts : List ℕ) → 0 < length ts → back ts ≡ Whole (length (w .below)) (w .left)
-          → before (sortOf (getD ts 0 0)) (back (drop 1 ts)) ≡ Whole (length (w .below)) (w .left)
+      by-list : (ts : List ℕ) → 0 < length ts → back ts ≡ Uncut (length (w .below)) (w .left)
+          → tagBefore (sortOf (getD ts 0 0)) (back (drop 1 ts)) ≡ Uncut (length (w .below)) (w .left)
       by-list [] h a = absurd (omega arith)
       by-list (t ∷ ts) h a = a
 
@@ -147,39 +148,43 @@ module _ {base : ℕ} {F : Forest} {i E : ℕ} {T₀ T ts m : List ℕ} {q n top
   has-leaf : {class : Class} → Leaf class ≡ sortOf (getD ts 0 0) → Fewer (back (drop 1 ts)) (length (w .below)) (w .left)
   has-leaf {class} e = fewer-leaf class (back (drop 1 ts)) (length (w .below)) (w .left) (looked e)
 
-  has-closes : Closes ≡ sortOf (getD ts 0 0) → (length (w .below) ≡ 0 → ⊥) × (back (drop 1 ts) ≡ Whole (length (w .below) - 1) (w .left))
+  has-closes : Closes ≡ sortOf (getD ts 0 0) → (length (w .below) ≡ 0 → ⊥) × (back (drop 1 ts) ≡ Uncut (length (w .below) - 1) (w .left))
   has-closes e = closes-one (back (drop 1 ts)) (length (w .below)) (w .left) (looked e)
 
   -- the link reaches no record that is not written, and what is written is in the table
-  held-there : (top ≤ n) × (i + n ≤ 65535) × (recordSize * n ≤ length T)
+  held-there : (top ≤ n) × (i + n ≤ mostRecords) × (recordSize * n ≤ length T)
   held-there = (
     omega (arith, link-le (w .frame) (w .below), w .place, w .linked),
-    omega (arith, w .count, w .low),
-    omega (arith, w .count, w .fits, wrote-length _ _ _ (w .table)),
+    omega (arith, w .count, w .room .low),
+    omega (arith, w .count, w .room .fits, wrote-length _ _ _ (w .table)),
   )
 
   -- there is room for one record more
-  one-more : n + 1 ≤ size F → (top ≤ n) × (i + n + 1 ≤ 65535) × (recordSize * n + recordSize ≤ length T)
-  one-more k = (held-there .0, omega (arith, w .low), omega (arith, w .fits, wrote-length _ _ _ (w .table)))
+  one-more : n + 1 ≤ size F → (top ≤ n) × (i + n + 1 ≤ mostRecords) × (recordSize * n + recordSize ≤ length T)
+  one-more k = (held-there .0, omega (arith, w .room .low), omega (arith, w .room .fits, wrote-length _ _ _ (w .table)))
 
-  pub room-opens : Opens ≡ sortOf (getD ts 0 0) → (top ≤ n) × (i + n + 1 ≤ 65535) × (recordSize * n + recordSize ≤ length T)
+  -- there is room for the record of an array that opens
+  pub room-opens : Opens ≡ sortOf (getD ts 0 0) → (top ≤ n) × (i + n + 1 ≤ mostRecords) × (recordSize * n + recordSize ≤ length T)
   room-opens e = one-more (omega (arith, has-opens e .one, w .count))
 
+  -- there is room for the record of an argument
   pub room-leaf : {class : Class} → Leaf class ≡ sortOf (getD ts 0 0)
-      → (top ≤ n) × (i + n + 1 ≤ 65535) × (recordSize * n + recordSize ≤ length T)
+      → (top ≤ n) × (i + n + 1 ≤ mostRecords) × (recordSize * n + recordSize ≤ length T)
   room-leaf e = one-more (omega (arith, has-leaf e .one, w .count))
 
-  pub room-closes : Closes ≡ sortOf (getD ts 0 0) → (1 ≤ top) × ((top ≤ n) × (i + n ≤ 65535) × (recordSize * n ≤ length T))
+  -- an array that closes is open, and its record is written
+  pub room-closes : Closes ≡ sortOf (getD ts 0 0) → (1 ≤ top) × ((top ≤ n) × (i + n ≤ mostRecords) × (recordSize * n ≤ length T))
   room-closes e = (by-below (w .below) (w .linked) (has-closes e .0), held-there)
     where
-      by-below : (b : List Forest) → top ≡ link b → (length b ≡ 0 → ⊥) → 1 ≤ top
+      by-below : (b : List Open) → top ≡ link b → (length b ≡ 0 → ⊥) → 1 ≤ top
       by-below [] l z = absurd (z refl)
-      by-below (f ∷ b) l z = omega arith
+      by-below (waits f item ∷ b) l z = omega arith
 
   len : length (layout i (w .frame) (w .below)) ≡ recordSize * n
   len = length-layout i (w .frame) (w .below) ∙ ap (λ (x : ℕ). recordSize * x) (sym (w .place))
 
-  pub filling-opens : {T′ : List ℕ} → Opens ≡ sortOf (getD ts 0 0) → Wrote (take (recordSize * n) T ++ recordOf 91 top 0 0) T T′
+  -- a tag that opens: the record of its array is written, with the link in place of the end
+  pub filling-opens : {T′ : List ℕ} → Opens ≡ sortOf (getD ts 0 0) → Wrote (take (recordSize * n) T ++ recordOf arrayItem top) T T′
       → Filling base F i E T₀ T′ (take (length ts - 1) (drop 1 ts)) m q (n + 1) (n + 1)
   unfolding size
   filling-opens e v =
@@ -187,7 +192,7 @@ module _ {base : ℕ} {F : Forest} {i E : ℕ} {T₀ T ts m : List ℕ} {q n top
       rw (tail ts 1)
       (record {
         frame = nil;
-        below = w .frame ∷ w .below;
+        below = waits (w .frame) arrayItem ∷ w .below;
         left = k .rest;
         used = w .used;
         reads = turned e;
@@ -196,25 +201,26 @@ module _ {base : ℕ} {F : Forest} {i E : ℕ} {T₀ T ts m : List ℕ} {q n top
         place = omega (arith, w .place);
         linked = omega (arith, w .place);
         table =
-            rw (layout-open i (w .frame) (w .below), ← w .linked)
-            (wrote-next (recordOf 91 top 0 0) (recordSize * n) (w .table) len v);
+            rw (layout-open i (w .frame) arrayItem (w .below), ← w .linked)
+            (wrote-next (recordOf arrayItem top) (recordSize * n) (w .table) len v);
         ends = w .ends;
-        fits = w .fits;
-        low = w .low;
+        room = w .room;
       })
 
-  pub filling-leaf : {T′ : List ℕ} {class : Class} {a b u : ℕ} → Leaf class ≡ sortOf (getD ts 0 0) → arg.Given a b u ≡ argOf class base m q
-      → Wrote (take (recordSize * n) T ++ recordOf (getD ts 0 0) (i + n + 1) a b) T T′
+  -- a tag with an argument: its record is written, and its bytes are read
+  pub filling-leaf : {T′ : List ℕ} {class : Class} {item : Item} {u : ℕ} → Leaf class ≡ sortOf (getD ts 0 0)
+      → arg.Given item u ≡ readArg (getD ts 0 0) class base m q
+      → Wrote (take (recordSize * n) T ++ recordOf item (i + n + 1)) T T′
       → Filling base F i E T₀ T′ (take (length ts - 1) (drop 1 ts)) (take (length m - u) (drop u m)) (q + u) (n + 1) top
   unfolding size
-  filling-leaf {T′} {class} {a} {b} {u} e g v =
+  filling-leaf {T′} {class} {item} {u} e g v =
       let t = getD ts 0 0 in
-      let f = snoc (w .frame) t a b nil in
+      let f = snoc (w .frame) item nil in
       let k = has-leaf e in
-      let within : u ≤ length m = given-within class base m q g in
-      let r : later u (readArgs base (drop 1 ts) (drop u m) (q + u) f (w .below)) ≡ args F (w .used) =
-      ap (taken (λ m q f. readArgs base (drop 1 ts) m q f (w .below)) t m q (w .frame)) g ∙ turned e in
-      let o = later-args u (readArgs base (drop 1 ts) (drop u m) (q + u) f (w .below)) r in
+      let within : u ≤ length m = given-within t class base m q g in
+      let r : later u (readTags base (drop 1 ts) (drop u m) (q + u) f (w .below)) ≡ args F (w .used) =
+      ap (argTaken (λ m q f. readTags base (drop 1 ts) m q f (w .below)) m q (w .frame)) g ∙ turned e in
+      let o = later-args u (readTags base (drop 1 ts) (drop u m) (q + u) f (w .below)) r in
       rw (tail ts 1, tail m u)
       (record {
         frame = f;
@@ -224,67 +230,69 @@ module _ {base : ℕ} {F : Forest} {i E : ℕ} {T₀ T ts m : List ℕ} {q n top
         reads = o .is;
         ahead = k .is;
         count = omega (arith, k .one, w .count);
-        place = omega (arith, w .place, held-snoc (w .frame) (w .below) t a b nil);
+        place = omega (arith, w .place, held-snoc (w .frame) (w .below) item nil);
         linked = w .linked;
         table =
-            rw (layout-leaf i (w .frame) (w .below) t a b, ← w .place)
-            (wrote-next (recordOf t (i + n + 1) a b) (recordSize * n) (w .table) len v);
+            rw (layout-leaf i (w .frame) (w .below) item, ← w .place)
+            (wrote-next (recordOf item (i + n + 1)) (recordSize * n) (w .table) len v);
         ends = omega (arith, length-drop u m, w .ends);
-        fits = w .fits;
-        low = w .low;
+        room = w .room;
       })
 
+  -- a tag that closes: the end takes the place of the link in the record of its array
   pub filling-closes : {T′ : List ℕ} {r : ℕ} → Closes ≡ sortOf (getD ts 0 0) → r ≡ endAt T (top - 1)
       → Wrote (take (recordSize * (top - 1) + 4) T ++ bytes 4 (i + n)) T T′
       → Filling base F i E T₀ T′ (take (length ts - 1) (drop 1 ts)) m q n r
   filling-closes {T′} {r} e er v =
       by-below (w .below) (has-closes e .0) (has-closes e .1) (turned e) (w .place) (w .linked) (w .table)
     where
-      by-below : (b : List Forest) → (length b ≡ 0 → ⊥) → back (drop 1 ts) ≡ Whole (length b - 1) (w .left)
-          → act Closes (λ m q f b. readArgs base (drop 1 ts) m q f b) base (getD ts 0 0) m q (w .frame) b ≡ args F (w .used)
+      by-below : (b : List Open) → (length b ≡ 0 → ⊥) → back (drop 1 ts) ≡ Uncut (length b - 1) (w .left)
+          → act Closes (λ m q f b. readTags base (drop 1 ts) m q f b) base (getD ts 0 0) m q (w .frame) b ≡ args F (w .used)
           → n ≡ held (w .frame) b → top ≡ link b → Wrote (layout i (w .frame) b) T₀ T
           → Filling base F i E T₀ T′ (take (length ts - 1) (drop 1 ts)) m q n r
       by-below [] z k rd pl li tb = absurd (z refl)
-      by-below (f ∷ b) z k rd pl li tb =
+      by-below (waits f item ∷ b) z k rd pl li tb =
           let up : top - 1 ≡ held f b = omega arith in
-          let small : link b < 256 ^ 4 = omega (arith, link-le f b, w .count, w .low) in
+          let small : link b < 256 ^ 4 = omega (arith, link-le f b, w .count, w .room .low) in
           let down : suc (length b) - 1 ≡ length b = omega arith in
           let same : length (bytes 4 (link b)) ≡ length (bytes 4 (i + n)) = length-bytes 4 (link b) ∙ sym (length-bytes 4 (i + n)) in
           rw (tail ts 1)
           (record {
-            frame = snoc f 91 0 0 (w .frame);
+            frame = snoc f item (w .frame);
             below = b;
             left = w .left;
             used = w .used;
             reads = rd;
             ahead = k ∙ rw down;
             count = w .count;
-            place = omega (arith, pl, held-snoc f b 91 0 0 (w .frame));
-            linked = er ∙ rw up (link-there i (w .frame) f b tb small);
+            place = omega (arith, pl, held-snoc f b item (w .frame));
+            linked = er ∙ rw up (link-there i (w .frame) f item b tb small);
             table =
-                rw (once-closed i (w .frame) f b, ← pl)
-                (wrote-over (front i f b) (bytes 4 (link b)) (behind i (w .frame) f b) (bytes 4 (i + n)) (recordSize * held f b + 4)
-                (rw (while-open i (w .frame) f b) at tb) (length-front i f b) same (rw up at v));
+                rw (once-closed i (w .frame) f item b, ← pl)
+                (wrote-over (front i f item b) (bytes 4 (link b)) (behind i (w .frame) f item b) (bytes 4 (i + n))
+                (recordSize * held f b + 4)
+                (rw (while-open i (w .frame) f item b) at tb) (length-front i f item b) same (rw up at v));
             ends = w .ends;
-            fits = w .fits;
-            low = w .low;
+            room = w .room;
           })
 
   -- what is accepted has no argument that is refused
-  pub filling-refused : {class : Class} {fault : Fault} → Leaf class ≡ sortOf (getD ts 0 0) → arg.Refused fault ≡ argOf class base m q → ⊥
+  pub filling-refused : {class : Class} {fault : Fault} → Leaf class ≡ sortOf (getD ts 0 0)
+      → arg.Refused fault ≡ readArg (getD ts 0 0) class base m q → ⊥
   filling-refused {class} {fault} e g =
       let r : refused fault ≡ args F (w .used) =
-      ap (taken (λ m q f. readArgs base (drop 1 ts) m q f (w .below)) (getD ts 0 0) m q (w .frame)) g ∙ turned e in
+      ap (argTaken (λ m q f. readTags base (drop 1 ts) m q f (w .below)) m q (w .frame)) g ∙ turned e in
       let z : _≡_ {A = ℕ} 0 1 = cc in omega arith
 
 -- where no tag is left, the frame is all, and none waits below it
-ended : (base : ℕ) (ts m : List ℕ) (q : ℕ) {frame F : Forest} {used d c : ℕ} (below : List Forest) → length ts ≤ 0
-    → readArgs base ts m q frame below ≡ args F used
-    → back ts ≡ Whole d c → (frame ≡ F) × (d ≡ 0)
-unfolding readArgs back
+ended : (base : ℕ) (ts m : List ℕ) (q : ℕ) {frame F : Forest} {used d c : ℕ} (below : List Open) → length ts ≤ 0
+    → readTags base ts m q frame below ≡ args F used
+    → back ts ≡ Uncut d c → (frame ≡ F) × (d ≡ 0)
+unfolding readTags back
 ended base (t ∷ ts) m q below h r a = absurd (omega arith)
 ended base [] m q {frame} {F} {used} {d} {c} below h r a = (cc, cc)
 
+-- where no tag is left, the records are those of all
 pub filling-done : {base : ℕ} {F : Forest} {i E : ℕ} {T₀ T ts m : List ℕ} {q n top : ℕ} → Filling base F i E T₀ T ts m q n top
     → length ts ≤ 0
     → Wrote (recordsOf i F) T₀ T
@@ -292,6 +300,6 @@ filling-done {base} {F} {i} {E} {T₀} {T} {ts} {m} {q} w h =
     let e = ended base ts m q (w .below) h (w .reads) (w .ahead) in
     by-below (w .below) (e .1) (rw (e .0) at (w .table))
   where
-    by-below : (b : List Forest) → length b ≡ 0 → Wrote (layout i F b) T₀ T → Wrote (recordsOf i F) T₀ T
+    by-below : (b : List Open) → length b ≡ 0 → Wrote (layout i F b) T₀ T → Wrote (recordsOf i F) T₀ T
     by-below [] z t = t
-    by-below (f ∷ b) z t = absurd (omega arith)
+    by-below (waits f item ∷ b) z t = absurd (omega arith)

@@ -12,26 +12,29 @@ use Rattle.node.specs.Forest.{Forest, nil, snoc}
 use Rattle.node.specs.Tags.{sortOf}
 use Rattle.node.specs.declared.tags.Sort.{Sort}
 use Rattle.node.specs.declared.tags.Sort.the-variants.{Opens, Closes, Leaf}
-use Rattle.argument.specs.Argument.{argOf}
-use Rattle.arguments.specs.Arguments.{Args, refused, args, later, taken, act, readArgs, argsOf}
-use Rattle.arguments.specs.Readings.{keptOf, Accepted, Room}
-use Rattle.scan.specs.Scans.{usedOf, more, passed, turn, scan, before, back, AllClosed}
+use Rattle.argument.specs.Argument.{readArg}
+use Rattle.arguments.specs.Arguments.{Args, refused, args, later, argTaken, Open, waits, arrayItem, act, readTags, readArgs}
+use Rattle.arguments.specs.CodeReadings.{keptOf, ArgsAccepted, ArgsRoom}
+use Rattle.scan.specs.CodeScans.{usedOf, moreUsed, argPassed, turn, scan, tagBefore, back, AllClosed}
 use Rattle.argument.specs.declared.Arg.{Arg}
 use Rattle.argument.specs.declared.Arg.the-variants as arg
 use Rattle.scan.specs.declared.Scanned.{Scanned}
 use Rattle.scan.specs.declared.Scanned.the-variants.{Used, Refused}
 use Rattle.scan.specs.declared.Back.{Back}
-use Rattle.scan.specs.declared.Back.the-variants.{Whole, Cut}
+use Rattle.scan.specs.declared.Back.the-variants.{Uncut, Cut}
 use Rattle.argument.proofs.Within.{given-within}
-use Rattle.scan.proofs.Within.{any-base}
+use Rattle.scan.proofs.Passed.{any-base}
 
-pub clash : {m d n c : ℕ} → Whole m d ≡ Cut n c → ⊥
+-- tags are not both cut and uncut
+pub clash : {m d n c : ℕ} → Uncut m d ≡ Cut n c → ⊥
 clash e = let z : _≡_ {A = ℕ} 0 1 = cc in omega arith
 
+-- 0 bytes later is the same
 pub later-none : (o : Args) → later 0 o ≡ o
 later-none (refused fault) = refl
 later-none (args kept used) = ap (args kept) (omega arith)
 
+-- bytes read before add up
 pub later-later : (m n : ℕ) (o : Args) → later m (later n o) ≡ later (m + n) o
 later-later m n (refused fault) = refl
 later-later m n (args kept used) = ap (args kept) (omega arith)
@@ -40,72 +43,74 @@ kept-later : (n : ℕ) (o : Args) → keptOf (later n o) ≡ keptOf o
 kept-later n (refused fault) = refl
 kept-later n (args kept used) = refl
 
-accepted-later : (n : ℕ) (o : Args) → Accepted (later n o) → Accepted o
+accepted-later : (n : ℕ) (o : Args) → ArgsAccepted (later n o) → ArgsAccepted o
 accepted-later n (refused fault) w = w
 accepted-later n (args kept used) w = tt
 
 -- ---- what is accepted closes no more arrays than are open
 
+-- no more than m arrays are closed that were open before
 abbrev pub Deep : Back → ℕ → Type 0
-Deep (Whole n c) m = n ≤ m
+Deep (Uncut n c) m = n ≤ m
 Deep (Cut n c) m = Unit {0}
 
-deep-act : (s : Sort) (k : Back) (go : List ℕ → ℕ → Forest → List Forest → Args) (base tag : ℕ) (l : List ℕ) (p : ℕ) (frame : Forest)
-    (below : List Forest)
-    → ((m : List ℕ) (q : ℕ) (f : Forest) (b : List Forest) → Accepted (go m q f b) → Deep k (length b))
-    → Accepted (act s go base tag l p frame below) → Deep (before s k) (length below)
+deep-act : (s : Sort) (k : Back) (go : List ℕ → ℕ → Forest → List Open → Args) (base tag : ℕ) (l : List ℕ) (p : ℕ) (frame : Forest)
+    (below : List Open)
+    → ((m : List ℕ) (q : ℕ) (f : Forest) (b : List Open) → ArgsAccepted (go m q f b) → Deep k (length b))
+    → ArgsAccepted (act s go base tag l p frame below) → Deep (tagBefore s k) (length below)
 deep-act Opens (Cut n c) go base tag l p frame below h w = tt
-deep-act Opens (Whole zero c) go base tag l p frame below h w = tt
-deep-act Opens (Whole (suc n) c) go base tag l p frame below h w = omega (arith, h l p nil (frame ∷ below) w)
+deep-act Opens (Uncut zero c) go base tag l p frame below h w = tt
+deep-act Opens (Uncut (suc n) c) go base tag l p frame below h w = omega (arith, h l p nil (waits frame arrayItem ∷ below) w)
 deep-act Closes k go base tag l p frame [] h w = absurd w
-deep-act Closes (Cut n c) go base tag l p frame (f ∷ b) h w = tt
-deep-act Closes (Whole n c) go base tag l p frame (f ∷ b) h w = omega (arith, h l p (snoc f 91 0 0 frame) b w)
+deep-act Closes (Cut n c) go base tag l p frame (waits f item ∷ b) h w = tt
+deep-act Closes (Uncut n c) go base tag l p frame (waits f item ∷ b) h w = omega (arith, h l p (snoc f item frame) b w)
 deep-act (Leaf class) (Cut n c) go base tag l p frame below h w = tt
-deep-act (Leaf class) (Whole n c) go base tag l p frame below h w = by-arg (argOf class base l p) w
+deep-act (Leaf class) (Uncut n c) go base tag l p frame below h w = by-arg (readArg tag class base l p) w
   where
-    by-arg : (x : Arg) → Accepted (taken (λ m q f. go m q f below) tag l p frame x) → n ≤ length below
+    by-arg : (x : Arg) → ArgsAccepted (argTaken (λ m q f. go m q f below) l p frame x) → n ≤ length below
     by-arg (arg.Refused fault) w = absurd w
-    by-arg (arg.Given a b used) w =
-        let f = snoc frame tag a b nil in
+    by-arg (arg.Given item used) w =
+        let f = snoc frame item nil in
         h (drop used l) (p + used) f below (accepted-later used (go (drop used l) (p + used) f below) w)
 
-pub deep-law : (base : ℕ) (ts l : List ℕ) (p : ℕ) (frame : Forest) (below : List Forest) → Accepted (readArgs base ts l p frame below)
+-- tags that are accepted close no more arrays than wait below
+pub deep-law : (base : ℕ) (ts l : List ℕ) (p : ℕ) (frame : Forest) (below : List Open) → ArgsAccepted (readTags base ts l p frame below)
     → Deep (back ts) (length below)
-unfolding readArgs back
+unfolding readTags back
 deep-law base [] l p frame below w = omega arith
 deep-law base (t ∷ ts) l p frame below w =
-    deep-act (sortOf t) (back ts) (λ m q f b. readArgs base ts m q f b) base t l p frame below (λ m q f b v. deep-law base ts m q f b v) w
+    deep-act (sortOf t) (back ts) (λ m q f b. readTags base ts m q f b) base t l p frame below (λ m q f b v. deep-law base ts m q f b v) w
 
 -- ---- frames below those that are closed change nothing
 
 abbrev Closed : Back → ℕ → Type 0
-Closed (Whole n c) m = n ≤ m
+Closed (Uncut n c) m = n ≤ m
 Closed (Cut n c) m = ⊥
 
-under-act : (s : Sort) (k : Back) (go : List ℕ → ℕ → Forest → List Forest → Args) (base tag : ℕ) (l : List ℕ) (p : ℕ) (frame : Forest)
-    (A B : List Forest)
-    → ((m : List ℕ) (q : ℕ) (f : Forest) (A : List Forest) → Closed k (length A) → go m q f (A ++ B) ≡ go m q f A)
-    → Closed (before s k) (length A)
+under-act : (s : Sort) (k : Back) (go : List ℕ → ℕ → Forest → List Open → Args) (base tag : ℕ) (l : List ℕ) (p : ℕ) (frame : Forest)
+    (A B : List Open)
+    → ((m : List ℕ) (q : ℕ) (f : Forest) (A : List Open) → Closed k (length A) → go m q f (A ++ B) ≡ go m q f A)
+    → Closed (tagBefore s k) (length A)
     → act s go base tag l p frame (A ++ B) ≡ act s go base tag l p frame A
 under-act Opens (Cut n c) go base tag l p frame A B h w = absurd w
-under-act Opens (Whole zero c) go base tag l p frame A B h w = absurd w
-under-act Opens (Whole (suc n) c) go base tag l p frame A B h w = h l p nil (frame ∷ A) (omega arith)
+under-act Opens (Uncut zero c) go base tag l p frame A B h w = absurd w
+under-act Opens (Uncut (suc n) c) go base tag l p frame A B h w = h l p nil (waits frame arrayItem ∷ A) (omega arith)
 under-act Closes (Cut n c) go base tag l p frame A B h w = absurd w
-under-act Closes (Whole n c) go base tag l p frame [] B h w = absurd (omega arith)
-under-act Closes (Whole n c) go base tag l p frame (f ∷ A) B h w = h l p (snoc f 91 0 0 frame) A (omega arith)
+under-act Closes (Uncut n c) go base tag l p frame [] B h w = absurd (omega arith)
+under-act Closes (Uncut n c) go base tag l p frame (waits f item ∷ A) B h w = h l p (snoc f item frame) A (omega arith)
 under-act (Leaf class) (Cut n c) go base tag l p frame A B h w = absurd w
-under-act (Leaf class) (Whole n c) go base tag l p frame A B h w = by-arg (argOf class base l p)
+under-act (Leaf class) (Uncut n c) go base tag l p frame A B h w = by-arg (readArg tag class base l p)
   where
-    by-arg : (x : Arg) → taken (λ m q f. go m q f (A ++ B)) tag l p frame x ≡ taken (λ m q f. go m q f A) tag l p frame x
+    by-arg : (x : Arg) → argTaken (λ m q f. go m q f (A ++ B)) l p frame x ≡ argTaken (λ m q f. go m q f A) l p frame x
     by-arg (arg.Refused fault) = refl
-    by-arg (arg.Given a b used) = ap (later used) (h (drop used l) (p + used) (snoc frame tag a b nil) A w)
+    by-arg (arg.Given item used) = ap (later used) (h (drop used l) (p + used) (snoc frame item nil) A w)
 
-under-law : (base : ℕ) (ts l : List ℕ) (p : ℕ) (frame : Forest) (A B : List Forest) → Closed (back ts) (length A)
-    → readArgs base ts l p frame (A ++ B) ≡ readArgs base ts l p frame A
-unfolding readArgs back
+under-law : (base : ℕ) (ts l : List ℕ) (p : ℕ) (frame : Forest) (A B : List Open) → Closed (back ts) (length A)
+    → readTags base ts l p frame (A ++ B) ≡ readTags base ts l p frame A
+unfolding readTags back
 under-law base [] l p frame A B w = refl
 under-law base (t ∷ ts) l p frame A B w =
-    under-act (sortOf t) (back ts) (λ m q f b. readArgs base ts m q f b) base t l p frame A B (λ m q f A v. under-law base ts m q f A B v) w
+    under-act (sortOf t) (back ts) (λ m q f b. readTags base ts m q f b) base t l p frame A B (λ m q f A v. under-law base ts m q f A B v) w
 
 -- ---- the first tags are scanned, the others kept
 
@@ -114,76 +119,80 @@ record Keeps (base : ℕ) (s : Scanned) (o : Args) (ts l : List ℕ) (p : ℕ) :
   pub lost : ℕ
   pub inside : lost ≤ length l
   pub scanned : s ≡ Used lost
-  pub same : o ≡ later lost (argsOf base ts (drop lost l) (p + lost))
+  pub same : o ≡ later lost (readArgs base ts (drop lost l) (p + lost))
   pub closed : Closed (back ts) 0
 
 -- the same u bytes later
 keeps-later : (base u : ℕ) (s : Scanned) (o : Args) (ts l : List ℕ) (p : ℕ) → u ≤ length l → Keeps base s o ts (drop u l) (p + u)
-    → Keeps base (more u s) (later u o) ts l p
+    → Keeps base (moreUsed u s) (later u o) ts l p
 keeps-later base u s o ts l p h w =
     let v = w .lost in
     let sum : p + u + v ≡ p + (u + v) = omega arith in
     record {
       lost = u + v;
       inside = omega (arith, length-drop u l, w .inside);
-      scanned = ap (more u) (w .scanned);
-      same = ap (later u) (w .same) ∙ later-later u v (argsOf base ts (drop v (drop u l)) (p + u + v)) ∙ rw (drop-drop v u l, sum);
+      scanned = ap (moreUsed u) (w .scanned);
+      same = ap (later u) (w .same) ∙ later-later u v (readArgs base ts (drop v (drop u l)) (p + u + v)) ∙ rw (drop-drop v u l, sum);
       closed = w .closed;
     }
 
 abbrev Cuts : ℕ → List ℕ → Type 0
 Cuts base ts =
-    (l : List ℕ) (p : ℕ) (frame : Forest) (below : List Forest) (n c : ℕ) → back ts ≡ Cut n c
-    → Accepted (readArgs base ts l p frame below)
-    → Keeps base (scan (take n ts) l p (length below)) (readArgs base ts l p frame below) (drop n ts) l p
+    (l : List ℕ) (p : ℕ) (frame : Forest) (below : List Open) (n c : ℕ) → back ts ≡ Cut n c
+    → ArgsAccepted (readTags base ts l p frame below)
+    → Keeps base (scan (take n ts) l p (length below)) (readTags base ts l p frame below) (drop n ts) l p
 
-cut-act : (s : Sort) (k : Back) (base tag : ℕ) (ts l : List ℕ) (p : ℕ) (frame : Forest) (below : List Forest) (n c : ℕ)
+cut-act : (s : Sort) (k : Back) (base tag : ℕ) (ts l : List ℕ) (p : ℕ) (frame : Forest) (below : List Open) (n c : ℕ)
     → Cuts base ts → back ts ≡ k
-    → before s k ≡ Cut (suc n) c → Accepted (act s (λ m q f b. readArgs base ts m q f b) base tag l p frame below)
-    → Keeps base (turn s (λ m q i. scan (take n ts) m q i) l p (length below))
-    (act s (λ m q f b. readArgs base ts m q f b) base tag l p frame below) (drop n ts) l p
+    → tagBefore s k ≡ Cut (suc n) c → ArgsAccepted (act s (λ m q f b. readTags base ts m q f b) base tag l p frame below)
+    → Keeps base (turn s (λ m q i. scan (take n ts) m q i) tag l p (length below))
+    (act s (λ m q f b. readTags base ts m q f b) base tag l p frame below) (drop n ts) l p
 unfolding scan
-cut-act Opens (Cut m d) base tag ts l p frame below n c h e x w = h l p nil (frame ∷ below) n c (let z : m ≡ n = cc in e ∙ cc) w
-cut-act Opens (Whole zero d) base tag ts l p frame below n c h e x w =
+cut-act Opens (Cut m d) base tag ts l p frame below n c h e x w =
+    h l p nil (waits frame arrayItem ∷ below) n c (let z : m ≡ n = cc in e ∙ cc) w
+cut-act Opens (Uncut zero d) base tag ts l p frame below n c h e x w =
     let z : n ≡ 0 = (let y : suc n ≡ 1 = cc in omega arith) in
     let q : p + 0 ≡ p = omega arith in
     let shut : Closed (back ts) 0 = subst (λ (k : Back). Closed k 0) (sym e) (omega arith) in
-    subst (λ (n : ℕ). Keeps base (scan (take n ts) l p (suc (length below))) (readArgs base ts l p nil (frame ∷ below)) (drop n ts) l p)
+    subst (λ (n : ℕ). Keeps base (scan (take n ts) l p (suc (length below))) (readTags base ts l p nil (waits frame arrayItem ∷ below))
+    (drop n ts) l p)
     (sym z)
     (record {
       lost = 0;
       inside = omega arith;
       scanned = refl;
-      same = under-law base ts l p nil [] (frame ∷ below) shut ∙ sym (later-none (argsOf base ts l p)) ∙ rw q;
+      same = under-law base ts l p nil [] (waits frame arrayItem ∷ below) shut ∙ sym (later-none (readArgs base ts l p)) ∙ rw q;
       closed = shut;
     })
-cut-act Opens (Whole (suc m) d) base tag ts l p frame below n c h e x w = absurd (clash x)
-cut-act Closes (Whole m d) base tag ts l p frame below n c h e x w = absurd (clash x)
+cut-act Opens (Uncut (suc m) d) base tag ts l p frame below n c h e x w = absurd (clash x)
+cut-act Closes (Uncut m d) base tag ts l p frame below n c h e x w = absurd (clash x)
 cut-act Closes (Cut m d) base tag ts l p frame [] n c h e x w = absurd w
-cut-act Closes (Cut m d) base tag ts l p frame (f ∷ b) n c h e x w = h l p (snoc f 91 0 0 frame) b n c (let z : m ≡ n = cc in e ∙ cc) w
-cut-act (Leaf class) (Whole m d) base tag ts l p frame below n c h e x w = absurd (clash x)
+cut-act Closes (Cut m d) base tag ts l p frame (waits f item ∷ b) n c h e x w =
+    h l p (snoc f item frame) b n c (let z : m ≡ n = cc in e ∙ cc) w
+cut-act (Leaf class) (Uncut m d) base tag ts l p frame below n c h e x w = absurd (clash x)
 cut-act (Leaf class) (Cut m d) base tag ts l p frame below n c h e x w =
-    rw (any-base class 0 base l p) (by-arg (argOf class base l p) refl w)
+    rw (any-base tag class 0 base l p) (by-arg (readArg tag class base l p) refl w)
   where
-    by-arg : (y : Arg) → y ≡ argOf class base l p → Accepted (taken (λ m q f. readArgs base ts m q f below) tag l p frame y)
-        → Keeps base (passed (λ m q. scan (take n ts) m q (length below)) l p (usedOf y))
-        (taken (λ m q f. readArgs base ts m q f below) tag l p frame y) (drop n ts) l p
+    by-arg : (y : Arg) → y ≡ readArg tag class base l p → ArgsAccepted (argTaken (λ m q f. readTags base ts m q f below) l p frame y)
+        → Keeps base (argPassed (λ m q. scan (take n ts) m q (length below)) l p (usedOf y))
+        (argTaken (λ m q f. readTags base ts m q f below) l p frame y) (drop n ts) l p
     by-arg (arg.Refused fault) r v = absurd v
-    by-arg (arg.Given a b used) r v =
-        let f = snoc frame tag a b nil in
-        let o = readArgs base ts (drop used l) (p + used) f below in
-        keeps-later base used (scan (take n ts) (drop used l) (p + used) (length below)) o (drop n ts) l p (given-within class base l p r)
+    by-arg (arg.Given item used) r v =
+        let f = snoc frame item nil in
+        let o = readTags base ts (drop used l) (p + used) f below in
+        keeps-later base used (scan (take n ts) (drop used l) (p + used) (length below)) o (drop n ts) l p
+        (given-within tag class base l p r)
         (h (drop used l) (p + used) f below n c (let z : m ≡ n = cc in e ∙ cc) (accepted-later used o v))
 
 -- how many tags a cut takes of those from some tag on
-first-le : (s : Sort) (k : Back) (n c : ℕ) → before s k ≡ Cut n c → (m : ℕ) → ((j d : ℕ) → k ≡ Cut j d → j ≤ m) → (1 ≤ n) × (n ≤ suc m)
+first-le : (s : Sort) (k : Back) (n c : ℕ) → tagBefore s k ≡ Cut n c → (m : ℕ) → ((j d : ℕ) → k ≡ Cut j d → j ≤ m) → (1 ≤ n) × (n ≤ suc m)
 first-le Opens (Cut j d) n c e m h = let z : suc j ≡ n = cc in (omega arith, omega (arith, h j d refl))
-first-le Opens (Whole zero d) n c e m h = let z : 1 ≡ n = cc in (omega arith, omega arith)
-first-le Opens (Whole (suc j) d) n c e m h = absurd (clash e)
+first-le Opens (Uncut zero d) n c e m h = let z : 1 ≡ n = cc in (omega arith, omega arith)
+first-le Opens (Uncut (suc j) d) n c e m h = absurd (clash e)
 first-le Closes (Cut j d) n c e m h = let z : suc j ≡ n = cc in (omega arith, omega (arith, h j d refl))
-first-le Closes (Whole j d) n c e m h = absurd (clash e)
+first-le Closes (Uncut j d) n c e m h = absurd (clash e)
 first-le (Leaf class) (Cut j d) n c e m h = let z : suc j ≡ n = cc in (omega arith, omega (arith, h j d refl))
-first-le (Leaf class) (Whole j d) n c e m h = absurd (clash e)
+first-le (Leaf class) (Uncut j d) n c e m h = absurd (clash e)
 
 cut-few : (ts : List ℕ) (n c : ℕ) → back ts ≡ Cut n c → n ≤ length ts
 unfolding back
@@ -191,7 +200,7 @@ cut-few [] n c e = absurd (clash e)
 cut-few (t ∷ ts) n c e = first-le (sortOf t) (back ts) n c e (length ts) (λ j d x. cut-few ts j d x) .1
 
 cut-law : (base : ℕ) (ts : List ℕ) → Cuts base ts
-unfolding readArgs back scan
+unfolding readTags back scan
 cut-law base [] l p frame below n c e w = absurd (clash e)
 cut-law base (t ∷ ts) l p frame below zero c e w =
     absurd (omega (arith, first-le (sortOf t) (back ts) 0 c e (length ts) (λ j d x. cut-few ts j d x)))
@@ -199,32 +208,35 @@ cut-law base (t ∷ ts) l p frame below (suc n) c e w = cut-act (sortOf t) (back
 
 -- ---- as the second reading cites it
 
+-- a cut takes no more tags than there are
 pub cut-le : {n c : ℕ} (ts : List ℕ) → Cut n c ≡ back ts → n ≤ length ts
 cut-le {n} {c} ts e = cut-few ts n c (sym e)
 
-pub all-closed : {n c : ℕ} (k : Back) → Whole n c ≡ k → AllClosed k
-all-closed (Whole m d) e = tt
+-- tags that are not cut close all that they open
+pub all-closed : {n c : ℕ} (k : Back) → Uncut n c ≡ k → AllClosed k
+all-closed (Uncut m d) e = tt
 all-closed (Cut m d) e = absurd (clash e)
 
 closed-all : (k : Back) → Closed k 0 → AllClosed k
-closed-all (Whole n c) w = tt
+closed-all (Uncut n c) w = tt
 closed-all (Cut n c) w = w
 
 -- what is left of tags and data, as it is lent: the tags from n on, and the data after `used` bytes
 abbrev pub rest : ℕ → List ℕ → List ℕ → ℕ → ℕ → ℕ → Args
-rest base ts l p n used = argsOf base (take (length ts - n) (drop n ts)) (take (length l - used) (drop used l)) (p + used)
+rest base ts l p n used = readArgs base (take (length ts - n) (drop n ts)) (take (length l - used) (drop used l)) (p + used)
 
 -- the arguments of all are those of the rest, which is accepted and closes what it opens
 pub record CutAt (base : ℕ) (ts l : List ℕ) (p n used : ℕ) : Type 0 where
   pub within : used ≤ length l
   pub closed : AllClosed (back (take (length ts - n) (drop n ts)))
-  pub accepted : Accepted (rest base ts l p n used)
-  pub kept : keptOf (argsOf base ts l p) ≡ keptOf (rest base ts l p n used)
+  pub accepted : ArgsAccepted (rest base ts l p n used)
+  pub kept : keptOf (readArgs base ts l p) ≡ keptOf (rest base ts l p n used)
 
-module _ (base : ℕ) (ts l : List ℕ) (p : ℕ) {n c : ℕ} (e : Cut n c ≡ back ts) (a : Accepted (argsOf base ts l p)) where
-  keeps : Keeps base (scan (take n ts) l p 0) (argsOf base ts l p) (drop n ts) l p
+module _ (base : ℕ) (ts l : List ℕ) (p : ℕ) {n c : ℕ} (e : Cut n c ≡ back ts) (a : ArgsAccepted (readArgs base ts l p)) where
+  keeps : Keeps base (scan (take n ts) l p 0) (readArgs base ts l p) (drop n ts) l p
   keeps = cut-law base ts l p nil [] n c (sym e) a
 
+  -- the first tags of what is accepted are not refused
   pub cut-never : {fault : Fault} → Refused fault ≡ scan (take n ts) l p 0 → ⊥
   cut-never s = let r = keeps .scanned in let z : _≡_ {A = ℕ} 0 1 = cc in omega arith
 
@@ -232,21 +244,23 @@ module _ (base : ℕ) (ts l : List ℕ) (p : ℕ) {n c : ℕ} (e : Cut n c ≡ b
     lost-is : keeps .lost ≡ used
     lost-is = let r = keeps .scanned in cc
 
-    reads-rest : argsOf base ts l p ≡ later used (rest base ts l p n used)
+    reads-rest : readArgs base ts l p ≡ later used (rest base ts l p n used)
     reads-rest =
         rw (tail ts n, tail l used)
-        (subst (λ (u : ℕ). argsOf base ts l p ≡ later u (argsOf base (drop n ts) (drop u l) (p + u))) lost-is (keeps .same))
+        (subst (λ (u : ℕ). readArgs base ts l p ≡ later u (readArgs base (drop n ts) (drop u l) (p + u))) lost-is (keeps .same))
 
+    -- once the first tags are scanned, the rest reads as all
     pub cut-at : CutAt base ts l p n used
     cut-at =
         record {
           within = omega (arith, keeps .inside, lost-is);
           closed = rw (tail ts n) (closed-all (back (drop n ts)) (keeps .closed));
-          accepted = accepted-later used (rest base ts l p n used) (subst Accepted reads-rest a);
+          accepted = accepted-later used (rest base ts l p n used) (subst ArgsAccepted reads-rest a);
           kept = ap keptOf reads-rest ∙ kept-later used (rest base ts l p n used);
         }
 
+-- where there is room for all, there is room for the rest
 pub cut-room : {base : ℕ} {ts l : List ℕ} {p n used index : ℕ} {table : List ℕ} → CutAt base ts l p n used
-    → Room (argsOf base ts l p) index table
-    → Room (rest base ts l p n used) index table
-cut-room k w = record { accepted = k .accepted; fits = rw (k .kept) at (w .fits); low = rw (k .kept) at (w .low) }
+    → ArgsRoom (readArgs base ts l p) index table
+    → ArgsRoom (rest base ts l p n used) index table
+cut-room k w = record { accepted = k .accepted; room = rw (k .kept) at (w .room) }

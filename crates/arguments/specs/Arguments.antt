@@ -6,10 +6,11 @@ use lib.ListN.{drop}
 use Rattle.refusal.specs.declared.Fault.{Fault}
 use Rattle.refusal.specs.declared.Fault.the-variants.{NotOpen}
 use Rattle.node.specs.Forest.{Forest, nil, snoc}
-use Rattle.node.specs.Tags.{sortOf}
+use Rattle.node.specs.Tags.{arrayKind, sortOf}
+use Rattle.node.specs.declared.record.Item.{Item}
 use Rattle.node.specs.declared.tags.Sort.{Sort}
 use Rattle.node.specs.declared.tags.Sort.the-variants.{Opens, Closes, Leaf}
-use Rattle.argument.specs.Argument.{argOf}
+use Rattle.argument.specs.Argument.{readArg, argItem}
 use Rattle.argument.specs.declared.Arg.{Arg}
 use Rattle.argument.specs.declared.Arg.the-variants as arg
 
@@ -24,23 +25,31 @@ later n (refused fault) = refused fault
 later n (args kept used) = args kept (n + used)
 
 -- one argument more at the end of the frame; `go` reads the later tags' data
-abbrev pub taken : (List ℕ → ℕ → Forest → Args) → ℕ → List ℕ → ℕ → Forest → Arg → Args
-taken go tag l p frame (arg.Refused fault) = refused fault
-taken go tag l p frame (arg.Given a b used) = later used (go (drop used l) (p + used) (snoc frame tag a b nil))
+abbrev pub argTaken : (List ℕ → ℕ → Forest → Args) → List ℕ → ℕ → Forest → Arg → Args
+argTaken go l p frame (arg.Refused fault) = refused fault
+argTaken go l p frame (arg.Given item used) = later used (go (drop used l) (p + used) (snoc frame item nil))
+
+-- an array's own numbers: both fields are 0 ("The node table")
+abbrev pub arrayItem : Item
+arrayItem = argItem arrayKind 0 0
+
+-- an array that is open: the frame that waits for it, and its own numbers
+pub data Open : Type 0 where
+  waits : (outer : Forest) (item : Item) → Open
 
 -- what one tag does: [ lets the frame wait and opens a new one, ] puts the frame as an array at the end of the one below, any
 -- other is an argument
-abbrev pub act : Sort → (List ℕ → ℕ → Forest → List Forest → Args) → ℕ → ℕ → List ℕ → ℕ → Forest → List Forest → Args
-act Opens go base tag l p frame below = go l p nil (frame ∷ below)
+abbrev pub act : Sort → (List ℕ → ℕ → Forest → List Open → Args) → ℕ → ℕ → List ℕ → ℕ → Forest → List Open → Args
+act Opens go base tag l p frame below = go l p nil (waits frame arrayItem ∷ below)
 act Closes go base tag l p frame [] = refused NotOpen
-act Closes go base tag l p frame (outer ∷ below) = go l p (snoc outer 91 0 0 frame) below
-act (Leaf class) go base tag l p frame below = taken (λ m q f. go m q f below) tag l p frame (argOf class base l p)
+act Closes go base tag l p frame (waits outer item ∷ below) = go l p (snoc outer item frame) below
+act (Leaf class) go base tag l p frame below = argTaken (λ m q f. go m q f below) l p frame (readArg tag class base l p)
 
 -- each tag's data before the next tag; at the end the frame that is filled is kept, and what waits below it is lost (rule 3)
-unfoldable pub readArgs : ℕ → List ℕ → List ℕ → ℕ → Forest → List Forest → Args
-readArgs base [] l p frame below = args frame 0
-readArgs base (tag ∷ tags) l p frame below = act (sortOf tag) (λ m q f b. readArgs base tags m q f b) base tag l p frame below
+unfoldable pub readTags : ℕ → List ℕ → List ℕ → ℕ → Forest → List Open → Args
+readTags base [] l p frame below = args frame 0
+readTags base (tag ∷ tags) l p frame below = act (sortOf tag) (λ m q f b. readTags base tags m q f b) base tag l p frame below
 
 -- the data of a message's tags, from the first: an empty frame, and none that waits
-abbrev pub argsOf : ℕ → List ℕ → List ℕ → ℕ → Args
-argsOf base tags l p = readArgs base tags l p nil []
+abbrev pub readArgs : ℕ → List ℕ → List ℕ → ℕ → Args
+readArgs base tags l p = readTags base tags l p nil []

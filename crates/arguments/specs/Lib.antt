@@ -1,2 +1,2 @@
 pub mod Arguments
-pub mod Readings
+pub mod CodeReadings

@@ -7,10 +7,11 @@ use scan::Scanned;
 ghost use mathlib.Core.Path.{_≡_};
 ghost use Prim.Native.Nat.{ℕ, _+_, _≤_};
 ghost use lib.ListN.{length};
+ghost use Rattle.wire.specs.Limits.{longest};
 ghost use Rattle.wire.specs.Wrote.{Wrote};
 ghost use Rattle.node.specs.Records.{recordsOf};
-ghost use Rattle.arguments.specs.Arguments.{argsOf};
-ghost use Rattle.arguments.specs.Readings.{measured, keptOf, Room};
+ghost use Rattle.arguments.specs.Arguments.{readArgs};
+ghost use Rattle.arguments.specs.CodeReadings.{measured, keptOf, ArgsRoom};
 
 // What the first reading of the arguments answers.
 pub enum Measured {
@@ -21,14 +22,14 @@ pub enum Measured {
 
 // First reading of the arguments: nothing is written. Their offsets don't matter here, so it takes no `base`.
 //
-// Ruled out: an unclosed array counted as closed; `]` with no array open passed over.
+// Ruled out: the bytes in place of the records; padding counted from the arguments, and not from the frame.
 pub fn measure_osc_args(tags: &[u8], input: &[u8], pos: usize) -> Measured
-    requires { ⌜ pos + length (now input) ≤ 65535 ⌝ }
-    ensures { λ r. ⌜ ((base : ℕ) → r ≡ measured (argsOf base (now (tags .entry)) (now (input .entry)) pos)) ⌝ }
+    requires { ⌜ pos + length (now input) ≤ longest ⌝ }
+    ensures { λ r. ⌜ ((base : ℕ) → r ≡ measured (readArgs base (now (tags .entry)) (now (input .entry)) pos)) ⌝ }
 {
     match scan::scan_args(tags, input, pos) {
         Scanned::Used(used) => match scan::look_back(tags) {
-            Back::Whole { closed: _, count } => Measured::Kept { count, used },
+            Back::Uncut { closed: _, count } => Measured::Kept { count, used },
             Back::Cut { first: _, count } => Measured::Kept { count, used },
         },
         Scanned::Refused(fault) => Measured::Refused(fault),
@@ -48,12 +49,13 @@ pub fn read_osc_args(
     table: &mut [u8],
     index: usize,
 )
-    requires { ⌜ base + pos + length (now input) ≤ 65535 ⌝ }
-    requires { ⌜ Room (argsOf base (now tags) (now input) pos) index (now table) ⌝ }
-    ensures { λ _. ⌜ Wrote (recordsOf index (keptOf (argsOf base (now (tags .entry)) (now (input .entry)) pos))) (now (table .entry)) (now (table .exit)) ⌝ }
+    requires { ⌜ base + pos + length (now input) ≤ longest ⌝ }
+    requires { ⌜ ArgsRoom (readArgs base (now tags) (now input) pos) index (now table) ⌝ }
+    ensures { λ _. ⌜ Wrote (recordsOf index (keptOf (readArgs base (now (tags .entry)) (now (input .entry)) pos)))
+        (now (table .entry)) (now (table .exit)) ⌝ }
 {
     match scan::look_back(tags) {
-        Back::Whole {
+        Back::Uncut {
             closed: _,
             count: _,
         } => records::fill_whole(tags, input, base, pos, table, index),

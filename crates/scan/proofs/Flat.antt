@@ -7,11 +7,11 @@ use native.Mathlib.Numerals.{add-one}
 use lib.Dec.{eqb}
 use lib.ListN.{length, drop, getD}
 use lib.Seq.{drop-cons, drop-length}
-use Rattle.node.specs.Tags.{classOf, sortOf}
+use Rattle.node.specs.Tags.{arrayKind, classOf, sortOf}
 use Rattle.node.specs.declared.tags.Sort.{Sort}
 use Rattle.node.specs.declared.tags.Sort.the-variants.{Leaf}
-use Rattle.scan.specs.Scans.{before, back, bracket, brackets}
-use Rattle.scan.specs.declared.Back.the-variants.{Whole}
+use Rattle.scan.specs.CodeScans.{tagBefore, back, bracket, brackets}
+use Rattle.scan.specs.declared.Back.the-variants.{Uncut}
 
 -- ---- the loop that looks for a bracket
 
@@ -35,6 +35,7 @@ module _ (tags : List ℕ) (i : ℕ) (h : i < length tags) where
   pub bracket-not-met : (any : Bool) → bracket (getD tags i 0) ≡ false → any || brackets (drop (i + 1) tags) ≡ any || brackets (drop i tags)
   bracket-not-met any e = sym (ap (λ (x : Bool). any || x) (here ∙ ap (λ (x : Bool). x || brackets (drop (i + 1) tags)) e))
 
+-- where no tag is left, it is what was met
 pub brackets-end : (tags : List ℕ) (i : ℕ) (any : Bool) → i ≡ length tags → any || brackets (drop i tags) ≡ any
 brackets-end tags i any e = rw (e, drop-length) (or-false any)
 
@@ -51,15 +52,15 @@ second-false false y e = e
 leaf : (tag : ℕ) → bracket tag ≡ false → sortOf tag ≡ Leaf (classOf tag)
 unfolding sortOf
 leaf tag e =
-    let n : eqb tag 91 ≡ false = first-false (eqb tag 91) (eqb tag 93 || false) e in
-    let m : eqb tag 93 ≡ false = first-false (eqb tag 93) false (second-false (eqb tag 91) (eqb tag 93 || false) e) in
+    let n : eqb tag arrayKind ≡ false = first-false (eqb tag arrayKind) (eqb tag 93 || false) e in
+    let m : eqb tag 93 ≡ false = first-false (eqb tag 93) false (second-false (eqb tag arrayKind) (eqb tag 93 || false) e) in
     rw (n, m)
 
 -- they are all kept
-pub flat : (tags : List ℕ) → brackets tags ≡ false → Whole 0 (length tags) ≡ back tags
+pub flat : (tags : List ℕ) → brackets tags ≡ false → Uncut 0 (length tags) ≡ back tags
 unfolding back
 flat [] e = refl
 flat (tag ∷ tags) e =
     let s = leaf tag (first-false (bracket tag) (brackets tags) e) in
     let r = flat tags (second-false (bracket tag) (brackets tags) e) in
-    sym (ap (λ (x : Sort). before x (back tags)) s ∙ ap (before (Leaf (classOf tag))) (sym r))
+    sym (ap (λ (x : Sort). tagBefore x (back tags)) s ∙ ap (tagBefore (Leaf (classOf tag))) (sym r))

@@ -1,3 +1,3 @@
 pub mod Flat
-pub mod Within
+pub mod Passed
 pub mod Turns

@@ -14,29 +14,30 @@ use Rattle.node.specs.Tags.{sortOf}
 use Rattle.node.specs.declared.tags.Class.{Class}
 use Rattle.node.specs.declared.tags.Sort.{Sort}
 use Rattle.node.specs.declared.tags.Sort.the-variants.{Opens, Closes, Leaf}
-use Rattle.argument.specs.Argument.{argOf}
-use Rattle.scan.specs.Scans.{usedOf, more, turn, scan, before, back}
+use Rattle.argument.specs.Argument.{readArg}
+use Rattle.scan.proofs.Passed.{used-within}
+use Rattle.scan.specs.CodeScans.{usedOf, moreUsed, turn, scan, tagBefore, back}
 use Rattle.scan.specs.declared.Scanned.{Scanned}
 use Rattle.scan.specs.declared.Scanned.the-variants.{Used, Refused}
-use Rattle.scan.specs.declared.Back.the-variants.{Whole, Cut}
-use Rattle.scan.proofs.Within.{used-within}
+use Rattle.scan.specs.declared.Back.the-variants.{Uncut, Cut}
 
-more-more : (m n : ℕ) (s : Scanned) → more m (more n s) ≡ more (m + n) s
+more-more : (m n : ℕ) (s : Scanned) → moreUsed m (moreUsed n s) ≡ moreUsed (m + n) s
 more-more m n (Used used) = ap Used (omega arith)
 more-more m n (Refused fault) = refl
 
-more-none : (s : Scanned) → more 0 s ≡ s
+more-none : (s : Scanned) → moreUsed 0 s ≡ s
 more-none (Used used) = ap Used (omega arith)
 more-none (Refused fault) = refl
 
 -- ---- forward
 
 module _ (ts m : List ℕ) (q n : ℕ) (h : 0 < length ts) where
-  scan-turn : {s : Sort} → s ≡ sortOf (getD ts 0 0) → scan ts m q n ≡ turn s (λ m q k. scan (drop 1 ts) m q k) m q n
+  scan-turn : {s : Sort} → s ≡ sortOf (getD ts 0 0) → scan ts m q n ≡ turn s (λ m q k. scan (drop 1 ts) m q k) (getD ts 0 0) m q n
   unfolding scan
   scan-turn {s} e = by-list ts h ∙ rw (← e)
     where
-      by-list : (ts : List ℕ) → 0 < length ts → scan ts m q n ≡ turn (sortOf (getD ts 0 0)) (λ m q k. scan (drop 1 ts) m q k) m q n
+      by-list : (ts : List ℕ) → 0 < length ts
+          → scan ts m q n ≡ turn (sortOf (getD ts 0 0)) (λ m q k. scan (drop 1 ts) m q k) (getD ts 0 0) m q n
       by-list [] h = absurd (omega arith)
       by-list (t ∷ ts) h = refl
 
@@ -49,13 +50,15 @@ module _ (ts m : List ℕ) (q n : ℕ) (h : 0 < length ts) where
   scan-closes : Closes ≡ sortOf (getD ts 0 0) → (n ≡ 0 → ⊥) → scan ts m q n ≡ scan (drop 1 ts) m q (n - 1)
   scan-closes e z =
       let some : n ≡ suc (n - 1) = omega arith in
-      scan-turn e ∙ ap (turn Closes (λ m q k. scan (drop 1 ts) m q k) m q) some
+      scan-turn e ∙ ap (turn Closes (λ m q k. scan (drop 1 ts) m q k) (getD ts 0 0) m q) some
 
-  scan-given : {class : Class} {used : ℕ} → Leaf class ≡ sortOf (getD ts 0 0) → Used used ≡ usedOf (argOf class 0 m q)
-      → scan ts m q n ≡ more used (scan (drop 1 ts) (drop used m) (q + used) n)
+  scan-given : {class : Class} {used : ℕ} → Leaf class ≡ sortOf (getD ts 0 0)
+      → Used used ≡ usedOf (readArg (getD ts 0 0) class 0 m q)
+      → scan ts m q n ≡ moreUsed used (scan (drop 1 ts) (drop used m) (q + used) n)
   scan-given e g = scan-turn e ∙ rw (← g)
 
-  scan-refused : {class : Class} {fault : Fault} → Leaf class ≡ sortOf (getD ts 0 0) → Refused fault ≡ usedOf (argOf class 0 m q)
+  scan-refused : {class : Class} {fault : Fault} → Leaf class ≡ sortOf (getD ts 0 0)
+      → Refused fault ≡ usedOf (readArg (getD ts 0 0) class 0 m q)
       → scan ts m q n ≡ Refused fault
   scan-refused e g = scan-turn e ∙ rw (← g)
 
@@ -66,11 +69,12 @@ scan-end (t ∷ ts) m q n h = absurd (omega arith)
 
 -- of the tags and of the data l from pos on, ts and m at `at` are left, and n arrays are open
 pub record Scanning (tags l : List ℕ) (pos : ℕ) (ts m : List ℕ) (at n : ℕ) : Type 0 where
-  pub whole : scan tags l pos 0 ≡ more (at - pos) (scan ts m at n)
+  pub whole : scan tags l pos 0 ≡ moreUsed (at - pos) (scan ts m at n)
   pub ends : at + length m ≡ pos + length l
   pub past : pos ≤ at
   pub few : n + length ts ≤ length tags
 
+-- at the start all is left
 pub scanning-start : (tags l : List ℕ) (pos : ℕ) → Scanning tags l pos tags l pos 0
 scanning-start tags l pos =
     let z : pos - pos ≡ 0 = omega arith in
@@ -82,47 +86,59 @@ module _ {tags l : List ℕ} {pos : ℕ} {ts m : List ℕ} {at n : ℕ} (w : Sca
       → Scanning tags l pos (take (length ts - 1) (drop 1 ts)) m at n′
   next n′ h k e =
       rw (tail ts 1)
-      (record { whole = w .whole ∙ ap (more (at - pos)) e; ends = w .ends; past = w .past; few = omega (arith, length-drop 1 ts, w .few) })
+      (record {
+        whole = w .whole
+            ∙ ap (moreUsed (at - pos)) e;
+        ends = w .ends;
+        past = w .past;
+        few = omega (arith, length-drop 1 ts, w .few);
+      })
 
+  -- a tag that opens: one array more is open
   pub scanning-opens : 0 < length ts → Opens ≡ sortOf (getD ts 0 0) → Scanning tags l pos (take (length ts - 1) (drop 1 ts)) m at (n + 1)
   scanning-opens h e = next (n + 1) h (omega arith) (scan-opens ts m at n h e)
 
+  -- a tag that closes: one array fewer is open
   pub scanning-closes : 0 < length ts → Closes ≡ sortOf (getD ts 0 0) → (n ≡ 0 → ⊥)
       → Scanning tags l pos (take (length ts - 1) (drop 1 ts)) m at (n - 1)
   scanning-closes h e z = next (n - 1) h (omega arith) (scan-closes ts m at n h e z)
 
+  -- a tag whose argument is given: its bytes are read too
   pub scanning-given : {class : Class} {used : ℕ} → 0 < length ts → Leaf class ≡ sortOf (getD ts 0 0)
-      → Used used ≡ usedOf (argOf class 0 m at)
+      → Used used ≡ usedOf (readArg (getD ts 0 0) class 0 m at)
       → Scanning tags l pos (take (length ts - 1) (drop 1 ts)) (take (length m - used) (drop used m)) (at + used) n
   scanning-given {class} {used} h e g =
       let sum : at - pos + used ≡ at + used - pos = omega (arith, w .past) in
-      let within : used ≤ length m = used-within class 0 m at g in
+      let within : used ≤ length m = used-within (getD ts 0 0) class 0 m at g in
       rw (tail ts 1, tail m used)
       (record {
         whole =
-            w .whole ∙ ap (more (at - pos)) (scan-given ts m at n h e g)
+            w .whole ∙ ap (moreUsed (at - pos)) (scan-given ts m at n h e g)
             ∙ more-more (at - pos) used (scan (drop 1 ts) (drop used m) (at + used) n) ∙ rw sum;
         ends = omega (arith, length-drop used m, w .ends);
         past = omega (arith, w .past);
         few = omega (arith, length-drop 1 ts, w .few);
       })
 
+  -- a tag that closes where no array is open is refused
   pub scanning-none : 0 < length ts → Closes ≡ sortOf (getD ts 0 0) → n ≡ 0 → Refused NotOpen ≡ scan tags l pos 0
-  scanning-none h e z = sym (w .whole ∙ ap (more (at - pos)) (scan-none ts m at n h e z))
+  scanning-none h e z = sym (w .whole ∙ ap (moreUsed (at - pos)) (scan-none ts m at n h e z))
 
+  -- a tag whose argument is refused
   pub scanning-refused : {class : Class} {fault : Fault} → 0 < length ts → Leaf class ≡ sortOf (getD ts 0 0)
-      → Refused fault ≡ usedOf (argOf class 0 m at)
+      → Refused fault ≡ usedOf (readArg (getD ts 0 0) class 0 m at)
       → Refused fault ≡ scan tags l pos 0
-  scanning-refused h e g = sym (w .whole ∙ ap (more (at - pos)) (scan-refused ts m at n h e g))
+  scanning-refused h e g = sym (w .whole ∙ ap (moreUsed (at - pos)) (scan-refused ts m at n h e g))
 
+  -- where no tag is left, what was read is all
   pub scanning-end : length ts ≤ 0 → Used (at - pos) ≡ scan tags l pos 0
   scanning-end h =
       let z : at - pos + 0 ≡ at - pos = omega arith in
-      sym (w .whole ∙ ap (more (at - pos)) (scan-end ts m at n h) ∙ rw z)
+      sym (w .whole ∙ ap (moreUsed (at - pos)) (scan-end ts m at n h) ∙ rw z)
 
 -- ---- backward
 
-before-cut : (s : Sort) (n c : ℕ) → before s (Cut n c) ≡ Cut (suc n) c
+before-cut : (s : Sort) (n c : ℕ) → tagBefore s (Cut n c) ≡ Cut (suc n) c
 before-cut Opens n c = refl
 before-cut Closes n c = refl
 before-cut (Leaf class) n c = refl
@@ -133,46 +149,52 @@ cut-up zero ts n c h e = e ∙ rw (zero-add n)
 cut-up (suc j) [] n c h e = absurd (omega arith)
 cut-up (suc j) (t ∷ ts) n c h e =
     let s : suc (j + n) ≡ suc j + n = omega arith in
-    ap (before (sortOf t)) (cut-up j ts n c (omega arith) e) ∙ before-cut (sortOf t) (j + n) c ∙ rw s
+    ap (tagBefore (sortOf t)) (cut-up j ts n c (omega arith) e) ∙ before-cut (sortOf t) (j + n) c ∙ rw s
 
 -- the tags from j on close every array that they open, and n more; they give c records
 pub record Looking (tags : List ℕ) (j n c : ℕ) : Type 0 where
   pub inside : j ≤ length tags
   pub few : n + c + j ≤ length tags
-  pub whole : back (drop j tags) ≡ Whole n c
+  pub whole : back (drop j tags) ≡ Uncut n c
 
+-- at the end of the tags nothing was looked at
 pub looking-start : (tags : List ℕ) → Looking tags (length tags) 0 0
 unfolding back
 looking-start tags = record { inside = omega arith; few = omega arith; whole = rw (drop-length tags) }
 
 module _ {tags : List ℕ} {j n c : ℕ} (w : Looking tags j n c) (h : 0 < j) where
-  back-turn : {s : Sort} → s ≡ sortOf (getD tags (j - 1) 0) → back (drop (j - 1) tags) ≡ before s (Whole n c)
+  back-turn : {s : Sort} → s ≡ sortOf (getD tags (j - 1) 0) → back (drop (j - 1) tags) ≡ tagBefore s (Uncut n c)
   unfolding back
   back-turn e =
       let up : j ≡ suc (j - 1) = omega arith in
-      let later : back (drop (suc (j - 1)) tags) ≡ Whole n c = subst (λ (x : ℕ). back (drop x tags) ≡ Whole n c) up (w .whole) in
+      let later : back (drop (suc (j - 1)) tags) ≡ Uncut n c = subst (λ (x : ℕ). back (drop x tags) ≡ Uncut n c) up (w .whole) in
       rw (drop-cons tags (j - 1) 0 (omega (arith, w .inside)), ← e, later)
 
   -- one tag more was looked at
-  earlier : {s : Sort} (n′ c′ : ℕ) → s ≡ sortOf (getD tags (j - 1) 0) → n′ + c′ ≤ n + c + 1 → before s (Whole n c) ≡ Whole n′ c′
+  earlier : {s : Sort} (n′ c′ : ℕ) → s ≡ sortOf (getD tags (j - 1) 0) → n′ + c′ ≤ n + c + 1 → tagBefore s (Uncut n c) ≡ Uncut n′ c′
       → Looking tags (j - 1) n′ c′
   earlier n′ c′ e k b = record { inside = omega (arith, w .inside); few = omega (arith, w .few); whole = back-turn e ∙ b }
 
+  -- a tag that opens an array which is closed later: one record more
   pub looking-opens : Opens ≡ sortOf (getD tags (j - 1) 0) → (n ≡ 0 → ⊥) → Looking tags (j - 1) (n - 1) (c + 1)
   looking-opens e z =
       let some : n ≡ suc (n - 1) = omega arith in
-      earlier (n - 1) (c + 1) e (omega arith) (ap (λ (k : ℕ). before Opens (Whole k c)) some ∙ rw (add-one c))
+      earlier (n - 1) (c + 1) e (omega arith) (ap (λ (k : ℕ). tagBefore Opens (Uncut k c)) some ∙ rw (add-one c))
 
+  -- a tag that closes: one array more
   pub looking-closes : Closes ≡ sortOf (getD tags (j - 1) 0) → Looking tags (j - 1) (n + 1) c
   looking-closes e = earlier (n + 1) c e (omega arith) (rw (add-one n))
 
+  -- any other tag: one record more
   pub looking-leaf : {class : Class} → Leaf class ≡ sortOf (getD tags (j - 1) 0) → Looking tags (j - 1) n (c + 1)
   looking-leaf e = earlier n (c + 1) e (omega arith) (rw (add-one c))
 
+  -- a tag that opens an array which stays open: the tags are cut after it
   pub looking-cut : Opens ≡ sortOf (getD tags (j - 1) 0) → n ≡ 0 → Cut (j - 1 + 1) c ≡ back tags
   looking-cut e z = sym (cut-up (j - 1) tags 1 c (omega (arith, w .inside)) (back-turn e ∙ rw z))
 
-pub looking-end : {tags : List ℕ} {j n c : ℕ} → Looking tags j n c → j ≤ 0 → Whole n c ≡ back tags
+-- where all tags were looked at, they are not cut
+pub looking-end : {tags : List ℕ} {j n c : ℕ} → Looking tags j n c → j ≤ 0 → Uncut n c ≡ back tags
 looking-end {tags} {j} {n} {c} w h =
     let z : j ≡ 0 = omega arith in
     sym (rw z at (w .whole))

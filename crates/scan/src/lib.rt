@@ -1,15 +1,18 @@
 // The tags and their data without records: what the first reading finds out. Linear, with no stack for arrays.
 use argument::Arg;
-use argument::read_rare;
+use argument::read_checked;
+use node::tags::ARRAY;
 use node::tags::Class;
 use node::tags::Sort;
 use node::tags::sort_of;
 use refusal::Fault;
 ghost use mathlib.Core.Path.{_≡_};
-ghost use Prim.Native.Nat.{ℕ, _+_, _≤_};
+ghost use Prim.Native.Nat.{_+_, _≤_};
 ghost use lib.ListN.{length};
-ghost use Rattle.argument.specs.Argument.{having, argOf};
-ghost use Rattle.scan.specs.Scans.{usedOf, scan, back, bracket, brackets};
+ghost use Rattle.wire.specs.Limits.{longest};
+ghost use Rattle.node.specs.declared.record.Item.{Item};
+ghost use Rattle.argument.specs.Argument.{having, readArg};
+ghost use Rattle.scan.specs.CodeScans.{usedOf, scan, back, bracket, brackets};
 
 // How many bytes of data tags take, or the fault.
 pub enum Scanned {
@@ -20,14 +23,14 @@ pub enum Scanned {
 // What the tags from some place on keep.
 pub enum Back {
     // They close every array that they open, and `closed` more; they give `count` records.
-    Whole { closed: usize, count: usize },
+    Uncut { closed: usize, count: usize },
     // An array that they open stays open. The last such '[' ends the first `first` of them; those after it give `count` records.
     Cut { first: usize, count: usize },
 }
 
 // `n` bytes, where the data has them.
 fn pass_bytes(input: &[u8], n: usize) -> Scanned
-    ensures { λ r. ⌜ ((a b : ℕ) → r ≡ usedOf (having n (now (input .entry)) (Arg.Given a b n))) ⌝ }
+    ensures { λ r. ⌜ ((item : Item) → r ≡ usedOf (having n (now (input .entry)) (Arg.Given item n))) ⌝ }
 {
     if input.len() < n {
         return Scanned::Refused(Fault::RunsOut);
@@ -35,25 +38,27 @@ fn pass_bytes(input: &[u8], n: usize) -> Scanned
     Scanned::Used(n)
 }
 
-// How many bytes of data one argument takes.
-fn pass_arg(class: Class, input: &[u8], pos: usize) -> Scanned
-    requires { ⌜ pos + length (now input) ≤ 65535 ⌝ }
-    ensures { λ r. ⌜ r ≡ usedOf (argOf class 0 (now (input .entry)) pos) ⌝ }
+// How many bytes of data one argument takes. Its numbers don't matter here, so a plain class reads none, and the offset base is 0.
+fn pass_arg(tag: u8, class: Class, input: &[u8], pos: usize) -> Scanned
+    requires { ⌜ pos + length (now input) ≤ longest ⌝ }
+    ensures { λ r. ⌜ r ≡ usedOf (readArg tag class 0 (now (input .entry)) pos) ⌝ }
 {
     match class {
         Class::Four => pass_bytes(input, 4),
         Class::Eight => pass_bytes(input, 8),
         Class::Bare => Scanned::Used(0),
-        _ => match read_rare(class, input, 0, pos) {
-            Arg::Given { a: _, b: _, used } => Scanned::Used(used),
+        _ => match read_checked(tag, class, input, 0, pos) {
+            Arg::Given { item: _, used } => Scanned::Used(used),
             Arg::Refused(fault) => Scanned::Refused(fault),
         },
     }
 }
 
 // Forward: whether the tags and their data are accepted, and how many bytes they take. Only the number of open arrays is kept.
+//
+// Ruled out: `]` with no array open passed over; padding counted from where an earlier argument stands.
 pub fn scan_args(tags: &[u8], input: &[u8], pos: usize) -> Scanned
-    requires { ⌜ pos + length (now input) ≤ 65535 ⌝ }
+    requires { ⌜ pos + length (now input) ≤ longest ⌝ }
     ensures { λ r. ⌜ r ≡ scan (now (tags .entry)) (now (input .entry)) pos 0 ⌝ }
 {
     let mut left = tags;
@@ -71,7 +76,7 @@ pub fn scan_args(tags: &[u8], input: &[u8], pos: usize) -> Scanned
                 }
                 waiting -= 1;
             }
-            Sort::Leaf(class) => match pass_arg(class, rest, at) {
+            Sort::Leaf(class) => match pass_arg(tag, class, rest, at) {
                 Scanned::Used(used) => {
                     rest = &rest[used..];
                     at += used;
@@ -88,7 +93,7 @@ fn is_bracket(tag: u8) -> bool
     ensures { λ r. ⌜ r ≡ bracket tag ⌝ }
 {
     match tag {
-        b'[' | b']' => true,
+        ARRAY | b']' => true,
         _ => false,
     }
 }
@@ -130,17 +135,19 @@ fn walk_back(tags: &[u8]) -> Back
             Sort::Leaf(_) => count += 1,
         }
     }
-    Back::Whole { closed, count }
+    Back::Uncut { closed, count }
 }
 
 // The same. Where no tag is a bracket, each one is a record, and none is looked at by itself.
+//
+// Ruled out: an array that stays open answered as closed; flat tags that close an array.
 pub fn look_back(tags: &[u8]) -> Back
     ensures { λ r. ⌜ r ≡ back (now (tags .entry)) ⌝ }
 {
     if any_bracket(tags) {
         return walk_back(tags);
     }
-    Back::Whole {
+    Back::Uncut {
         closed: 0,
         count: tags.len(),
     }

@@ -1,4 +1,4 @@
--- `arguments::argument::read_char` meets its contract.
+-- `argument::read_char` meets its contract.
 use mathlib.Core.Path.{sym, _∙_}
 use Rattle.argument.proofs.Argued.{scalar-short, scalar-given, not-scalar}
 use borrow.Author.Needs.{needs}
@@ -6,19 +6,19 @@ use Rattle.argument.proofs.read_char.Statement.{statement}
 use Rattle.argument.proofs.read_char.Tie as tie
 
 returns : tie.Need-returns
-returns c base pos = scalar-short _ base pos (c .if1 .taken)
+returns c base pos = scalar-short _ _ base pos (c .if1 .taken)
 
 returns-2 : tie.Need-returns-2
 returns-2 c base pos =
     let p2 = c .before .before in
     let p3 = p2 .before in
-    scalar-given _ base pos (p3 .if1 .left) (p2 .be-u32 .ensures) (sym (c .before .is-scalar .ensures) ∙ c .if2 .taken)
+    scalar-given _ _ base pos (p3 .if1 .left) (p2 .be-u32 .ensures) (sym (c .before .is-scalar .ensures) ∙ c .if2 .taken)
 
 returns-3 : tie.Need-returns-3
 returns-3 c base pos =
     let p2 = c .before .before in
     let p3 = p2 .before in
-    not-scalar _ base pos (p3 .if1 .left) (p2 .be-u32 .ensures) (sym (c .before .is-scalar .ensures) ∙ c .if2 .left)
+    not-scalar _ _ base pos (p3 .if1 .left) (p2 .be-u32 .ensures) (sym (c .before .is-scalar .ensures) ∙ c .if2 .left)
 
 pub read-char-spec : {M : Type 1} → statement M
 read-char-spec =

@@ -1,4 +1,4 @@
--- `arguments::scan::any_bracket` meets its contract. The invariant: a bracket was met, or is among the tags that are left, where
+-- `scan::any_bracket` meets its contract. The invariant: a bracket was met, or is among the tags that are left, where
 -- there is one.
 use mathlib.Core.Path.{_≡_, refl, sym, ap, _∙_}
 use mathlib.Core.Bool.{Bool, _||_}
@@ -7,7 +7,7 @@ use Prim.Native.Nat.{_+_, _≤_, _-_}
 use native.Mathlib.Omega.{arith}
 use borrow.Author.Needs.{needs}
 use lib.ListN.{length, drop}
-use Rattle.scan.specs.Scans.{brackets}
+use Rattle.scan.specs.CodeScans.{brackets}
 use Rattle.scan.proofs.Flat.{bracket-met, bracket-not-met, brackets-end}
 use Rattle.scan.proofs.any_bracket.Statement.{statement}
 use Rattle.scan.proofs.any_bracket.Tie as tie
@@ -33,7 +33,8 @@ loop-again c =
       search needs,
       ⊎-elim
           (λ w. ap left (w .1) ∙ bracket-met tags (l .i) within (l .any) (sym (c .before .is-bracket .ensures) ∙ w .0 .taken) ∙ l .inv .1)
-          (λ w. ap left (w .1) ∙ bracket-not-met tags (l .i) within (l .any) (sym (c .before .is-bracket .ensures) ∙ w .0 .left) ∙ l .inv .1)
+          (λ w. ap left (w .1) ∙ bracket-not-met tags (l .i) within (l .any) (sym (c .before .is-bracket .ensures) ∙ w .0 .left)
+          ∙ l .inv .1)
           (c .if1 .came),
     )
 

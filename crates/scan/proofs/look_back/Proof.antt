@@ -1,4 +1,4 @@
--- `arguments::scan::look_back` meets its contract: flat tags are all kept.
+-- `scan::look_back` meets its contract: flat tags are all kept.
 use mathlib.Core.Path.{sym, _∙_}
 use borrow.Author.Needs.{needs}
 use Rattle.scan.proofs.Flat.{flat}

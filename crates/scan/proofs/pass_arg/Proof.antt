@@ -1,37 +1,43 @@
--- `arguments::scan::pass_arg` meets its contract.
+-- `scan::pass_arg` meets its contract.
 use mathlib.Core.Path.{refl, sym, ap, _∙_}
+use native.Mathlib.Omega.{arith}
 use lib.ListN.{drop}
 use Rattle.wire.specs.Number.{number}
-use Rattle.argument.specs.Argument.{argOf}
-use Rattle.scan.specs.Scans.{usedOf}
-use Rattle.scan.proofs.Within.{used-of-class}
+use Rattle.argument.specs.Argument.{readArg, argItem}
+use Rattle.argument.proofs.Classes.{left-over}
+use Rattle.scan.specs.CodeScans.{usedOf}
+use Rattle.scan.proofs.Passed.{used-of-class}
 use borrow.Author.Needs.{needs}
 use Rattle.scan.proofs.pass_arg.Statement.{statement}
 use Rattle.scan.proofs.pass_arg.Tie as tie
 
+read-checked-requires : tie.Need-read-checked-requires
+read-checked-requires c κs = let s = c .before .before in (omega (arith, s .pre), left-over (s .args .class) (c .match .keys4))
+
 returns : tie.Need-returns
-unfolding argOf
+unfolding readArg
 returns c =
-    let p4 = c .before .before .before .before in
-    let l = p4 .args .input .now in
-    used-of-class l 0 _ (c .before .enum-told .given .1) (c .pass-bytes .ensures (number 4 l) 0)
+    let s = c .before .before .before .before in
+    let l = s .args .input .now in
+    used-of-class (s .args .tag) l 0 _ (c .before .enum-told .given .1) (c .pass-bytes .ensures (argItem (s .args .tag) (number 4 l) 0))
 
 returns-2 : tie.Need-returns-2
-unfolding argOf
+unfolding readArg
 returns-2 c =
-    let p4 = c .before .before .before .before in
-    let l = p4 .args .input .now in
-    used-of-class l 0 _ (c .before .enum-told2 .given .1) (c .pass-bytes2 .ensures (number 4 l) (number 4 (drop 4 l)))
+    let s = c .before .before .before .before in
+    let l = s .args .input .now in
+    used-of-class (s .args .tag) l 0 _ (c .before .enum-told2 .given .1)
+    (c .pass-bytes2 .ensures (argItem (s .args .tag) (number 4 l) (number 4 (drop 4 l))))
 
 returns-3 : tie.Need-returns-3
-unfolding argOf
-returns-3 c = used-of-class _ 0 _ (c .enum-told3 .given .1) refl
+unfolding readArg
+returns-3 c = used-of-class _ _ 0 _ (c .enum-told3 .given .1) refl
 
 returns-4 : tie.Need-returns-4
-returns-4 c = ap usedOf (sym (c .before .used .given .1) ∙ c .before .before .before .read-rare .ensures)
+returns-4 c = ap usedOf (sym (c .before .used .given .1) ∙ c .before .before .before .read-checked .ensures)
 
 returns-5 : tie.Need-returns-5
-returns-5 c = ap usedOf (sym (c .before .fault .given .1) ∙ c .before .before .before .read-rare .ensures)
+returns-5 c = ap usedOf (sym (c .before .fault .given .1) ∙ c .before .before .before .read-checked .ensures)
 
 pub pass-arg-spec : {M : Type 1} → statement M
 pass-arg-spec =
@@ -42,7 +48,7 @@ pass-arg-spec =
     (λ c. search needs)
     (λ c κs. search needs)
     (λ c. search needs)
-    (λ c κs. search needs)
+    read-checked-requires
     (λ c. search needs)
     (λ c. search needs)
     returns

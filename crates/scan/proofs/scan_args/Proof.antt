@@ -1,8 +1,8 @@
--- `arguments::scan::scan_args` meets its contract. The invariant: what was read, and the scan of what is left, are the scan of all.
+-- `scan::scan_args` meets its contract. The invariant: what was read, and the scan of what is left, are the scan of all.
 use mathlib.Core.Path.{sym, _∙_}
 use native.Mathlib.Omega.{arith}
 use lib.ListN.{length}
-use Rattle.scan.proofs.Within.{used-within}
+use Rattle.scan.proofs.Passed.{used-within}
 use Rattle.scan.proofs.Turns.{Scanning, scanning-start, scanning-opens, scanning-closes, scanning-given, scanning-none}
 use Rattle.scan.proofs.Turns.{scanning-refused, scanning-end}
 use borrow.Author.Needs.{needs}
@@ -51,12 +51,12 @@ pass-arg-requires c κs =
 sub-rest : tie.Need-sub-rest Inv-loop μ-loop
 sub-rest c =
     let g = sym (c .before .used .given .1) ∙ c .before .before .before .pass-arg .ensures in
-    used-within _ _ _ _ g
+    used-within _ _ _ _ _ g
 
 part-rest-start : tie.Need-part-rest-start Inv-loop μ-loop
 part-rest-start c =
     let g = sym (c .before .used .given .1) ∙ c .before .before .before .pass-arg .ensures in
-    used-within _ _ _ _ g
+    used-within _ _ _ _ _ g
 
 add-at : tie.Need-add-at Inv-loop μ-loop
 add-at c =
@@ -65,7 +65,7 @@ add-at c =
     let p12 = p4 .before .before .before .before .before .before .before .before in
     let p15 = p12 .before .before .before in
     let g = sym (p2 .used .given .1) ∙ p4 .pass-arg .ensures in
-    omega (arith, used-within _ _ _ _ g, p12 .loop .inv .ends, p15 .pre)
+    omega (arith, used-within _ _ _ _ _ g, p12 .loop .inv .ends, p15 .pre)
 
 loop-again-3 : tie.Need-loop-again-3 Inv-loop μ-loop
 loop-again-3 c =

@@ -1,4 +1,4 @@
--- `arguments::scan::walk_back` meets its contract. The invariant: the tags from `at` on close every array that they open.
+-- `scan::walk_back` meets its contract. The invariant: the tags from `at` on close every array that they open.
 use mathlib.Core.Path.{sym, _∙_}
 use Rattle.scan.proofs.Turns.{Looking, looking-start, looking-opens, looking-closes, looking-leaf, looking-cut, looking-end}
 use borrow.Author.Needs.{needs}

@@ -1,12 +1,12 @@
--- `arguments::fill::fill_whole` meets its contract. The invariant: the records written are those of the frames read so far, and what
+-- `arguments::records::fill_whole` meets its contract. The invariant: the records written are those of the frames read so far, and what
 -- is left completes them to those of all.
 use Prim.Native.Nat.{_+_}
 use mathlib.Core.Path.{sym, _∙_}
 use native.Mathlib.Omega.{arith}
 use lib.ListN.{length}
 use Rattle.wire.proofs.Writers.{wrote-length}
-use Rattle.arguments.specs.Arguments.{argsOf}
-use Rattle.arguments.specs.Readings.{keptOf}
+use Rattle.arguments.specs.Arguments.{readArgs}
+use Rattle.arguments.specs.CodeReadings.{keptOf}
 use Rattle.argument.proofs.Within.{given-within}
 use Rattle.arguments.proofs.Filling.{Filling, filling-start, room-opens, room-leaf, room-closes, filling-opens, filling-leaf}
 use Rattle.arguments.proofs.Filling.{filling-closes, filling-refused, filling-done}
@@ -16,7 +16,7 @@ use Rattle.arguments.proofs.records.fill_whole.Tie as tie
 
 abbrev Inv-loop : tie.InvT-loop
 Inv-loop tags input base pos table₀ index left₀ rest₀ at₀ n₀ top₀ table left rest at n top =
-    Filling base (keptOf (argsOf base tags input pos)) index (pos + length input) table₀ table left rest at n top
+    Filling base (keptOf (readArgs base tags input pos)) index (pos + length input) table₀ table left rest at n top
 
 abbrev μ-loop : tie.MeasureT-loop
 μ-loop tags input base pos table₀ index left₀ rest₀ at₀ n₀ top₀ table left rest at n top = length left
@@ -158,15 +158,15 @@ sub-rest : tie.Need-sub-rest Inv-loop μ-loop
 sub-rest c =
     let p5 = c .before .before .before .before .before in
     let p7 = p5 .before .before in
-    let g = sym (p5 .a .given .1) ∙ p7 .read-osc-arg .ensures in
-    given-within _ _ _ _ g
+    let g = sym (p5 .item .given .1) ∙ p7 .read-osc-arg .ensures in
+    given-within _ _ _ _ _ g
 
 part-rest-start : tie.Need-part-rest-start Inv-loop μ-loop
 part-rest-start c =
     let p5 = c .before .before .before .before .before in
     let p7 = p5 .before .before in
-    let g = sym (p5 .a .given .1) ∙ p7 .read-osc-arg .ensures in
-    given-within _ _ _ _ g
+    let g = sym (p5 .item .given .1) ∙ p7 .read-osc-arg .ensures in
+    given-within _ _ _ _ _ g
 
 add-at : tie.Need-add-at Inv-loop μ-loop
 add-at c =
@@ -174,8 +174,8 @@ add-at c =
     let p8 = p6 .before .before in
     let p16 = p8 .before .before .before .before .before .before .before .before in
     let p20 = p16 .before .before .before .before in
-    let g = sym (p6 .a .given .1) ∙ p8 .read-osc-arg .ensures in
-    omega (arith, given-within _ _ _ _ g, p16 .loop .inv .ends, p20 .pre .0)
+    let g = sym (p6 .item .given .1) ∙ p8 .read-osc-arg .ensures in
+    omega (arith, given-within _ _ _ _ _ g, p16 .loop .inv .ends, p20 .pre .0)
 
 loop-again-3 : tie.Need-loop-again-3 Inv-loop μ-loop
 loop-again-3 c =
@@ -187,7 +187,7 @@ loop-again-3 c =
     let p15 = p12 .before .before .before in
     let p16 = p15 .before in
     let e = sym (p10 .class .given .1) ∙ p12 .sort-of .ensures in
-    let g = sym (p6 .a .given .1) ∙ p8 .read-osc-arg .ensures in
+    let g = sym (p6 .item .given .1) ∙ p8 .read-osc-arg .ensures in
     filling-leaf (p16 .loop .inv) (p15 .loop-test .taken) e g (p3 .put-at2 .ensures)
 
 same-length : tie.Need-same-length Inv-loop μ-loop

@@ -1,4 +1,4 @@
--- `arguments::fill::put_at` meets its contract.
+-- `arguments::records::put_at` meets its contract.
 use Prim.Native.Nat.{_*_}
 use native.Mathlib.Omega.{arith}
 use Rattle.node.specs.Records.{recordSize}

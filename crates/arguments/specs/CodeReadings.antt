@@ -1,9 +1,9 @@
--- What the two readings of a message's arguments answer and leave, from what `argsOf` says.
-use Prim.Native.Nat.{ℕ, _+_, _*_, _≤_}
+-- Describes code, and no part of the document: what the two readings of a message's arguments answer and need, from what `readArgs`
+-- says.
+use Prim.Native.Nat.{ℕ}
 use mathlib.Core.List.{List}
-use lib.ListN.{length}
 use Rattle.node.specs.Forest.{Forest, nil, size}
-use Rattle.node.specs.Records.{recordSize}
+use Rattle.node.specs.Records.{TableRoom}
 use Rattle.arguments.specs.Arguments.{Args, refused, args}
 use Rattle.arguments.specs.declared.Measured.{Measured}
 use Rattle.arguments.specs.declared.Measured.the-variants.{Kept, Refused}
@@ -13,18 +13,17 @@ unfoldable pub measured : Args → Measured
 measured (refused fault) = Refused fault
 measured (args kept used) = Kept (size kept) used
 
--- the arguments that are kept
+-- the arguments that are kept; the first line is never met where records are written, by the field `accepted` of `ArgsRoom`
 abbrev pub keptOf : Args → Forest
 keptOf (refused fault) = nil
 keptOf (args kept used) = kept
 
 -- the arguments are not refused
-abbrev pub Accepted : Args → Type 0
-Accepted (refused fault) = ⊥
-Accepted (args kept used) = Unit {0}
+abbrev pub ArgsAccepted : Args → Type 0
+ArgsAccepted (refused fault) = ⊥
+ArgsAccepted (args kept used) = Unit {0}
 
 -- what the second reading needs: accepted arguments, and room for their records from `index` on
-pub record Room (o : Args) (index : ℕ) (table : List ℕ) : Type 0 where
-  pub accepted : Accepted o
-  pub fits : recordSize * size (keptOf o) ≤ length table
-  pub low : index + size (keptOf o) ≤ 65535
+pub record ArgsRoom (o : Args) (index : ℕ) (table : List ℕ) : Type 0 where
+  pub accepted : ArgsAccepted o
+  pub room : TableRoom (keptOf o) index table

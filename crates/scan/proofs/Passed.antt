@@ -1,0 +1,62 @@
+-- One argument that is passed over: it lies in its part, and the offset base changes neither how far it is read nor its fault.
+use mathlib.Core.Path.{_≡_, refl, _∙_, ap, sym}
+use mathlib.Core.Bool.{Bool, true, false, cond}
+use mathlib.Core.List.{List}
+use Prim.Native.Nat.{ℕ, _+_, _≤_}
+use native.Mathlib.Omega.{arith}
+use lib.Dec.{leb}
+use lib.ListN.{length}
+use Rattle.refusal.specs.declared.Fault.the-variants.{RunsOut}
+use Rattle.wire.specs.Number.{number}
+use Rattle.node.specs.declared.tags.Class.{Class}
+use Rattle.node.specs.declared.tags.Class.the-variants.{Four, Eight, Bare, Text as String, Blob, Scalar, Unknown}
+use Rattle.text.specs.Text.{reach, readText}
+use Rattle.text.specs.declared.Text.{Text}
+use Rattle.text.specs.declared.Text.the-variants.{Found, Lacks}
+use Rattle.argument.specs.Argument.{readArg, having, textArg}
+use Rattle.scan.specs.CodeScans.{usedOf}
+use Rattle.argument.specs.declared.Arg.{Arg}
+use Rattle.argument.specs.declared.Arg.the-variants.{Given, Refused}
+use Rattle.scan.specs.declared.Scanned.{Scanned}
+use Rattle.scan.specs.declared.Scanned.the-variants.{Used}
+use Rattle.argument.proofs.Within.{Holds, arg-within}
+
+-- of an argument that is read only if n bytes are there
+used-there : (n : ℕ) (l : List ℕ) (x y : Arg) → usedOf x ≡ usedOf y → usedOf (having n l x) ≡ usedOf (having n l y)
+used-there n l x y e = by-bool (leb n (length l))
+  where
+    by-bool : (t : Bool) → usedOf (cond t x (Refused RunsOut)) ≡ usedOf (cond t y (Refused RunsOut))
+    by-bool true = e
+    by-bool false = refl
+
+-- of a text
+used-text : (tag o o′ : ℕ) (t : Text) → usedOf (textArg tag o t) ≡ usedOf (textArg tag o′ t)
+used-text tag o o′ (Found n used) = refl
+used-text tag o o′ (Lacks k) = refl
+
+-- how far an argument is read, and its fault, are the same for any two bases
+pub any-base : (tag : ℕ) (class : Class) (base base′ : ℕ) (l : List ℕ) (p : ℕ)
+    → usedOf (readArg tag class base l p) ≡ usedOf (readArg tag class base′ l p)
+unfolding readArg
+any-base tag Four base base′ l p = refl
+any-base tag Eight base base′ l p = refl
+any-base tag Bare base base′ l p = refl
+any-base tag String base base′ l p = used-text tag (base + p) (base′ + p) (readText l p)
+any-base tag Blob base base′ l p = used-there 4 l _ _ (used-there (reach p (4 + number 4 l)) l _ _ refl)
+any-base tag Scalar base base′ l p = refl
+any-base tag Unknown base base′ l p = refl
+
+-- how much is used of an argument that lies in its part
+used-from : {used : ℕ} (l : List ℕ) (x : Arg) → Holds (λ item u. u ≤ length l) x → Used used ≡ usedOf x → used ≤ length l
+used-from {used} l (Given item u) h e = let f : used ≡ u = cc in omega arith
+used-from l (Refused k) h e = let z : _≡_ {A = ℕ} 0 1 = cc in absurd (omega arith)
+
+-- an argument that is passed over lies in its part
+pub used-within : {used : ℕ} (tag : ℕ) (class : Class) (base : ℕ) (l : List ℕ) (p : ℕ) → Used used ≡ usedOf (readArg tag class base l p)
+    → used ≤ length l
+used-within tag class base l p e = used-from l (readArg tag class base l p) (arg-within tag class base l p) e
+
+-- an answer for the class that a match found
+pub used-of-class : {k class : Class} {r : Scanned} (tag : ℕ) (l : List ℕ) (base p : ℕ) → class ≡ k → r ≡ usedOf (readArg tag k base l p)
+    → r ≡ usedOf (readArg tag class base l p)
+used-of-class tag l base p e f = f ∙ ap (λ (c : Class). usedOf (readArg tag c base l p)) (sym e)

@@ -1,0 +1,78 @@
+-- Describes code, and no part of the document: the scans of the first reading, which build no tree. Nobody need believe them: the laws
+-- `measured-kept`, `measured-refused` and `cut-at` of the crate `arguments` show that they answer as `readArgs` does.
+use mathlib.Core.Bool.{Bool, false, _||_}
+use mathlib.Core.List.{List, [], _∷_}
+use Prim.Native.Nat.{ℕ, zero, suc, _+_}
+use lib.ListN.{drop}
+use Rattle.refusal.specs.declared.Fault.the-variants.{NotOpen}
+use Rattle.node.specs.Tags.{arrayKind, among, sortOf}
+use Rattle.node.specs.declared.tags.Sort.{Sort}
+use Rattle.node.specs.declared.tags.Sort.the-variants.{Opens, Closes, Leaf}
+use Rattle.argument.specs.Argument.{readArg}
+use Rattle.argument.specs.declared.Arg.{Arg}
+use Rattle.argument.specs.declared.Arg.the-variants as arg
+use Rattle.scan.specs.declared.Scanned.{Scanned}
+use Rattle.scan.specs.declared.Scanned.the-variants.{Used, Refused}
+use Rattle.scan.specs.declared.Back.{Back}
+use Rattle.scan.specs.declared.Back.the-variants.{Uncut, Cut}
+
+-- ---- forward: whether tags and data are accepted, and how many bytes they take
+
+-- one argument without its own numbers
+abbrev pub usedOf : Arg → Scanned
+usedOf (arg.Given item used) = Used used
+usedOf (arg.Refused fault) = Refused fault
+
+-- n more bytes were read before
+abbrev pub moreUsed : ℕ → Scanned → Scanned
+moreUsed n (Used used) = Used (n + used)
+moreUsed n (Refused fault) = Refused fault
+
+-- one argument is passed over; `go` reads the later tags' data
+abbrev pub argPassed : (List ℕ → ℕ → Scanned) → List ℕ → ℕ → Scanned → Scanned
+argPassed go l p (Used used) = moreUsed used (go (drop used l) (p + used))
+argPassed go l p (Refused fault) = Refused fault
+
+-- what one tag does while n arrays are open; the offset base does not matter, and is 0
+abbrev pub turn : Sort → (List ℕ → ℕ → ℕ → Scanned) → ℕ → List ℕ → ℕ → ℕ → Scanned
+turn Opens go tag l p n = go l p (suc n)
+turn Closes go tag l p zero = Refused NotOpen
+turn Closes go tag l p (suc n) = go l p n
+turn (Leaf class) go tag l p n = argPassed (λ m q. go m q n) l p (usedOf (readArg tag class 0 l p))
+
+-- the tags and their data, which stands at position p, while n arrays are open
+unfoldable pub scan : List ℕ → List ℕ → ℕ → ℕ → Scanned
+scan [] l p n = Used 0
+scan (tag ∷ tags) l p n = turn (sortOf tag) (λ m q k. scan tags m q k) tag l p n
+
+-- ---- backward, tags only: which tags are kept
+
+-- a tag stands before those that were looked at
+abbrev pub tagBefore : Sort → Back → Back
+tagBefore Opens (Cut n c) = Cut (suc n) c
+tagBefore Opens (Uncut zero c) = Cut 1 c
+tagBefore Opens (Uncut (suc n) c) = Uncut n (suc c)
+tagBefore Closes (Cut n c) = Cut (suc n) c
+tagBefore Closes (Uncut n c) = Uncut (suc n) c
+tagBefore (Leaf class) (Cut n c) = Cut (suc n) c
+tagBefore (Leaf class) (Uncut n c) = Uncut n (suc c)
+
+-- what the tags keep, from the last to the first: `Uncut` where they close every array that they open, else `Cut` after the last '['
+-- that stays open
+unfoldable pub back : List ℕ → Back
+back [] = Uncut 0 0
+back (tag ∷ tags) = tagBefore (sortOf tag) (back tags)
+
+-- every array that the tags open is closed by them
+abbrev pub AllClosed : Back → Type 0
+AllClosed (Uncut n c) = Unit {0}
+AllClosed (Cut n c) = ⊥
+
+-- a tag that opens or closes an array (rule 3)
+abbrev pub bracket : ℕ → Bool
+bracket tag = among tag (arrayKind ∷ 93 ∷ [])
+
+-- one of the tags is a bracket: where none is, every tag is kept
+abbrev pub brackets : List ℕ → Bool
+brackets [] = false
+brackets (tag ∷ tags) = bracket tag || brackets tags
