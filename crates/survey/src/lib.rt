@@ -98,7 +98,7 @@ fn leaf_content(class: Class, item: Item, source: &[u8]) -> usize
     argument_length(class, item.b)
 }
 
-// The extent of one argument and what it contains; arrays in it are nested no deeper than `levels`.
+// The tags and the data of one argument and what it contains; arrays in it are nested no deeper than `levels`.
 fn survey_argument(table: &[u8], at: usize, source: &[u8], levels: usize) -> Tally
     requires { ⌜ InTable (now table) at ⌝ }
     ensures { λ r. ⌜ (r .content ≤ longestElement
@@ -138,7 +138,7 @@ fn survey_argument(table: &[u8], at: usize, source: &[u8], levels: usize) -> Tal
     }
 }
 
-// The extent of the arguments from record `lo` to record `hi`, in which arrays are nested no deeper than `levels`.
+// The tags and the data of the arguments from record `lo` to record `hi`, in which arrays are nested no deeper than `levels`.
 fn survey_arguments(table: &[u8], lo: usize, hi: usize, source: &[u8], levels: usize) -> Tally
     requires { ⌜ (lo ≤ hi) × (hi ≤ mostRecords) × (recordSize * hi ≤ length (now table)) ⌝ }
     ensures { λ r. ⌜ (r .content ≤ longestElement

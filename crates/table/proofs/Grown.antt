@@ -78,8 +78,8 @@ kept-up : {t source : List ℕ} {e hi i : ℕ} → e ≤ hi → Kept t source e 
 kept-up h k = record { rules = k .rules; range = k .range; within = omega (arith, k .within); tiles = k .tiles }
 
 -- each record of a row that obeys the rules keeps them
-pub kept-of : (t source : List ℕ) (container lo hi : ℕ) (F : Forest) → Spans t lo hi F → Obeys source container F → (i : ℕ) → lo ≤ i → i < hi
-    → Kept t source hi i
+pub kept-of : (t source : List ℕ) (container lo hi : ℕ) (F : Forest) → Spans t lo hi F → Obeys source container F
+    → (i : ℕ) → lo ≤ i → i < hi → Kept t source hi i
 unfolding Spans Obeys
 kept-of t source container lo hi nil s o i l h = absurd (omega (arith, s))
 kept-of t source container lo hi (node item inside rest) s o i l h =
