@@ -1,30 +1,17 @@
-pub mod Answers
-pub mod Counts
-pub mod Listed
-pub mod LongerArguments
-pub mod LongerPackets
-pub mod LongerTables
-pub mod Longer
-pub mod OscTags
-pub mod OscSpelled
+-- The order's demands, proved. A folder to each, and what several of them cite.
+--     Placed      parts of an input that stand at a position
+--     Answered    what an answer with packets shows of the input and of the table
+--     Calls       demand 1: every call ends as document 01 lists it, and its contract settles all that it leaves
+--     Osc10       demand 2: what OSC 1.0 allows is accepted as what it is, and what is written is what it allows
+--     Trip        demand 2: the round trip
+--     Room        demand 3: more room; n records hold what n bytes decode to
+--     Longer      demand 3: more bytes
+--     Encodable   what is decoded can be encoded
 pub mod Placed
-pub mod EncodableArgs
-pub mod EncodablePackets
-pub mod Encodable
-pub mod RefusalExamples
-pub mod Refusals
-pub mod Room
-pub mod RoomExamples
-pub mod LongerExamples
-pub mod SameTree
-pub mod Tables
-pub mod OscWritten
-pub mod TripParts
-pub mod TripArgs
-pub mod TripPackets
-pub mod OscAccepted
-pub mod OscExamples
+pub mod Answered
+pub mod Calls
+pub mod Osc10
 pub mod Trip
-pub mod There
-pub mod TripExamples
-pub mod EncodableExamples
+pub mod Room
+pub mod Longer
+pub mod Encodable

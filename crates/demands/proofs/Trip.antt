@@ -1,77 +1,9 @@
--- The round trip of demand 2: what `encode` writes for a table is a packet that OSC 1.0 allows; that packet is accepted as what it is; and
--- trees that stand for one packet are the same.
-use mathlib.Core.Path.{_≡_, sym, _∙_}
-use mathlib.Core.List.{List, _++_}
-use Prim.Native.Nat.{ℕ, _*_, _/_, _≤_}
-use native.Mathlib.Omega.{arith}
-use lib.ListN.{length, take, drop}
-use Rattle.node.specs.Forest.{Forest, nil, node, size, depth}
-use Rattle.node.specs.Records.{recordSize, recordsOf, stored}
-use Rattle.decoder.specs.Framing.{trees, udp}
-use Rattle.decoder.specs.Limits.{decoded}
-use Rattle.decoder.specs.declared.Decoded.the-variants.{Packets}
-use Rattle.table.specs.Tree.{Spans, IsTree, FieldsFit}
-use Rattle.writers.specs.Osc.{packetOf}
-use Rattle.encoder.specs.Outcome.{plain, encoded}
-use Rattle.demands.specs.Words.{Same, SameTable}
-use Rattle.demands.specs.Words as words
-use Rattle.demands.specs.Demands.{after, answer, RoundTrip}
-use Rattle.demands.specs.Standards.{AcceptedAs, Spelled}
-use Rattle.table.proofs.Held.{records-held}
-use Rattle.table.proofs.Theorem.{tree-size}
-use Rattle.writers.proofs.Lengths.{packet-even}
-use Rattle.demands.proofs.SameTree.{same-tree, same-size, packet-fits, tree-deep}
-use Rattle.demands.proofs.OscAccepted.{osc10-accepted}
-use Rattle.demands.proofs.OscSpelled.{packet-is}
-use Rattle.demands.proofs.Tables.{spans-fit, same-table}
-use Rattle.demands.proofs.OscWritten.{outcome-is, written-held, written-all}
-
--- a tree that was read stands in the table
-stands-in : (l table : List ℕ) (F : Forest) → FieldsFit F → size F ≤ 65535 → udp l ≡ trees F 0 → answer udp 64 l table ≡ Packets (size F) 0
-    → Spans (after udp 64 l table) 0 (size F) F
-unfolding stored
-stands-in l table F f n e d =
-    let q : after udp 64 l table ≡ recordsOf 0 F ++ drop (recordSize * size F) table = rw (d, e) in
-    records-held (after udp 64 l table) (drop (recordSize * size F) table) 0 (size F) F f (omega arith) (omega arith) q .spans
-
--- bytes that spell the packet of a table's tree are decoded to a table that holds the same
-record Back (t : List ℕ) (count : ℕ) (source l table : List ℕ) : Type 0 where
-  decodes : answer udp 64 l table ≡ Packets count 0
-  same : SameTable source t l (after udp 64 l table) count
-
-module _ {t : List ℕ} {count : ℕ} {source : List ℕ} {k a b : ℕ} {inside : Forest} (w : IsTree t count source k a b inside) where
-  read-back : (l table : List ℕ) → length l ≤ 65535 → count ≤ length table / recordSize → (S : Spelled source k a b inside l)
-      → AcceptedAs (S .packet) l
-      → Back t count source l table
-  read-back l table low room S A =
-      let F = node k a b inside nil in
-      let T = node (A .kind) (A .a) (A .b) (A .inside) nil in
-      let same : Same source l F T = same-tree (S .packet) (S .allowed) (S .stands) (A .stands) words.Same.none in
-      let n : size T ≡ count = sym (same-size same) ∙ tree-size w in
-      let d : answer udp 64 l table ≡ Packets (size T) 0 = A .decodes (length table / recordSize) (omega arith) in
-      let f : FieldsFit T = packet-fits (omega arith) (S .packet) (S .allowed) (A .stands) in
-      let s = stands-in l table T f (omega (arith, w .few)) (A .read) d in
-      record { decodes = rw n at d; same = same-table t (after udp 64 l table) count same (w .spans) (rw n at s) }
-
-pub round-trip : RoundTrip
-unfolding depth
-round-trip t count source k a b inside w out room r e table enough =
-    let bs = packetOf source k a b inside in
-    let F = node k a b inside nil in
-    let S = packet-is source (w .sourced) k a b inside (w .formed .obeys) (w .clean)
-    (spans-fit t (w .bytes) 0 count F (w .formed .spans)) in
-    let A = osc10-accepted (S .packet) bs (S .allowed) (S .spells) (w .fits)
-    (omega (arith, w .shallow, tree-deep (S .packet) (S .stands))) in
-    let B = read-back (w .formed) bs table (w .fits) enough S A in
-    let written = written-all source out k a b inside (w .shallow) (w .fits) room in
-    let held : take (length bs) (encoded plain source out k a b inside .out) ≡ bs = written-held source out k a b inside (length bs)
-    written in
-    rw (outcome-is (w .formed) e)
-    (record {
-      n = length bs;
-      written = written;
-      multiple = packet-even source k a b inside;
-      decoded = rw held (B .decodes);
-      same = rw held
-          (B .same);
-    })
+-- Demand 2: what `encode` writes decodes to the same tree, with nothing left over.
+--     Tables      the numbers of a table of bytes fit a record; tables of the same tree hold the same
+--     RoundTrip   the theorem, over the contracts
+--     There       the same of two calls on lent buffers
+--     Examples    tables that meet the hypotheses
+pub mod Tables
+pub mod RoundTrip
+pub mod There
+pub mod Examples

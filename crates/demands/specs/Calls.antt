@@ -2,32 +2,31 @@
 use mathlib.Core.Path.{_≡_}
 use mathlib.Core.Bool.{Bool, true, false}
 use mathlib.Core.List.{List, [], _∷_}
-use Prim.Native.Nat.{ℕ, _/_}
-use lib.ListN.{length}
+use Prim.Native.Nat.{ℕ}
 use Rattle.refusal.specs.Refusal.{numberOf}
 use Rattle.refusal.specs.declared.Refusal.{Refusal}
 use Rattle.wire.specs.Pad.{padOf}
 use Rattle.wire.specs.declared.Padded.{Padded}
 use Rattle.wire.specs.declared.Padded.the-variants as padded
 use Rattle.node.specs.Tags.{among}
-use Rattle.node.specs.Records.{recordSize}
-use Rattle.values.specs.Look.{lookAt, textOf}
+use Rattle.node.specs.Records.{capacity}
+use Rattle.values.specs.Look.{lookAt, textNamed}
 use Rattle.values.specs.declared.value.OscType.{OscType}
 use Rattle.values.specs.declared.look.Looked.{Looked}
 use Rattle.values.specs.declared.look.Looked.the-variants as looked
-use Rattle.decoder.specs.Framing.{Whole, udp, tcp, tcpVec}
+use Rattle.decoder.specs.Framing.{Whole, ruleOf}
+use Rattle.decoder.specs.declared.Framing.{Framing}
+use Rattle.decoder.specs.declared.Framing.the-variants.{Udp, Tcp, TcpVec}
 use Rattle.decoder.specs.Limits.{decoded, forestOf, tabled}
 use Rattle.decoder.specs.declared.Decoded.{Decoded}
 use Rattle.decoder.specs.declared.Decoded.the-variants as decodes
-use Rattle.encoder.specs.Outcome.{Encodes, plain, prefixed, stringOutcome}
+use Rattle.encoder.specs.Outcome.{Encodes, unframed, prefixed, stringOutcome}
 use Rattle.encoder.specs.declared.Encoded.{Encoded}
 use Rattle.encoder.specs.declared.Encoded.the-variants as encodes
 
--- a call of a public entry point and what it is handed: any bytes, any table, any limits
+-- a call of a public entry point and what it is handed: any bytes, any table, any limits; the three decoders by their framing
 pub data Call : Type 0 where
-  decode-udp : (msg table : List ℕ) (depth : ℕ) → Call
-  decode-tcp : (msg table : List ℕ) (depth : ℕ) → Call
-  decode-tcp-vec : (msg table : List ℕ) (depth : ℕ) → Call
+  decode : (framing : Framing) (msg table : List ℕ) (depth : ℕ) → Call
   encode : (table : List ℕ) (count : ℕ) (source out : List ℕ) → Call
   encode-tcp : (table : List ℕ) (count : ℕ) (source out : List ℕ) → Call
   encode-string : (text out : List ℕ) → Call
@@ -37,9 +36,7 @@ pub data Call : Type 0 where
 
 -- the type of its answer
 abbrev pub Answer : Call → Type 0
-Answer (decode-udp msg table depth) = Decoded
-Answer (decode-tcp msg table depth) = Decoded
-Answer (decode-tcp-vec msg table depth) = Decoded
+Answer (decode framing msg table depth) = Decoded
 Answer (encode table count source out) = Encoded
 Answer (encode-tcp table count source out) = Encoded
 Answer (encode-string text out) = Encoded
@@ -49,9 +46,7 @@ Answer (text-of value packet label) = List ℕ
 
 -- the bytes that it is lent by `&mut`: at most one buffer; what is lent by `&` cannot change
 abbrev pub Lent : Call → Type 0
-Lent (decode-udp msg table depth) = List ℕ
-Lent (decode-tcp msg table depth) = List ℕ
-Lent (decode-tcp-vec msg table depth) = List ℕ
+Lent (decode framing msg table depth) = List ℕ
 Lent (encode table count source out) = List ℕ
 Lent (encode-tcp table count source out) = List ℕ
 Lent (encode-string text out) = List ℕ
@@ -61,9 +56,7 @@ Lent (text-of value packet label) = Unit {0}
 
 -- those bytes before the call
 abbrev pub lentTo : (c : Call) → Lent c
-lentTo (decode-udp msg table depth) = table
-lentTo (decode-tcp msg table depth) = table
-lentTo (decode-tcp-vec msg table depth) = table
+lentTo (decode framing msg table depth) = table
 lentTo (encode table count source out) = out
 lentTo (encode-tcp table count source out) = out
 lentTo (encode-string text out) = out
@@ -78,20 +71,18 @@ pub record Ending (c : Call) : Type 0 where
 
 -- a decoder's contract, by its rule: the answer, and the table afterwards
 pub record Decodes (rule : List ℕ → Whole) (msg table : List ℕ) (depth : ℕ) (r : Decoded) (after : List ℕ) : Type 0 where
-  pub answered : r ≡ decoded rule (length table / recordSize) depth msg
+  pub answered : r ≡ decoded rule (capacity table) depth msg
   pub left : after ≡ tabled r (forestOf (rule msg)) table
 
 -- the contract of the entry point
 abbrev pub Meets : (c : Call) → Ending c → Type 0
-Meets (decode-udp msg table depth) e = Decodes udp msg table depth (e .answer) (e .lent)
-Meets (decode-tcp msg table depth) e = Decodes tcp msg table depth (e .answer) (e .lent)
-Meets (decode-tcp-vec msg table depth) e = Decodes tcpVec msg table depth (e .answer) (e .lent)
-Meets (encode table count source out) e = Encodes plain table count source out (record { answer = e .answer; out = e .lent })
+Meets (decode framing msg table depth) e = Decodes (ruleOf framing) msg table depth (e .answer) (e .lent)
+Meets (encode table count source out) e = Encodes unframed table count source out (record { answer = e .answer; out = e .lent })
 Meets (encode-tcp table count source out) e = Encodes prefixed table count source out (record { answer = e .answer; out = e .lent })
 Meets (encode-string text out) e = record { answer = e .answer; out = e .lent } ≡ stringOutcome text out
 Meets (pad pos) e = e .answer ≡ padOf pos
 Meets (look table index) e = e .answer ≡ lookAt table index
-Meets (text-of value packet label) e = e .answer ≡ textOf value packet label
+Meets (text-of value packet label) e = e .answer ≡ textNamed value packet label
 
 -- what an answer gives: a result; Waiting; or a refusal, which has its number and nothing else (refusal's `numberOf`)
 pub data Given : Type 0 where
@@ -122,9 +113,7 @@ byLooked (looked.Refused r) = refuses r
 
 -- of any call
 abbrev pub given : (c : Call) → Answer c → Given
-given (decode-udp msg table depth) r = byDecoded r
-given (decode-tcp msg table depth) r = byDecoded r
-given (decode-tcp-vec msg table depth) r = byDecoded r
+given (decode framing msg table depth) r = byDecoded r
 given (encode table count source out) r = byEncoded r
 given (encode-tcp table count source out) r = byEncoded r
 given (encode-string text out) r = byEncoded r
@@ -142,9 +131,7 @@ encodeOrder = 11 ∷ 9 ∷ 1 ∷ 12 ∷ []
 
 -- the refusals that document 01 has for a call, by their numbers
 abbrev pub numbersOf : Call → List ℕ
-numbersOf (decode-udp msg table depth) = decodeOrder
-numbersOf (decode-tcp msg table depth) = decodeOrder
-numbersOf (decode-tcp-vec msg table depth) = decodeOrder
+numbersOf (decode framing msg table depth) = decodeOrder
 numbersOf (encode table count source out) = encodeOrder
 numbersOf (encode-tcp table count source out) = encodeOrder
 numbersOf (encode-string text out) = 4 ∷ 1 ∷ 12 ∷ []
@@ -154,9 +141,9 @@ numbersOf (text-of value packet label) = []
 
 -- "`decode_tcp` may also answer Waiting"
 abbrev pub mayWait : Call → Bool
-mayWait (decode-udp msg table depth) = false
-mayWait (decode-tcp msg table depth) = true
-mayWait (decode-tcp-vec msg table depth) = false
+mayWait (decode Udp msg table depth) = false
+mayWait (decode Tcp msg table depth) = true
+mayWait (decode TcpVec msg table depth) = false
 mayWait (encode table count source out) = false
 mayWait (encode-tcp table count source out) = false
 mayWait (encode-string text out) = false

@@ -9,10 +9,11 @@ use Prim.Native.Nat.{ℕ, _+_, _%_, _^_, _≤_, _<_, max}
 use lib.ListN.{length, getD, replicate}
 use Rattle.wire.specs.Number.{bytes}
 use Rattle.utf8.specs.Utf8.{Octets}
-use Rattle.node.specs.Tags.{among, isScalar}
+use Rattle.wire.specs.Part.{part}
+use Rattle.node.specs.Tags.{messageKind, bundleKind, arrayKind, among, isScalar}
 use Rattle.node.specs.Forest.{Forest, nil, node}
-use Rattle.table.specs.Formed.{part}
-use Rattle.demands.specs.Words.{Bytes, NoNul}
+use Rattle.node.specs.declared.record.Item.{Item}
+use Rattle.demands.specs.Words.{Bytes, NoNul, slash}
 
 -- ---- the syntax
 
@@ -27,17 +28,18 @@ pub data Atom : Type 0 where
   char : (x : ℕ) → Atom
 
 -- a sequence of OSC Arguments, arrays among them
-pub data Arguments : Type 0 where
-  end : Arguments
-  atom : Atom → Arguments → Arguments
-  array : (within rest : Arguments) → Arguments
+pub data OscArguments : Type 0 where
+  end : OscArguments
+  atom : Atom → OscArguments → OscArguments
+  array : (within rest : OscArguments) → OscArguments
 
--- OSC Packet: an OSC Message or an OSC Bundle; and the elements of a bundle
 mutual
+  -- OSC Packet: an OSC Message or an OSC Bundle
   pub data Packet : Type 0 where
-    message : (address : List ℕ) (arguments : Arguments) → Packet
+    message : (address : List ℕ) (arguments : OscArguments) → Packet
     bundle : (seconds fractional : ℕ) (elements : Packets) → Packet
 
+  -- the packets that a bundle's elements hold, in order
   pub data Packets : Type 0 where
     none : Packets
     also : Packet → Packets → Packets
@@ -71,36 +73,38 @@ AtomAllowed (blob content) = Bytes content
 AtomAllowed (char x) = isScalar x ≡ true
 
 -- every argument is allowed
-unfoldable pub ArgumentsAllowed : Arguments → Type 0
+unfoldable pub ArgumentsAllowed : OscArguments → Type 0
 ArgumentsAllowed end = Unit {0}
 ArgumentsAllowed (atom value rest) = AtomAllowed value × ArgumentsAllowed rest
 ArgumentsAllowed (array within rest) = ArgumentsAllowed within × ArgumentsAllowed rest
 
--- "An OSC Address Pattern is an OSC-string beginning with the character '/'"; a time tag is 64 bits, as two halves
 unfoldable mutual
+  -- "An OSC Address Pattern is an OSC-string beginning with the character '/'"; a time tag is 64 bits, as two halves
   pub Allowed : Packet → Type 0
-  Allowed (message address arguments) = (getD address 0 0 ≡ 47) × IsText address × ArgumentsAllowed arguments
+  Allowed (message address arguments) = (getD address 0 0 ≡ slash) × IsText address × ArgumentsAllowed arguments
   Allowed (bundle seconds fractional elements) = (seconds < 256 ^ 4) × (fractional < 256 ^ 4) × AllAllowed elements
 
+  -- every packet is allowed
   pub AllAllowed : Packets → Type 0
   AllAllowed none = Unit {0}
   AllAllowed (also packet rest) = Allowed packet × AllAllowed rest
 
--- how deep bundles are nested
 unfoldable mutual
+  -- how deep bundles are nested: a bundle has depth 1, one in it 2
   pub deep : Packet → ℕ
   deep (message address arguments) = 0
-  deep (bundle seconds fractional elements) = deepest elements + 1
+  deep (bundle seconds fractional elements) = deepAll elements + 1
 
-  pub deepest : Packets → ℕ
-  deepest none = 0
-  deepest (also packet rest) = max (deep packet) (deepest rest)
+  -- the depth of the deepest
+  pub deepAll : Packets → ℕ
+  deepAll none = 0
+  deepAll (also packet rest) = max (deep packet) (deepAll rest)
 
 -- ---- the bytes that spell a packet
 
 -- int32, and every other number of 32 bits: big-endian
-abbrev pub int32 : ℕ → List ℕ
-int32 x = bytes 4 x
+abbrev pub oscInt32 : ℕ → List ℕ
+oscInt32 x = bytes 4 x
 
 -- OSC-string: the characters, "followed by a null, followed by 0-3 additional null characters to make the total number of bits a
 -- multiple of 32"
@@ -115,7 +119,7 @@ pub record OscString (text bs : List ℕ) : Type 0 where
 pub record OscBlob (content bs : List ℕ) : Type 0 where
   pub additional : ℕ
   pub few : additional ≤ 3
-  pub spelled : bs ≡ int32 (length content) ++ (content ++ replicate additional 0)
+  pub spelled : bs ≡ oscInt32 (length content) ++ (content ++ replicate additional 0)
   pub multiple : length bs % 4 ≡ 0
 
 -- the type tag of an argument that is no array
@@ -128,82 +132,104 @@ tagOf (blob content) = 98
 tagOf (char x) = 99
 
 -- "a sequence of characters corresponding exactly to the sequence of OSC Arguments"; an array's stand in brackets
-unfoldable pub tagsOf : Arguments → List ℕ
+unfoldable pub tagsOf : OscArguments → List ℕ
 tagsOf end = []
 tagsOf (atom value rest) = tagOf value ∷ tagsOf rest
-tagsOf (array within rest) = 91 ∷ (tagsOf within ++ (93 ∷ tagsOf rest))
+tagsOf (array within rest) = arrayKind ∷ (tagsOf within ++ (93 ∷ tagsOf rest))
 
 -- the binary representation of an argument that is no array
 pub data AtomSpells : Atom → List ℕ → Type 0 where
-  as-word : {tag x : ℕ} → AtomSpells (word tag x) (int32 x)
-  as-long : {tag high low : ℕ} → AtomSpells (long tag high low) (int32 high ++ int32 low)
+  as-word : {tag x : ℕ} → AtomSpells (word tag x) (oscInt32 x)
+  as-long : {tag high low : ℕ} → AtomSpells (long tag high low) (oscInt32 high ++ oscInt32 low)
   as-bare : {tag : ℕ} → AtomSpells (bare tag) []
   as-string : {text bs : List ℕ} → OscString text bs → AtomSpells (string text) bs
   as-blob : {content bs : List ℕ} → OscBlob content bs → AtomSpells (blob content) bs
-  as-char : {x : ℕ} → AtomSpells (char x) (int32 x)
+  as-char : {x : ℕ} → AtomSpells (char x) (oscInt32 x)
 
 -- "a contiguous sequence of the binary representations of each argument"; brackets have none
-pub data ArgumentsSpell : Arguments → List ℕ → Type 0 where
+pub data ArgumentsSpell : OscArguments → List ℕ → Type 0 where
   no-argument : ArgumentsSpell end []
-  one-atom : {value : Atom} {rest : Arguments} {x y : List ℕ} → AtomSpells value x → ArgumentsSpell rest y
+  one-atom : {value : Atom} {rest : OscArguments} {x y : List ℕ} → AtomSpells value x → ArgumentsSpell rest y
       → ArgumentsSpell (atom value rest) (x ++ y)
-  one-array : {within rest : Arguments} {x y : List ℕ} → ArgumentsSpell within x → ArgumentsSpell rest y
+  one-array : {within rest : OscArguments} {x y : List ℕ} → ArgumentsSpell within x → ArgumentsSpell rest y
       → ArgumentsSpell (array within rest) (x ++ y)
 
 -- "#bundle"
-abbrev pub bundleWord : List ℕ
-bundleWord = 35 ∷ 98 ∷ 117 ∷ 110 ∷ 100 ∷ 108 ∷ 101 ∷ []
+abbrev pub hashBundle : List ℕ
+hashBundle = 35 ∷ 98 ∷ 117 ∷ 110 ∷ 100 ∷ 108 ∷ 101 ∷ []
 
--- OSC Message: an OSC Address Pattern, an OSC Type Tag String ("an OSC-string beginning with the character ','"), the OSC Arguments.
--- OSC Bundle: the OSC-string "#bundle", an OSC Time Tag, zero or more OSC Bundle Elements.
--- OSC Bundle Element: its size, an int32 that "will always be a multiple of 4", and its contents
 mutual
+  -- OSC Message: an OSC Address Pattern, an OSC Type Tag String ("an OSC-string beginning with the character ','"), the OSC Arguments.
+  -- OSC Bundle: the OSC-string "#bundle", an OSC Time Tag, zero or more OSC Bundle Elements
   pub data Spells : Packet → List ℕ → Type 0 where
-    as-message : {address : List ℕ} {arguments : Arguments} {a t d : List ℕ} → OscString address a → OscString (44 ∷ tagsOf arguments) t
+    as-message : {address : List ℕ} {arguments : OscArguments} {a t d : List ℕ} → OscString address a → OscString (44 ∷ tagsOf arguments) t
         → ArgumentsSpell arguments d → Spells (message address arguments) (a ++ (t ++ d))
-    as-bundle : {seconds fractional : ℕ} {elements : Packets} {w es : List ℕ} → OscString bundleWord w → ElementsSpell elements es
-        → Spells (bundle seconds fractional elements) (w ++ (int32 seconds ++ (int32 fractional ++ es)))
+    as-bundle : {seconds fractional : ℕ} {elements : Packets} {w es : List ℕ} → OscString hashBundle w → ElementsSpell elements es
+        → Spells (bundle seconds fractional elements) (w ++ (oscInt32 seconds ++ (oscInt32 fractional ++ es)))
 
+  -- OSC Bundle Element: its size, an int32 that "will always be a multiple of 4", and its contents
   pub data ElementsSpell : Packets → List ℕ → Type 0 where
     no-element : ElementsSpell none []
     element : {packet : Packet} {rest : Packets} {content es : List ℕ} → length content % 4 ≡ 0 → Spells packet content
         → ElementsSpell rest es
-        → ElementsSpell (also packet rest) (int32 (length content) ++ (content ++ es))
+        → ElementsSpell (also packet rest) (oscInt32 (length content) ++ (content ++ es))
 
 -- ---- the tree of a packet
 
 -- a range of the source that holds a text or a blob
-pub record Range (source : List ℕ) (a b : ℕ) (content : List ℕ) : Type 0 where
+pub record RangeHolds (source : List ℕ) (a b : ℕ) (content : List ℕ) : Type 0 where
   pub lies : a + b ≤ length source
   pub holds : part source a b ≡ content
 
--- the two fields of a node stand for an argument that is no array (document 01, the table of kinds)
-pub data FieldsAre (source : List ℕ) : Atom → (a b : ℕ) → Type 0 where
-  is-word : {tag x : ℕ} → FieldsAre source (word tag x) x 0
-  is-long : {tag high low : ℕ} → FieldsAre source (long tag high low) high low
-  is-bare : {tag : ℕ} → FieldsAre source (bare tag) 0 0
-  is-string : {text : List ℕ} {a b : ℕ} → Range source a b text → FieldsAre source (string text) a b
-  is-blob : {content : List ℕ} {a b : ℕ} → Range source a b content → FieldsAre source (blob content) a b
-  is-char : {x : ℕ} → FieldsAre source (char x) x 0
+-- the numbers of a node stand for an argument that is no array (document 01, the table of kinds)
+abbrev pub NumbersAre : List ℕ → Atom → Item → Type 0
+NumbersAre source (word tag x) item = (item .a ≡ x) × (item .b ≡ 0)
+NumbersAre source (long tag high low) item = (item .a ≡ high) × (item .b ≡ low)
+NumbersAre source (bare tag) item = (item .a ≡ 0) × (item .b ≡ 0)
+NumbersAre source (string text) item = RangeHolds source (item .a) (item .b) text
+NumbersAre source (blob content) item = RangeHolds source (item .a) (item .b) content
+NumbersAre source (char x) item = (item .a ≡ x) × (item .b ≡ 0)
+
+-- a node stands for an argument that is no array
+pub record AtomIs (source : List ℕ) (value : Atom) (item : Item) : Type 0 where
+  pub kind : item .kind ≡ tagOf value
+  pub numbers : NumbersAre source value item
+
+-- a node of an array, which has no numbers of its own
+pub record ArrayIs (item : Item) : Type 0 where
+  pub kind : item .kind ≡ arrayKind
+  pub first : item .a ≡ 0
+  pub second : item .b ≡ 0
 
 -- a forest stands for arguments
-pub data ArgumentsAre (source : List ℕ) : Arguments → Forest → Type 0 where
+pub data ArgumentsAre (source : List ℕ) : OscArguments → Forest → Type 0 where
   no-node : ArgumentsAre source end nil
-  leaf : {value : Atom} {rest : Arguments} {a b : ℕ} {g : Forest} → FieldsAre source value a b → ArgumentsAre source rest g
-      → ArgumentsAre source (atom value rest) (node (tagOf value) a b nil g)
-  branch : {within rest : Arguments} {f g : Forest} → ArgumentsAre source within f → ArgumentsAre source rest g
-      → ArgumentsAre source (array within rest) (node 91 0 0 f g)
+  leaf : {value : Atom} {rest : OscArguments} {item : Item} {g : Forest} → AtomIs source value item → ArgumentsAre source rest g
+      → ArgumentsAre source (atom value rest) (node item nil g)
+  branch : {within rest : OscArguments} {item : Item} {f g : Forest} → ArrayIs item → ArgumentsAre source within f
+      → ArgumentsAre source rest g → ArgumentsAre source (array within rest) (node item f g)
 
--- a node stands for a packet, and a forest for a bundle's elements
+-- a node of a message names its address
+pub record MessageIs (source address : List ℕ) (item : Item) : Type 0 where
+  pub kind : item .kind ≡ messageKind
+  pub range : RangeHolds source (item .a) (item .b) address
+
+-- a node of a bundle has its time tag
+pub record BundleIs (seconds fractional : ℕ) (item : Item) : Type 0 where
+  pub kind : item .kind ≡ bundleKind
+  pub first : item .a ≡ seconds
+  pub second : item .b ≡ fractional
+
 mutual
-  pub data StandsFor (source : List ℕ) : Packet → (kind a b : ℕ) → Forest → Type 0 where
-    is-message : {address : List ℕ} {arguments : Arguments} {a b : ℕ} {f : Forest} → Range source a b address
-        → ArgumentsAre source arguments f
-        → StandsFor source (message address arguments) 47 a b f
-    is-bundle : {seconds fractional : ℕ} {elements : Packets} {f : Forest} → StandFor source elements f
-        → StandsFor source (bundle seconds fractional elements) 35 seconds fractional f
+  -- a node stands for a packet
+  pub data StandsFor (source : List ℕ) : Packet → Item → Forest → Type 0 where
+    is-message : {address : List ℕ} {arguments : OscArguments} {item : Item} {f : Forest} → MessageIs source address item
+        → ArgumentsAre source arguments f → StandsFor source (message address arguments) item f
+    is-bundle : {seconds fractional : ℕ} {elements : Packets} {item : Item} {f : Forest} → BundleIs seconds fractional item
+        → StandFor source elements f → StandsFor source (bundle seconds fractional elements) item f
 
+  -- a forest stands for a bundle's elements
   pub data StandFor (source : List ℕ) : Packets → Forest → Type 0 where
     no-packet : StandFor source none nil
-    packet : {first : Packet} {rest : Packets} {kind a b : ℕ} {f g : Forest} → StandsFor source first kind a b f → StandFor source rest g
-        → StandFor source (also first rest) (node kind a b f g)
+    packet : {first : Packet} {rest : Packets} {item : Item} {f g : Forest} → StandsFor source first item f → StandFor source rest g
+        → StandFor source (also first rest) (node item f g)

@@ -1,11 +1,12 @@
 -- The round trip of demand 2 as a fact about a function that calls `encode` and then `decode_udp`.
 use mathlib.Core.Path.{_≡_}
 use mathlib.Core.List.{List}
-use Prim.Native.Nat.{ℕ, _/_, _≤_}
+use Prim.Native.Nat.{ℕ, _≤_}
 use lib.ListN.{length, take}
 use Rattle.node.specs.Forest.{Forest}
-use Rattle.node.specs.Records.{recordSize}
-use Rattle.writers.specs.Osc.{packetOf}
+use Rattle.node.specs.Records.{capacity}
+use Rattle.node.specs.declared.record.Item.{Item}
+use Rattle.writers.specs.Osc.{writePacket}
 use Rattle.decoder.specs.declared.Decoded.{Decoded}
 use Rattle.decoder.specs.declared.Decoded.the-variants.{Packets}
 use Rattle.demands.specs.Words.{SameTable}
@@ -19,6 +20,6 @@ pub record CameBack (t : List ℕ) (count : ℕ) (source written : List ℕ) (r 
 -- for every table that demand 2 speaks of, with room in both buffers
 abbrev pub Returns : List ℕ → ℕ → List ℕ → List ℕ → List ℕ → Decoded → List ℕ → List ℕ → Type 0
 Returns t count source out back r out' back' =
-    (kind a b : ℕ) (inside : Forest) → Playable t count source kind a b inside
-    → length (packetOf source kind a b inside) ≤ length out → count ≤ length back / recordSize
-    → CameBack t count source (take (length (packetOf source kind a b inside)) out') r back'
+    (item : Item) (inside : Forest) → Playable t count source item inside
+    → length (writePacket source item inside) ≤ length out → count ≤ capacity back
+    → CameBack t count source (take (length (writePacket source item inside)) out') r back'

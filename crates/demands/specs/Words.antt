@@ -6,12 +6,13 @@ use Prim.Native.Nat.{ℕ, _<_}
 use lib.Dec.{eqb}
 use lib.ListN.{getD}
 use Rattle.refusal.specs.declared.Refusal.the-variants.{TooLong, TooDeep, TableFull, DepthLimit}
-use Rattle.node.specs.Tags.{among}
+use Rattle.wire.specs.Part.{part}
+use Rattle.node.specs.Tags.{messageKind, bundleKind, among}
 use Rattle.node.specs.Forest.{Forest, nil, node}
-use Rattle.node.specs.Records.{kindAt, endAt, aAt, bAt}
+use Rattle.node.specs.Records.{endAt, itemAt}
+use Rattle.node.specs.declared.record.Item.{Item}
 use Rattle.decoder.specs.declared.Decoded.{Decoded}
 use Rattle.decoder.specs.declared.Decoded.the-variants.{Refused}
-use Rattle.table.specs.Formed.{part}
 
 -- every element of a list is a byte
 abbrev pub Bytes : List ℕ → Type 0
@@ -22,48 +23,57 @@ unfoldable pub NoNul : List ℕ → Type 0
 NoNul [] = Unit {0}
 NoNul (x ∷ text) = (x ≡ 0 → ⊥) × NoNul text
 
--- "'/'-led addresses, no NUL in text or address": of a node's own range
-unfoldable pub CleanNode : List ℕ → ℕ → ℕ → ℕ → Type 0
-CleanNode source kind a b =
-    cond (eqb kind 47) ((getD (part source a b) 0 0 ≡ 47) × NoNul (part source a b))
-    (cond (eqb kind 115) (NoNul (part source a b)) (Unit {0}))
+-- the character '/'
+abbrev pub slash : ℕ
+slash = 47
+
+-- the bytes that the range of a node names in its source
+abbrev pub bytesNamed : List ℕ → Item → List ℕ
+bytesNamed source item = part source (item .a) (item .b)
+
+-- "'/'-led addresses, no NUL in text or address": of one node
+unfoldable pub CleanNode : List ℕ → Item → Type 0
+CleanNode source item =
+    cond (eqb (item .kind) messageKind) ((getD (bytesNamed source item) 0 0 ≡ slash) × NoNul (bytesNamed source item))
+    (cond (eqb (item .kind) 115) (NoNul (bytesNamed source item)) (Unit {0}))
 
 -- the same of every node
 unfoldable pub Clean : List ℕ → Forest → Type 0
 Clean source nil = Unit {0}
-Clean source (node kind a b inside rest) = CleanNode source kind a b × Clean source inside × Clean source rest
+Clean source (node item inside rest) = CleanNode source item × Clean source inside × Clean source rest
 
--- a kind whose fields are a range: address, blob, text
-abbrev pub ranged : ℕ → Bool
-ranged kind = among kind (47 ∷ 98 ∷ 115 ∷ [])
+-- a kind whose two numbers are a range: address, blob, text
+abbrev pub rangedKind : ℕ → Bool
+rangedKind kind = among kind (messageKind ∷ 98 ∷ 115 ∷ [])
 
--- the field a of a node over one source and over another: equal as bytes where it is a range's offset ("only their offsets may
--- differ"), else equal
-abbrev pub SameField : ℕ → List ℕ → ℕ → ℕ → List ℕ → ℕ → Type 0
-SameField kind source a b source' a' = cond (ranged kind) (part source a b ≡ part source' a' b) (a ≡ a')
+-- a node over one source and over another: kind and numbers are equal, and a range is equal as bytes ("only their offsets may
+-- differ")
+pub record SameItem (source source' : List ℕ) (item item' : Item) : Type 0 where
+  pub kinds : item .kind ≡ item' .kind
+  pub seconds : item .b ≡ item' .b
+  pub firsts : cond (rangedKind (item .kind)) (bytesNamed source item ≡ bytesNamed source' item') (item .a ≡ item' .a)
 
--- two trees over two sources are the same: kinds, nesting and numbers are equal, text and blobs are equal as bytes
+-- two trees over two sources are the same: nesting is equal, and each node is
 pub data Same (source source' : List ℕ) : Forest → Forest → Type 0 where
   none : Same source source' nil nil
-  both : {kind a a' b : ℕ} {f f' g g' : Forest} → SameField kind source a b source' a' → Same source source' f f' → Same source source' g g'
-      → Same source source' (node kind a b f g) (node kind a' b f' g')
+  both : {item item' : Item} {f f' g g' : Forest} → SameItem source source' item item' → Same source source' f f'
+      → Same source source' g g' → Same source source' (node item f g) (node item' f' g')
 
--- two tables of `count` records over two sources hold the same: kinds, ends and numbers are equal, text and blobs are equal as bytes
+-- two tables of `count` records over two sources hold the same: ends are equal, and each record's node is
 pub record SameTable (source t source' t' : List ℕ) (count : ℕ) : Type 0 where
-  pub kinds : (i : ℕ) → i < count → kindAt t i ≡ kindAt t' i
+  pub items : (i : ℕ) → i < count → SameItem source source' (itemAt t i) (itemAt t' i)
   pub ends : (i : ℕ) → i < count → endAt t i ≡ endAt t' i
-  pub seconds : (i : ℕ) → i < count → bAt t i ≡ bAt t' i
-  pub firsts : (i : ℕ) → i < count → SameField (kindAt t i) source (aAt t i) (bAt t i) source' (aAt t' i)
 
 -- a forest begins with the nodes of another
-pub data Begins : Forest → Forest → Type 0 where
-  none : {g : Forest} → Begins nil g
-  also : {kind a b : ℕ} {inside f g : Forest} → Begins f g → Begins (node kind a b inside f) (node kind a b inside g)
+pub data BeginsSame : Forest → Forest → Type 0 where
+  none : {g : Forest} → BeginsSame nil g
+  also : {item : Item} {inside f g : Forest} → BeginsSame f g → BeginsSame (node item inside f) (node item inside g)
 
 -- "a message is the same message, and a bundle keeps its time tag and begins with the same elements"
 pub data Continues : Forest → Forest → Type 0 where
-  message : {a b : ℕ} {inside : Forest} → Continues (node 47 a b inside nil) (node 47 a b inside nil)
-  bundle : {a b : ℕ} {inside inside' : Forest} → Begins inside inside' → Continues (node 35 a b inside nil) (node 35 a b inside' nil)
+  message : {item : Item} {inside : Forest} → item .kind ≡ messageKind → Continues (node item inside nil) (node item inside nil)
+  bundle : {item : Item} {inside inside' : Forest} → item .kind ≡ bundleKind → BeginsSame inside inside'
+      → Continues (node item inside nil) (node item inside' nil)
 
 -- an answer that is neither 9 nor 10
 pub record NotFull (r : Decoded) : Type 0 where

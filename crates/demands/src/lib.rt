@@ -13,12 +13,13 @@ pub fn there_and_back(
     out: &mut [u8],
     back: &mut [u8],
 ) -> Decoded
-    ensures { λ r. ⌜ Returns (now (table .entry)) count (now (source .entry)) (now (out .entry)) (now (back .entry)) r (now (out .exit)) (now (back .exit)) ⌝ }
+    ensures { λ r. ⌜ Returns (now (table .entry)) count (now (source .entry)) (now (out .entry)) (now (back .entry)) r
+        (now (out .exit)) (now (back .exit)) ⌝ }
 {
     match encoder::encode(table, count, source, out) {
         Encoded::Written(n) => {
             if n <= out.len() {
-                return decoder::decode_udp(&out[0..n], back, 64);
+                return decoder::decode_udp(&out[0..n], back, wire::DEEPEST);
             }
             Decoded::Waiting
         }

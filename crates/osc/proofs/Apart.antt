@@ -8,12 +8,14 @@ use lib.ListN.{length}
 use Rattle.refusal.specs.Refusal.{numberOf}
 use Rattle.wire.proofs.Choices.{by-test, by-le}
 use Rattle.utf8.specs.Derive.{utf8}
+use Rattle.wire.specs.Limits.{longest, deepest}
+use Rattle.node.specs.declared.record.Item.{Item}
 use Rattle.node.specs.Forest.{Forest, nil, node, depth}
 use Rattle.decoder.specs.declared.Decoded.{Decoded}
 use Rattle.decoder.specs.declared.Decoded.the-variants as decodes
 use Rattle.strings.specs.Atomic.{oscString}
-use Rattle.writers.specs.Osc.{packetOf}
-use Rattle.encoder.specs.Outcome.{Outcome, write, encoded, Encodes, malformed, formed, stringOutcome}
+use Rattle.writers.specs.Osc.{writePacket}
+use Rattle.encoder.specs.Outcome.{Outcome, bytesOutcome, treeOutcome, Encodes, malformed, formed, stringOutcome}
 use Rattle.encoder.specs.declared.Encoded.{Encoded}
 use Rattle.encoder.specs.declared.Encoded.the-variants as encodes
 use Rattle.osc.specs.Answers.{decodedNumber, Fits, encodedNumber, Tells}
@@ -36,6 +38,7 @@ Parts n (decodes.Packets count left) x = (refusalIn x ≡ 0) × (countIn x ≡ c
 Parts n decodes.Waiting x = (refusalIn x ≡ 0) × (countIn x ≡ 0) × (lowIn x ≡ n)
 Parts n (decodes.Refused r) x = (refusalIn x ≡ numberOf r) × (countIn x ≡ 0) × (lowIn x ≡ 0)
 
+-- the parts of a decoder's number are what was put into it
 pub decoded-apart : (n : ℕ) (answer : Decoded) → Fits n answer → Parts n answer (decodedNumber n answer)
 decoded-apart n (decodes.Packets count left) h = (omega arith, omega arith, omega arith)
 decoded-apart n decodes.Waiting h = (omega arith, omega arith, omega arith)
@@ -45,32 +48,32 @@ decoded-apart n (decodes.Refused r) h = (omega arith, omega arith, omega arith)
 
 -- no encoder writes more than 65,535 bytes
 abbrev Small : Encoded → Type 0
-Small (encodes.Written n) = n ≤ 65535
+Small (encodes.Written n) = n ≤ longest
 Small (encodes.Refused r) = Unit {0}
 
-write-small : (bs out : List ℕ) → Small (write bs out .answer)
-unfolding write
-write-small bs out =
-    by-le (λ (o : Outcome). Small (o .answer)) (length bs) 65535
+bytes-small : (bs out : List ℕ) → Small (bytesOutcome bs out .answer)
+unfolding bytesOutcome
+bytes-small bs out =
+    by-le (λ (o : Outcome). Small (o .answer)) (length bs) longest
     (λ h. by-le (λ (o : Outcome). Small (o .answer)) (length bs) (length out) (λ k. h) (λ k. tt))
     (λ h. tt)
 
-encoded-small : (frame : ℕ → List ℕ → List ℕ) (source out : List ℕ) (kind a b : ℕ) (inside : Forest)
-    → Small (encoded frame source out kind a b inside .answer)
-unfolding encoded
-encoded-small frame source out kind a b inside =
-    by-le (λ (o : Outcome). Small (o .answer)) (depth (node kind a b inside nil)) 64
-    (λ h. write-small (frame kind (packetOf source kind a b inside)) out) (λ h. tt)
+tree-small : (frame : ℕ → List ℕ → List ℕ) (source out : List ℕ) (item : Item) (inside : Forest)
+    → Small (treeOutcome frame source out item inside .answer)
+unfolding treeOutcome
+tree-small frame source out item inside =
+    by-le (λ (o : Outcome). Small (o .answer)) (depth (node item inside nil)) deepest
+    (λ h. bytes-small (frame (item .kind) (writePacket source item inside)) out) (λ h. tt)
 
 encodes-small : {frame : ℕ → List ℕ → List ℕ} {table : List ℕ} {count : ℕ} {source out : List ℕ} {r : Outcome}
     → Encodes frame table count source out r → Small (r .answer)
 encodes-small (malformed n e) = subst (λ (o : Outcome). Small (o .answer)) (sym e) tt
-encodes-small {frame} {table} {count} {source} {out} (formed kind a b inside tree e) =
-    subst (λ (o : Outcome). Small (o .answer)) (sym e) (encoded-small frame source out kind a b inside)
+encodes-small {frame} {table} {count} {source} {out} (formed item inside tree e) =
+    subst (λ (o : Outcome). Small (o .answer)) (sym e) (tree-small frame source out item inside)
 
 string-small : (text out : List ℕ) → Small (stringOutcome text out .answer)
 unfolding stringOutcome
-string-small text out = by-test (λ (o : Outcome). Small (o .answer)) (utf8 text) (λ h. write-small (oscString text) out) (λ h. tt)
+string-small text out = by-test (λ (o : Outcome). Small (o .answer)) (utf8 text) (λ h. bytes-small (oscString text) out) (λ h. tt)
 
 -- what the parts of an encoder's number say of its answer
 abbrev pub EncodedParts : Encoded → ℕ → Type 0
@@ -81,13 +84,13 @@ encoded-apart : (answer : Encoded) → Small answer → EncodedParts answer (enc
 encoded-apart (encodes.Written n) h = (omega arith, omega arith)
 encoded-apart (encodes.Refused r) h = (omega arith, omega arith)
 
--- of `osc_encode` and `osc_encode_tcp`
+-- the parts of a number that `osc_encode` or `osc_encode_tcp` tells are what was put into it
 pub told-apart : (frame : ℕ → List ℕ → List ℕ) (table : List ℕ) (count : ℕ) (source out₀ : List ℕ) (told : ℕ) (out : List ℕ)
     → (t : Tells (Encodes frame table count source out₀) told out) → EncodedParts (t .answer) told
 told-apart frame table count source out₀ told out t =
     subst (EncodedParts (t .answer)) (sym (t .number)) (encoded-apart (t .answer) (encodes-small (t .outcome)))
 
--- of `osc_encode_string`
+-- so are those of a number that `osc_encode_string` tells
 pub string-told-apart : (text out₀ : List ℕ) (told : ℕ) (out : List ℕ) → (t : Tells (λ o. o ≡ stringOutcome text out₀) told out)
     → EncodedParts (t .answer) told
 string-told-apart text out₀ told out t =

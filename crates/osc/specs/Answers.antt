@@ -3,14 +3,20 @@ use mathlib.Core.Path.{_≡_}
 use mathlib.Core.Bool.{cond}
 use mathlib.Core.List.{List}
 use Prim.Native.Nat.{ℕ, _+_, _*_, _≤_}
+use lib.ListN.{length}
 use Rattle.refusal.specs.Refusal.{numberOf}
 use Rattle.refusal.specs.declared.Refusal.{Refusal}
+use Rattle.wire.specs.Limits.{longest}
 use Rattle.wire.specs.declared.Padded.{Padded}
 use Rattle.wire.specs.declared.Padded.the-variants as padded
+use Rattle.node.specs.Tags.{messageKind, bundleKind, arrayKind}
+use Rattle.node.specs.Records.{capacity}
 use Rattle.values.specs.declared.value.OscType.{OscType}
 use Rattle.values.specs.declared.value.OscType.the-variants as value
 use Rattle.values.specs.declared.look.Looked.{Looked}
 use Rattle.values.specs.declared.look.Looked.the-variants as looked
+use Rattle.decoder.specs.Framing.{Whole}
+use Rattle.decoder.specs.Limits.{decoded, forestOf, tabled}
 use Rattle.decoder.specs.declared.Decoded.{Decoded}
 use Rattle.decoder.specs.declared.Decoded.the-variants as decodes
 use Rattle.encoder.specs.Outcome.{Outcome}
@@ -29,9 +35,14 @@ decodedNumber n (decodes.Refused r) = refusalNumber r
 
 -- what an answer to n bytes holds has room in those bits
 abbrev pub Fits : ℕ → Decoded → Type 0
-Fits n (decodes.Packets count left) = (count ≤ 65535) × (left ≤ 65535)
-Fits n decodes.Waiting = n ≤ 65535
+Fits n (decodes.Packets count left) = (count ≤ longest) × (left ≤ longest)
+Fits n decodes.Waiting = n ≤ longest
 Fits n (decodes.Refused r) = Unit {0}
+
+-- a decoder's call, by its rule: the number of its answer is told, and the table is as that answer leaves it
+pub record TellsDecoded (rule : List ℕ → Whole) (msg table : List ℕ) (depth told : ℕ) (after : List ℕ) : Type 0 where
+  pub number : told ≡ decodedNumber (length msg) (decoded rule (capacity table) depth msg)
+  pub left : after ≡ tabled (decoded rule (capacity table) depth msg) (forestOf (rule msg)) table
 
 -- an encoder's answer: the bytes written in bits 0 to 31
 abbrev pub encodedNumber : Encoded → ℕ
@@ -51,8 +62,8 @@ paddedNumber (padded.Refused r) = numberOf r
 
 -- the kind of a value: document 01's table of kinds
 abbrev pub kindOf : OscType → ℕ
-kindOf (value.Message offset n) = 47
-kindOf (value.Bundle t) = 35
+kindOf (value.Message offset n) = messageKind
+kindOf (value.Bundle t) = bundleKind
 kindOf (value.Int n) = 105
 kindOf (value.Float x v) = 102
 kindOf (value.String offset n) = 115
@@ -66,7 +77,7 @@ kindOf (value.Midi x) = 109
 kindOf (value.Bool truth) = cond truth 84 70
 kindOf value.Nil = 78
 kindOf value.Inf = 73
-kindOf value.Array = 91
+kindOf value.Array = arrayKind
 
 -- `look`: the kind in the low byte
 abbrev pub lookedNumber : Looked → ℕ

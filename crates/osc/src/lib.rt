@@ -1,20 +1,18 @@
 // The C boundary: the public calls, each with its answer as one number of 64 bits. include/osc.h declares them for C and C++.
 use decoder::Decoded;
+use decoder::Framing;
 use encoder::Encoded;
+use node::record;
 use refusal::Refusal;
 use values::look::Looked;
-use values::value::OscType;
 use wire::Padded;
 ghost use mathlib.Core.Path.{_≡_};
-ghost use Prim.Native.Nat.{_/_};
-ghost use lib.ListN.{length};
 ghost use Rattle.wire.specs.Pad.{padOf};
-ghost use Rattle.node.specs.Records.{recordSize};
 ghost use Rattle.values.specs.Look.{lookAt};
-ghost use Rattle.decoder.specs.Framing.{udp, tcp, tcpVec};
-ghost use Rattle.decoder.specs.Limits.{decoded, forestOf, tabled};
-ghost use Rattle.encoder.specs.Outcome.{plain, prefixed, Encodes, stringOutcome};
-ghost use Rattle.osc.specs.Answers.{refusalNumber, decodedNumber, Fits, encodedNumber, Tells, paddedNumber, kindOf, lookedNumber};
+ghost use Rattle.decoder.specs.Framing.{udp, tcp, tcpVec, ruleOf};
+ghost use Rattle.encoder.specs.Outcome.{unframed, prefixed, Encodes, stringOutcome};
+ghost use Rattle.osc.specs.Answers.{refusalNumber, decodedNumber, Fits, TellsDecoded, encodedNumber, Tells};
+ghost use Rattle.osc.specs.Answers.{paddedNumber, lookedNumber};
 
 // A refusal's number, in bits 56 to 63.
 fn refusal_number(refusal: Refusal) -> u64
@@ -45,88 +43,59 @@ fn encoded_number(answer: Encoded) -> u64
     }
 }
 
-// The kind of a value.
-fn kind_of(value: OscType) -> u64
-    ensures { λ r. ⌜ r ≡ kindOf value ⌝ }
-{
-    match value {
-        OscType::Message {
-            offset: _,
-            length: _,
-        } => 47,
-        OscType::Bundle(_) => 35,
-        OscType::Int(_) => 105,
-        OscType::Float { bits: _, value: _ } => 102,
-        OscType::String {
-            offset: _,
-            length: _,
-        } => 115,
-        OscType::Blob {
-            offset: _,
-            length: _,
-        } => 98,
-        OscType::Time(_) => 116,
-        OscType::Long(_) => 104,
-        OscType::Double { bits: _, value: _ } => 100,
-        OscType::Char(_) => 99,
-        OscType::Color(_) => 114,
-        OscType::Midi(_) => 109,
-        OscType::Bool(truth) => { if truth { 84 } else { 70 } }
-        OscType::Nil => 78,
-        OscType::Inf => 73,
-        OscType::Array => 91,
-    }
-}
-
-// `decode_udp`: the count in bits 32 to 55 and the bytes left in bits 0 to 31, or the refusal's number in bits 56 to 63.
-//
-// Ruled out: a count that spills into the refusal's bits; a byte of the table changed where a refusal is told.
-#[no_mangle]
-pub extern "C" fn osc_decode_udp(msg: &[u8], table: &mut [u8], depth: u64) -> u64
-    ensures { λ r. ⌜ r ≡ decodedNumber (length (now (msg .entry))) (decoded udp (length (now (table .entry)) / recordSize) depth (now (msg .entry))) ⌝ }
-    ensures { λ _. ⌜ now (table .exit) ≡ tabled (decoded udp (length (now (table .entry)) / recordSize) depth (now (msg .entry))) (forestOf (udp (now (msg .entry)))) (now (table .entry)) ⌝ }
-{
-    decoded_number(decoder::decode_udp(msg, table, depth as usize), msg.len())
-}
-
-// `decode_tcp`, told in the same way; Waiting is count 0 with the whole input left.
-//
-// Ruled out: Waiting told as 0 bytes left; a packet of no records told as Waiting.
-#[no_mangle]
-pub extern "C" fn osc_decode_tcp(msg: &[u8], table: &mut [u8], depth: u64) -> u64
-    ensures { λ r. ⌜ r ≡ decodedNumber (length (now (msg .entry))) (decoded tcp (length (now (table .entry)) / recordSize) depth (now (msg .entry))) ⌝ }
-    ensures { λ _. ⌜ now (table .exit) ≡ tabled (decoded tcp (length (now (table .entry)) / recordSize) depth (now (msg .entry))) (forestOf (tcp (now (msg .entry)))) (now (table .entry)) ⌝ }
-{
-    decoded_number(decoder::decode_tcp(msg, table, depth as usize), msg.len())
-}
-
-// `decode_tcp_vec`, told in the same way.
-//
-// Ruled out: the count of packets in place of the count of records; the depth limit cut to 32 bits, so that 2^32 passes for 0.
-#[no_mangle]
-pub extern "C" fn osc_decode_tcp_vec(msg: &[u8], table: &mut [u8], depth: u64) -> u64
-    ensures { λ r. ⌜ r ≡ decodedNumber (length (now (msg .entry))) (decoded tcpVec (length (now (table .entry)) / recordSize) depth (now (msg .entry))) ⌝ }
-    ensures { λ _. ⌜ now (table .exit) ≡ tabled (decoded tcpVec (length (now (table .entry)) / recordSize) depth (now (msg .entry))) (forestOf (tcpVec (now (msg .entry)))) (now (table .entry)) ⌝ }
+// A decoder by its framing, told as a number.
+fn decode(framing: Framing, msg: &[u8], table: &mut [u8], depth: u64) -> u64
+    ensures { λ r. ⌜ TellsDecoded (ruleOf framing) (now (msg .entry)) (now (table .entry)) depth r (now (table .exit)) ⌝ }
 {
     decoded_number(
-        decoder::decode_tcp_vec(msg, table, depth as usize),
+        decoder::decode(framing, msg, table, depth as usize),
         msg.len(),
     )
 }
 
+// `decode_udp`: the count in bits 32 to 55 and the bytes left in bits 0 to 31, or the refusal's number in bits 56 to 63.
+//
+// Ruled out: a refusal told in the bits of the bytes left; a byte of the table changed where a refusal is told.
+#[no_mangle]
+pub extern "C" fn osc_decode_udp(msg: &[u8], table: &mut [u8], depth: u64) -> u64
+    ensures { λ r. ⌜ TellsDecoded udp (now (msg .entry)) (now (table .entry)) depth r (now (table .exit)) ⌝ }
+{
+    decode(Framing::Udp, msg, table, depth)
+}
+
+// `decode_tcp`, told in the same way; Waiting is count 0 with the whole input left.
+//
+// Ruled out: Waiting told as 0 bytes left; as many left as the table has bytes.
+#[no_mangle]
+pub extern "C" fn osc_decode_tcp(msg: &[u8], table: &mut [u8], depth: u64) -> u64
+    ensures { λ r. ⌜ TellsDecoded tcp (now (msg .entry)) (now (table .entry)) depth r (now (table .exit)) ⌝ }
+{
+    decode(Framing::Tcp, msg, table, depth)
+}
+
+// `decode_tcp_vec`, told in the same way.
+//
+// Ruled out: the first packet of the list alone; the depth limit cut to 32 bits, so that 2^32 passes for 0.
+#[no_mangle]
+pub extern "C" fn osc_decode_tcp_vec(msg: &[u8], table: &mut [u8], depth: u64) -> u64
+    ensures { λ r. ⌜ TellsDecoded tcpVec (now (msg .entry)) (now (table .entry)) depth r (now (table .exit)) ⌝ }
+{
+    decode(Framing::TcpVec, msg, table, depth)
+}
+
 // `encode`: the bytes written in bits 0 to 31, or the refusal's number in bits 56 to 63.
 //
-// Ruled out: the bytes of `encode_tcp`; 0 told for a packet that was written.
+// Ruled out: fewer bytes told than were written; the count cut to 32 bits, so that 2^32 + 1 passes for 1.
 #[no_mangle]
 pub extern "C" fn osc_encode(table: &[u8], count: u64, source: &[u8], out: &mut [u8]) -> u64
-    ensures { λ r. ⌜ Tells (Encodes plain (now (table .entry)) count (now (source .entry)) (now (out .entry))) r (now (out .exit)) ⌝ }
+    ensures { λ r. ⌜ Tells (Encodes unframed (now (table .entry)) count (now (source .entry)) (now (out .entry))) r (now (out .exit)) ⌝ }
 {
     encoded_number(encoder::encode(table, count as usize, source, out))
 }
 
 // `encode_tcp`, told in the same way.
 //
-// Ruled out: a length before a bundle; the count cut to 32 bits, so that 2^32 + 1 passes for 1.
+// Ruled out: a message without its length; refusal 12 told as 12 bytes written.
 #[no_mangle]
 pub extern "C" fn osc_encode_tcp(table: &[u8], count: u64, source: &[u8], out: &mut [u8]) -> u64
     ensures { λ r. ⌜ Tells (Encodes prefixed (now (table .entry)) count (now (source .entry)) (now (out .entry))) r (now (out .exit)) ⌝ }
@@ -146,7 +115,7 @@ pub extern "C" fn osc_encode_string(text: &[u8], out: &mut [u8]) -> u64
 
 // `pad`: the padded position, or 14, which is no multiple of 4.
 //
-// Ruled out: 14 in bits 56 to 63, where a position may stand; 0 for a position over 2^64 - 4.
+// Ruled out: 14 in bits 56 to 63, where a position may stand; the position as it was handed over.
 #[no_mangle]
 pub extern "C" fn osc_pad(pos: u64) -> u64
     ensures { λ r. ⌜ r ≡ paddedNumber (padOf pos) ⌝ }
@@ -159,13 +128,13 @@ pub extern "C" fn osc_pad(pos: u64) -> u64
 
 // `look`: the kind in the low byte, or the refusal's number in bits 56 to 63.
 //
-// Ruled out: the kind byte of a record whose own rules do not hold; one kind for both truth values.
+// Ruled out: 0 for a record whose own rules do not hold; one kind for both truth values.
 #[no_mangle]
 pub extern "C" fn osc_look(table: &[u8], index: u64) -> u64
     ensures { λ r. ⌜ r ≡ lookedNumber (lookAt (now (table .entry)) index) ⌝ }
 {
     match values::look::look(table, index as usize) {
-        Looked::Value(value) => kind_of(value),
+        Looked::Value(_) => record::kind_at(table, index as usize) as u64,
         Looked::Refused(refusal) => refusal_number(refusal),
     }
 }

@@ -1,21 +1,23 @@
--- `osc::osc_look` meets its contract: by the case that `look` gives.
+-- `osc::osc_look` meets its contract: by the case that `look` gives; the record's kind is the value's.
 use mathlib.Core.Path.{ap, sym, _∙_}
 use borrow.Author.Needs.{needs}
 use Rattle.osc.specs.Answers.{lookedNumber}
+use Rattle.osc.proofs.Seen.{in-table, kind-told}
 use Rattle.osc.proofs.osc_look.Statement.{statement}
 use Rattle.osc.proofs.osc_look.Tie as tie
 
+kind-at-requires : tie.Need-kind-at-requires
+kind-at-requires c κs = in-table _ _ (sym (c .enum-told .given .1) ∙ c .before .before .look .ensures)
+
 returns : tie.Need-returns
 returns c =
-    let p2 = c .before .before in
-    let p4 = p2 .before .before in
-    c .kind-of .ensures ∙ ap lookedNumber (sym (p2 .value .given .1) ∙ p4 .look .ensures)
+    let p1 = c .before in
+    c .kind-at .ensures ∙ kind-told _ _ (sym (p1 .enum-told .given .1) ∙ p1 .before .before .look .ensures)
 
 returns-2 : tie.Need-returns-2
 returns-2 c =
     let p2 = c .before .before in
-    let p4 = p2 .before .before in
-    c .refusal-number .ensures ∙ ap lookedNumber (sym (p2 .refusal .given .1) ∙ p4 .look .ensures)
+    c .refusal-number .ensures ∙ ap lookedNumber (sym (p2 .refusal .given .1) ∙ p2 .before .before .look .ensures)
 
 pub osc-look-spec : {M : Type 1} → statement M
 osc-look-spec =
@@ -23,7 +25,8 @@ osc-look-spec =
     (tie.spec
     (λ c κs. search needs)
     (λ c. search needs)
-    (λ c κs. search needs)
+    kind-at-requires
+    (λ c. search needs)
     (λ c. search needs)
     (λ c κs. search needs)
     returns

@@ -1,0 +1,136 @@
+-- Trees that stand for one packet, each over its own source, are the same; and what the packet says of its tree's fields and
+-- depth.
+use mathlib.Core.Path.{_≡_, refl, sym, ap, _∙_}
+use mathlib.Core.Bool.{true, false}
+use mathlib.Core.List.{List}
+use Prim.Native.Nat.{ℕ, _+_, _^_, _<_}
+use native.Mathlib.Omega.{arith}
+use lib.ListN.{length}
+use Rattle.node.specs.Tags.{messageKind, bundleKind, arrayKind}
+use Rattle.node.specs.Forest.{Forest, nil, node, size, level, depth}
+use Rattle.node.specs.declared.record.Item.{Item}
+use Rattle.table.specs.Tree.{FieldsFit}
+use Rattle.demands.specs.Words.{rangedKind, SameItem, Same, both}
+use Rattle.demands.specs.Words as words
+use Rattle.demands.specs.Osc10.{Atom, word, long, bare, string, blob, char, OscArguments, end, atom, array, Packet, message, bundle}
+use Rattle.demands.specs.Osc10.{Packets, none, also, AtomAllowed, ArgumentsAllowed, Allowed, AllAllowed, deep, deepAll, RangeHolds}
+use Rattle.demands.specs.Osc10.{AtomIs, ArgumentsAre, no-node, leaf, branch, StandsFor, is-message, is-bundle}
+use Rattle.demands.specs.Osc10.{StandFor, no-packet, packet}
+use Rattle.demands.specs.Osc10 as osc
+use Rattle.wire.proofs.Parts.{length-part}
+use Rattle.demands.proofs.Osc10.Tags.{of-among, scalar-small}
+
+-- ---- the same tree
+
+range-length : {s : List ℕ} {a b : ℕ} {w : List ℕ} → RangeHolds s a b w → b ≡ length w
+range-length {s} {a} {b} r = sym (length-part s a b (r .lies)) ∙ ap length (r .holds)
+
+module _ {s s' : List ℕ} where
+  -- nodes with the same numbers, of a kind that has no range
+  same-numbers : {item item' : Item} (tag : ℕ) {x y : ℕ} → rangedKind tag ≡ false → item .kind ≡ tag → item' .kind ≡ tag
+      → (item .a ≡ x) × (item .b ≡ y) → (item' .a ≡ x) × (item' .b ≡ y) → SameItem s s' item item'
+  same-numbers tag e k k' n n' = record { kinds = k ∙ sym k'; seconds = n .1 ∙ sym (n' .1); firsts = rw (k, e) (n .0 ∙ sym (n' .0)) }
+
+  -- nodes whose ranges hold the same, of a kind that has one
+  same-range : {item item' : Item} (tag : ℕ) {w : List ℕ} → rangedKind tag ≡ true → item .kind ≡ tag → item' .kind ≡ tag
+      → RangeHolds s (item .a) (item .b) w → RangeHolds s' (item' .a) (item' .b) w → SameItem s s' item item'
+  same-range tag e k k' r r' =
+      record { kinds = k ∙ sym k'; seconds = range-length r ∙ sym (range-length r'); firsts = rw (k, e) (r .holds ∙ sym (r' .holds)) }
+
+  same-atom : (v : Atom) {item item' : Item} → AtomAllowed v → AtomIs s v item → AtomIs s' v item' → SameItem s s' item item'
+  same-atom (word tag x) h w w' =
+      same-numbers tag (of-among (λ t. rangedKind t ≡ false) tag osc.words (refl, (refl, (refl, (refl, tt)))) (h .0))
+      (w .kind) (w' .kind) (w .numbers) (w' .numbers)
+  same-atom (long tag x y) h w w' =
+      same-numbers tag (of-among (λ t. rangedKind t ≡ false) tag osc.longs (refl, (refl, (refl, tt))) (h .0))
+      (w .kind) (w' .kind) (w .numbers) (w' .numbers)
+  same-atom (bare tag) h w w' =
+      same-numbers tag (of-among (λ t. rangedKind t ≡ false) tag osc.bares (refl, (refl, (refl, (refl, tt)))) h)
+      (w .kind) (w' .kind) (w .numbers) (w' .numbers)
+  same-atom (string text) h w w' = same-range 115 refl (w .kind) (w' .kind) (w .numbers) (w' .numbers)
+  same-atom (blob content) h w w' = same-range 98 refl (w .kind) (w' .kind) (w .numbers) (w' .numbers)
+  same-atom (char x) h w w' = same-numbers 99 refl (w .kind) (w' .kind) (w .numbers) (w' .numbers)
+
+  same-arguments : (A : OscArguments) {F F' : Forest} → ArgumentsAllowed A → ArgumentsAre s A F → ArgumentsAre s' A F' → Same s s' F F'
+  unfolding ArgumentsAllowed
+  same-arguments end h no-node no-node = words.Same.none
+  same-arguments (atom v rest) h (leaf x r) (leaf x' r') = both (same-atom v (h .0) x x') words.Same.none
+      (same-arguments rest (h .1) r r')
+  same-arguments (array within rest) h (branch w x r) (branch w' x' r') =
+      both (same-numbers arrayKind refl (w .kind) (w' .kind) (w .first, w .second) (w' .first, w' .second))
+      (same-arguments within (h .0) x x') (same-arguments rest (h .1) r r')
+
+  mutual
+    unfolding Allowed AllAllowed
+
+    -- two trees that stand for one packet, each over its own source, are the same
+    pub same-tree : (P : Packet) {item item' : Item} {f f' g g' : Forest} → Allowed P → StandsFor s P item f → StandsFor s' P item' f'
+        → Same s s' g g' → Same s s' (node item f g) (node item' f' g')
+    same-tree (message address A) h (is-message w x) (is-message w' x') g =
+        both (same-range messageKind refl (w .kind) (w' .kind) (w .range) (w' .range)) (same-arguments A (h .2) x x') g
+    same-tree (bundle seconds fractional Ps) h (is-bundle w x) (is-bundle w' x') g =
+        both (same-numbers bundleKind refl (w .kind) (w' .kind) (w .first, w .second) (w' .first, w' .second))
+        (same-forest Ps (h .2) x x') g
+
+    same-forest : (Ps : Packets) {F F' : Forest} → AllAllowed Ps → StandFor s Ps F → StandFor s' Ps F' → Same s s' F F'
+    same-forest none h no-packet no-packet = words.Same.none
+    same-forest (also P Ps) h (packet x r) (packet x' r') = same-tree P (h .0) x x' (same-forest Ps (h .1) r r')
+
+-- ---- the same tree has the same size
+
+-- the same trees have as many nodes
+pub same-size : {s s' : List ℕ} {F G : Forest} → Same s s' F G → size F ≡ size G
+unfolding size
+same-size words.Same.none = refl
+same-size (both e f g) = rw (same-size f, same-size g)
+
+-- ---- fields fit a record
+
+module _ {s : List ℕ} (low : length s < 256 ^ 4) where
+  atom-fits : (v : Atom) {item : Item} → AtomAllowed v → AtomIs s v item → (item .a < 256 ^ 4) × (item .b < 256 ^ 4)
+  atom-fits (word tag x) h w = (omega (arith, h .1, w .numbers .0), omega (arith, w .numbers .1))
+  atom-fits (long tag x y) h w = (omega (arith, h .1, w .numbers .0), omega (arith, h .2, w .numbers .1))
+  atom-fits (bare tag) h w = (omega (arith, w .numbers .0), omega (arith, w .numbers .1))
+  atom-fits (string text) h w = (omega (arith, w .numbers .lies), omega (arith, w .numbers .lies))
+  atom-fits (blob content) h w = (omega (arith, w .numbers .lies), omega (arith, w .numbers .lies))
+  atom-fits (char x) h w = (omega (arith, scalar-small x h, w .numbers .0), omega (arith, w .numbers .1))
+
+  arguments-fit : (A : OscArguments) {F : Forest} → ArgumentsAllowed A → ArgumentsAre s A F → FieldsFit F
+  unfolding ArgumentsAllowed FieldsFit
+  arguments-fit end h no-node = tt
+  arguments-fit (atom v rest) h (leaf x r) = let e = atom-fits v (h .0) x in (e .0, e .1, tt, arguments-fit rest (h .1) r)
+  arguments-fit (array within rest) h (branch w x r) =
+      (omega (arith, w .first), omega (arith, w .second), arguments-fit within (h .0) x, arguments-fit rest (h .1) r)
+
+  mutual
+    unfolding Allowed AllAllowed FieldsFit
+
+    tree-fits : (P : Packet) {item : Item} {f : Forest} (g : Forest) → Allowed P → StandsFor s P item f → FieldsFit g
+        → FieldsFit (node item f g)
+    tree-fits (message address A) g h (is-message m x) w =
+        (omega (arith, m .range .lies), omega (arith, m .range .lies), arguments-fit A (h .2) x, w)
+    tree-fits (bundle seconds fractional Ps) g h (is-bundle b x) w =
+        (omega (arith, h .0, b .first), omega (arith, h .1, b .second), forest-fits Ps (h .2) x, w)
+
+    forest-fits : (Ps : Packets) {F : Forest} → AllAllowed Ps → StandFor s Ps F → FieldsFit F
+    forest-fits none h no-packet = tt
+    forest-fits (also P Ps) h (packet {g = g} x r) = tree-fits P g (h .0) x (forest-fits Ps (h .1) r)
+
+  -- the numbers of a tree that stands for a packet fit a record
+  pub packet-fits : (P : Packet) {item : Item} {f : Forest} → Allowed P → StandsFor s P item f → FieldsFit (node item f nil)
+  unfolding FieldsFit
+  packet-fits P h x = tree-fits P nil h x tt
+
+-- ---- a packet's depth is its tree's
+
+mutual
+  unfolding deep deepAll depth
+
+  -- the depth of a tree that stands for a packet is the packet's
+  pub tree-deep : {s : List ℕ} (P : Packet) {item : Item} {f : Forest} → StandsFor s P item f → level (item .kind) (depth f) ≡ deep P
+  tree-deep (message address A) (is-message m x) = rw (m .kind)
+  tree-deep (bundle seconds fractional Ps) (is-bundle b x) = rw (b .kind) (ap (λ (n : ℕ). n + 1) (forest-deep Ps x))
+
+  forest-deep : {s : List ℕ} (Ps : Packets) {F : Forest} → StandFor s Ps F → depth F ≡ deepAll Ps
+  forest-deep none no-packet = refl
+  forest-deep (also P Ps) (packet x r) = rw (tree-deep P x, forest-deep Ps r)

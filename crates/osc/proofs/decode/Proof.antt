@@ -1,0 +1,20 @@
+-- `osc::decode` meets its contract: the answer fits its bits.
+use borrow.Author.Needs.{needs}
+use Rattle.osc.proofs.Fits.{fits, decode-told}
+use Rattle.osc.proofs.decode.Statement.{statement}
+use Rattle.osc.proofs.decode.Tie as tie
+
+decoded-number-requires : tie.Need-decoded-number-requires
+decoded-number-requires c κs =
+    let p2 = c .before .before in
+    let a = p2 .before .before .before .before .args in
+    fits _ _ (a .framing) (a .msg .now) (p2 .decode .ensures .0)
+
+returns : tie.Need-returns
+returns c =
+    let p3 = c .before .before .before in
+    decode-told (p3 .decode .ensures .0) (p3 .decode .ensures .1) (c .decoded-number .ensures)
+
+pub decode-spec : {M : Type 1} → statement M
+decode-spec =
+    tie.close (tie.spec (λ c κs. search needs) decoded-number-requires (λ c. search needs) returns)
