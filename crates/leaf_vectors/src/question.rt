@@ -1,7 +1,8 @@
 // What a line asks: a name, numbers in decimal, then bytes in hexadecimal.
-use crate::hex;
-use crate::words;
-use crate::words::Numeral;
+use words::hex;
+use words::line;
+use words::numeral;
+use words::numeral::Numeral;
 ghost use Prim.Native.Nat.{_≤_};
 
 pub enum Question {
@@ -29,19 +30,27 @@ pub enum Question {
 
 // Whether a word is a number.
 fn is_number(word: &[u8]) -> bool {
-    match words::decimal(word) {
+    match numeral::decimal(word) {
         Numeral::Is(_) => true,
         Numeral::Unclear => false,
     }
 }
 
+// Whether a word is bytes, and no more than there is room for.
+fn is_short_bytes(word: &[u8]) -> bool {
+    if 512 < word.len() {
+        return false;
+    }
+    hex::is_bytes(word)
+}
+
 // Whether word `n` is a number, or for a later one bytes.
 fn is_fitting(asked: &[u8], n: usize, numbers: usize) -> bool {
-    let word = words::word(asked, n);
+    let word = line::word(asked, n);
     if n <= numbers {
         return is_number(word);
     }
-    hex::is_bytes(word)
+    is_short_bytes(word)
 }
 
 // Whether a name is followed by so many numbers and words of bytes, and by nothing else.
@@ -55,7 +64,7 @@ fn has_shape(asked: &[u8], numbers: usize, parts: usize) -> bool
         }
         n += 1;
     }
-    words::start(asked, n) == asked.len()
+    line::start(asked, n) == asked.len()
 }
 
 // How many numbers a question has.
@@ -86,7 +95,7 @@ fn parts(question: Question) -> usize
 
 // Whether a line asks this question, by its name.
 fn is(asked: &[u8], name: &[u8], question: Question) -> bool {
-    if check::same(words::word(asked, 0), name) {
+    if check::same(line::word(asked, 0), name) {
         return has_shape(asked, numbers(question), parts(question));
     }
     false

@@ -1,12 +1,12 @@
 // A value as text: the name of its case and what it holds.
-use crate::hex::put_bytes;
-use crate::words::Space;
-use crate::written::put;
-use crate::written::put_four;
-use crate::written::put_number;
-use crate::written::put_signed;
-use crate::written::put_two;
 use types::value::OscType;
+use words::hex::put_bytes;
+use words::written::Space;
+use words::written::put;
+use words::written::put_four;
+use words::written::put_number;
+use words::written::put_signed;
+use words::written::put_two;
 
 // Puts the bits of a float and whether its value is a NaN, which is equal to nothing.
 fn put_float(out: &mut Space, name: &[u8], bits: &[u8], is_nan: bool) -> usize {

@@ -1,16 +1,16 @@
--- Signed numbers of 64 bits, for `written::magnitude` and for a cast to them.
+-- Signed numbers of 64 bits, for `written::magnitude`.
 use mathlib.Core.Path.{_≡_, sym, subst}
 use mathlib.Core.Bool.{Bool, true, false, not}
 use Prim.Native.Nat.{ℕ, suc, _+_, _<_, _-_}
 use native.Mathlib.Nat.{lt-of-le-of-lt}
 use native.Mathlib.Omega.{arith}
-use lib.Dec.{T, leb, le→leb, lit<}
+use lib.Dec.{T, le→leb, lit<}
 use lib.IntN.{ℤ, pos, negsuc, natAbs}
 use lib.Signed.{_<ℤ_, ltZ, ltZ-no, nonNeg, yes-nonNeg, natAbs-le, clashℤ}
-use mir.Syntax.{Width, w64}
-use mir.Val.{Fits, SFits, toZ, ofZ, hbits}
+use mir.Syntax.{w64}
+use mir.Val.{Fits, SFits, toZ, ofZ}
 use mir.ValLaws.{toZ-pos}
-use mir.Facts.{sfits-widen, toZ-ofZ}
+use mir.Facts.{toZ-ofZ}
 
 -- a number that is not negative, and to which 1 can be added as to one without a sign
 pub record Small (z : ℤ) : Type 0 where
@@ -41,7 +41,3 @@ plain {z} f e = (
   yes-nonNeg {z = read z} (ltZ-no {a = read z} {b = pos 0} (subst (λ (t : Bool). T (not t)) (sym e) tt)),
   subst (λ (y : ℤ). Fits w64 (natAbs y)) (sym (toZ-ofZ f)) (record { fits = lt-of-le-of-lt (natAbs-le z (f .sfits)) (lit< tt) }),
 )
-
--- a narrower signed number fits 64 bits
-pub widens : {w : Width} {z : ℤ} → T (leb (hbits w) (hbits w64)) → SFits w z → SFits w64 (toZ w (ofZ w z))
-widens narrower fits = subst (SFits w64) (sym (toZ-ofZ fits)) (sfits-widen narrower fits)

@@ -1,7 +1,17 @@
 // An answer as text: words, each of which begins with a space.
+use crate::line::front;
+ghost use mathlib.Core.Path.{_≡_};
+ghost use lib.ListN.{take};
 
 // Room for an answer.
 pub type Space = [u8; 256];
+
+// The first `n` bytes of the room.
+pub fn filled(space: &Space, n: usize) -> &[u8]
+    ensures { λ r. ⌜ now r ≡ take n (now (space .entry)) ⌝ }
+{
+    front(space, n)
+}
 
 // Puts `text` after the first `at` bytes of an answer, and says where it ends. What has no room is left out.
 pub fn put(out: &mut Space, at: usize, text: &[u8]) -> usize {
@@ -48,3 +58,16 @@ pub fn put_signed(out: &mut Space, at: usize, x: i64) -> usize {
     put_number(out, at, magnitude(x))
 }
 
+// Puts a name and two numbers.
+pub fn put_two(out: &mut Space, name: &[u8], a: u32, b: u32) -> usize {
+    let first = put(out, 0, name);
+    let second = put_number(out, first, a as u64);
+    put_number(out, second, b as u64)
+}
+
+// Puts a name and four bytes as numbers.
+pub fn put_four(out: &mut Space, name: &[u8], a: u8, b: u8, c: u8, d: u8) -> usize {
+    let third = put_two(out, name, a as u32, b as u32);
+    let fourth = put_number(out, third, c as u64);
+    put_number(out, fourth, d as u64)
+}
