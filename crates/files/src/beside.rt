@@ -1,0 +1,25 @@
+// The name under which a file is written first: its own name, ".part" and the digits of the process's number.
+ghost use mathlib.Core.Path.{_≡_};
+ghost use Prim.Native.Nat.{_+_, _≤_};
+ghost use lib.ListN.{length};
+ghost use Rattle.number.specs.Wrote.{Filled};
+ghost use Rattle.files.specs.Beside.{besideName};
+
+// Puts the name, which `digits` keep apart from those of other processes.
+pub fn put_name(path: &[u8], digits: &[u8; 16], out: &mut [u8]) -> usize
+    requires { ⌜ length (now path) + 21 ≤ length (now out) ⌝ }
+    ensures { λ r. ⌜ Filled (besideName (now (path .entry)) (now (digits .entry))) (now (out .entry)) (now (out .exit)) r ⌝ }
+{
+    let n = bytes::copy(path, out);
+    let m = n + bytes::copy(b".part", &mut out[n..]);
+    m + bytes::copy(digits, &mut out[m..])
+}
+
+// The process's number.
+pub fn own_number() -> u64 {
+    let pid = libc::getpid();
+    if pid < 0 {
+        return 0;
+    }
+    pid as u64
+}
