@@ -1,10 +1,10 @@
--- What a framing's word asks of the library. Assumes nothing.
+-- What a framing's word asks of the library.
 use mathlib.Core.List.{List}
 use Prim.Native.Nat.{ℕ}
 use Rattle.decoder.specs.Framing.{Whole, udp, tcp, tcpVec}
 use Rattle.encoder.specs.Outcome.{plain, prefixed}
-use Rattle.osc_tool.specs.declared.words.Framing.{Framing}
-use Rattle.osc_tool.specs.declared.words.Framing.the-variants.{Udp, Tcp, TcpVec}
+use Rattle.osc_tool.specs.declared.commands.Framing.{Framing}
+use Rattle.osc_tool.specs.declared.commands.Framing.the-variants.{Udp, Tcp, TcpVec}
 
 -- how the bytes of an input are read
 abbrev pub readingOf : Framing → List ℕ → Whole

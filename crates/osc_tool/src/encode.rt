@@ -1,11 +1,12 @@
 // The command encode: a table and its source to the bytes of a packet.
-use crate::files;
+use crate::commands;
+use crate::commands::Framed;
+use crate::commands::Framing;
+use crate::named;
 use crate::say;
 use crate::space;
-use crate::words;
-use crate::words::Framed;
-use crate::words::Framing;
 use encoder::Encoded;
+use words::line::front;
 ghost use Rattle.encoder.specs.Outcome.{Encodes};
 ghost use Rattle.osc_tool.specs.Framings.{writingOf};
 
@@ -25,7 +26,7 @@ fn encode_table(framing: Framing, table: &[u8], source: &[u8]) {
     let mut out = io::large_buffer();
     match encoded(framing, table, table.len() / 16, source, &mut out) {
         Encoded::Written(n) => {
-            if files::write_word(5, files::front(&out, n)) {
+            if named::write_word(5, front(&out, n)) {
                 say::written(n);
             }
         }
@@ -36,7 +37,7 @@ fn encode_table(framing: Framing, table: &[u8], source: &[u8]) {
 // Encodes with the texts of the file that word 4 names.
 fn encode_with_source(framing: Framing, table: &[u8]) {
     let mut source = io::large_buffer();
-    let got = files::read_whole(4, &mut source);
+    let got = named::read_whole(4, &mut source);
     if !got.is_read {
         return;
     }
@@ -47,7 +48,7 @@ fn encode_with_source(framing: Framing, table: &[u8]) {
 // Encodes the table of the file that word 3 names.
 fn encode_file(framing: Framing) {
     let mut table = space::table();
-    let got = files::read_table(3, &mut table);
+    let got = named::read_table(3, &mut table);
     if !got.is_read {
         return;
     }
@@ -60,7 +61,7 @@ pub fn run() {
         say::trouble(b"encode takes ", b"udp|tcp TABLE SOURCE OUTPUT");
         return;
     }
-    match words::framing_word() {
+    match commands::framing_word() {
         Framed::As(framing) => match framing {
             Framing::TcpVec => say::trouble(
                 b"encode writes one packet: udp or tcp, not ",

@@ -1,19 +1,19 @@
 // The command look: one record of a table as words.
-use crate::files;
+use crate::named;
+use crate::options;
 use crate::say;
 use crate::space;
 use crate::value;
-use crate::words;
-use crate::words::Numeral;
 use types::look::Looked;
 use types::record;
+use words::numeral::Numeral;
 
 // Says what record `index` holds.
 fn look_at(table: &[u8], index: usize) {
     match types::look::look(table, index) {
         Looked::Value(found) => {
             if index < record::capacity(table) {
-                value::say_record(index, found, record::read_record(table, index));
+                value::say_record(index, found, record::read_record(table, index).end);
             }
         }
         Looked::Refused(refusal) => say::refused(refusal),
@@ -23,7 +23,7 @@ fn look_at(table: &[u8], index: usize) {
 // Looks at a record of the table of the file that word 2 names.
 fn look_in_file(index: usize) {
     let mut table = space::table();
-    let got = files::read_table(2, &mut table);
+    let got = named::read_table(2, &mut table);
     if !got.is_read {
         return;
     }
@@ -36,8 +36,8 @@ pub fn run() {
         say::trouble(b"look takes ", b"TABLE INDEX");
         return;
     }
-    match words::number_word(3) {
-        Numeral::Is(index) => look_in_file(index),
+    match options::number_word(3) {
+        Numeral::Is(index) => look_in_file(index as usize),
         Numeral::Unclear => {}
     }
 }

@@ -12,9 +12,11 @@ pub fn trouble(what: &[u8], word: &[u8]) {
     io::write_all(STDERR_FILENO, b"\n");
 }
 
-// Says what is wrong with a file, and a number of bytes that goes with it.
-pub fn file_trouble(path: &[u8], what: &[u8], bytes: usize) {
-    io::write_all(STDERR_FILENO, path);
+// Says what is wrong with the file that word `i` names, and a number of bytes that goes with it.
+pub fn file_trouble(i: usize, what: &[u8], bytes: usize) {
+    let mut path = io::buffer();
+    let n = os::arg(i, &mut path);
+    io::write_all(STDERR_FILENO, &path[..n]);
     io::write_all(STDERR_FILENO, what);
     io::print_decimal(STDERR_FILENO, bytes as u64);
     io::write_all(STDERR_FILENO, b" bytes\n");
@@ -88,13 +90,18 @@ pub fn refused(refusal: Refusal) {
 }
 
 // The commands.
+const HELP: [u8; 341] = *b"\
+osc decode udp|tcp|tcp-vec INPUT TABLE [--depth N] [--records N]
+    reads INPUT and writes its records, 16 bytes each, to TABLE
+osc encode udp|tcp TABLE SOURCE OUTPUT
+    writes the packet of TABLE, whose texts stand in SOURCE, to OUTPUT
+osc look TABLE INDEX
+    says what record INDEX of TABLE holds; the first is 0
+osc help
+    says this
+";
+
+// Says what the commands are.
 pub fn help() {
-    text(b"osc decode udp|tcp|tcp-vec INPUT TABLE [--depth N] [--records N]\n");
-    text(b"    reads INPUT and writes its records, 16 bytes each, to TABLE\n");
-    text(b"osc encode udp|tcp TABLE SOURCE OUTPUT\n");
-    text(b"    writes the packet of TABLE, whose texts stand in SOURCE, to OUTPUT\n");
-    text(b"osc look TABLE INDEX\n");
-    text(b"    says what record INDEX of TABLE holds; the first is 0\n");
-    text(b"osc help\n");
-    text(b"    says this\n");
+    text(&HELP);
 }

@@ -1,5 +1,4 @@
 -- `osc_tool::decode::decoded` meets its contract: each framing's call says the same.
--- Assumes nothing.
 use borrow.Author.Needs.{needs}
 use Rattle.osc_tool.proofs.decode.decoded.Statement.{statement}
 use Rattle.osc_tool.proofs.decode.decoded.Tie as tie

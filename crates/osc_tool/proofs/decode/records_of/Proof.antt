@@ -1,5 +1,4 @@
 -- `osc_tool::decode::records_of` meets its contract. A table that is shorter is all there.
--- Assumes nothing.
 use mathlib.Core.Path.{sym}
 use Prim.Native.Nat.{_*_}
 use native.Mathlib.Omega.{arith}

@@ -1,5 +1,4 @@
 -- `osc_tool::encode::encoded` meets its contract: each framing's call says the same.
--- Assumes nothing.
 use borrow.Author.Needs.{needs}
 use Rattle.osc_tool.proofs.encode.encoded.Statement.{statement}
 use Rattle.osc_tool.proofs.encode.encoded.Tie as tie

@@ -1,9 +1,8 @@
--- `osc_tool::words::command_of` meets its contract: each test that holds names its word, and where none holds no word is named.
--- Assumes nothing.
+-- `osc_tool::commands::command_of` meets its contract: each test that holds names its word, and where none holds no word is named.
 use Rattle.osc_tool.proofs.Tests.{differs}
 use borrow.Author.Needs.{needs}
-use Rattle.osc_tool.proofs.words.command_of.Statement.{statement}
-use Rattle.osc_tool.proofs.words.command_of.Tie as tie
+use Rattle.osc_tool.proofs.commands.command_of.Statement.{statement}
+use Rattle.osc_tool.proofs.commands.command_of.Tie as tie
 
 slice-aggregate-same : tie.Need-slice-aggregate-same
 slice-aggregate-same c = search needs

@@ -1,12 +1,12 @@
--- The words that a command begins with. Assumes nothing.
+-- The words that a command begins with.
 use mathlib.Core.Path.{_≡_}
 use mathlib.Core.List.{List, [], _∷_}
 use Prim.Native.Nat.{ℕ}
-use Rattle.osc_tool.specs.declared.words.Command.{Command}
-use Rattle.osc_tool.specs.declared.words.Command.the-variants as command
-use Rattle.osc_tool.specs.declared.words.Framing.the-variants.{Udp, Tcp, TcpVec}
-use Rattle.osc_tool.specs.declared.words.Framed.{Framed}
-use Rattle.osc_tool.specs.declared.words.Framed.the-variants as framed
+use Rattle.osc_tool.specs.declared.commands.Command.{Command}
+use Rattle.osc_tool.specs.declared.commands.Command.the-variants as command
+use Rattle.osc_tool.specs.declared.commands.Framing.the-variants.{Udp, Tcp, TcpVec}
+use Rattle.osc_tool.specs.declared.commands.Framed.{Framed}
+use Rattle.osc_tool.specs.declared.commands.Framed.the-variants as framed
 
 -- "decode"
 abbrev pub decodeWord : List ℕ
