@@ -1,4 +1,6 @@
-// What the programs that run calls and compare share: a slice filled before a call, what stands in it after, and what is said.
+// What the programs that run calls and compare share: a slice filled before a call, and what stands in it after.
+pub mod spelled; // spelled.rt: the bytes of a case as its line spells them
+
 ghost use mathlib.Core.Bool.{true};
 ghost use mathlib.Core.Path.{_≡_};
 ghost use lib.ListN.{length};
@@ -51,16 +53,4 @@ pub fn holds(out: &[u8], bytes: &[u8]) -> bool
         return false;
     }
     is_kept(out, bytes.len())
-}
-
-// Says how a group of cases went: 0, or the number of the first case that differs.
-pub fn say(name: &[u8], first: u64) {
-    io::write_all(1, name);
-    if first == 0 {
-        io::write_all(1, b": all as they should be\n");
-    } else {
-        io::write_all(1, b": the first that differs is case ");
-        io::print_decimal(1, first);
-        io::write_all(1, b"\n");
-    }
 }
