@@ -1,13 +1,10 @@
-// One case: `CALL NUMBER RECORDS BYTES INPUT TABLE = ANSWER`. The number is the depth for a decoder and the count for an encoder;
-// what is lent has room for so many records and so many bytes more.
+// One case: `CALL NUMBER RECORDS BYTES INPUT TABLE = ANSWER`. What is lent has room for so many records and so many bytes more.
 use crate::call;
-use crate::call::Call;
 use crate::call::Outcome;
 use crate::expected;
 use crate::listed::is_table;
 use crate::listed::put_table;
 use runs::spelled::is_bytes;
-use runs::spelled::is_number;
 use runs::spelled::put_bytes;
 use words::line::front;
 use words::line::start;
@@ -29,26 +26,20 @@ fn unclear() -> Found {
     }
 }
 
-// Whether an answer is the one that is expected, and what was lent has just these bytes and is unchanged after them.
-fn agrees(found: Outcome, wanted: Outcome, lent: &[u8], bytes: &[u8]) -> bool {
-    if found.answer != wanted.answer {
+// Whether an answer is the one that is wanted, and is known.
+fn is_same(found: Outcome, wanted: Outcome) -> bool {
+    if found.answer == call::UNKNOWN {
         return false;
     }
-    if found.count != wanted.count {
-        return false;
-    }
-    if found.left != wanted.left {
-        return false;
-    }
-    runs::holds(lent, bytes)
+    found.answer == wanted.answer && found.count == wanted.count && found.left == wanted.left
 }
 
-// Compares an answer and what was lent with what is expected.
+// Compares an answer, and every byte of what was lent, with what is expected: what is not given is to be as it was.
 fn judged(outcome: Outcome, lent: &[u8], expected: &[u8]) -> Found {
     let mut space = io::large_buffer();
     let n = expected::put_given(expected, &mut space);
     let bytes = front(&space, n);
-    let is_right = agrees(outcome, expected::wanted(expected, bytes), lent, bytes);
+    let is_right = runs::holds(lent, bytes) && is_same(outcome, expected::wanted(expected, bytes));
     Found { is_right, outcome }
 }
 
@@ -63,82 +54,34 @@ fn room(asked: &[u8]) -> usize
     call::size_of(number(asked, 2)) + more as usize
 }
 
-// Calls a decoder on a table that was filled.
-fn decode_into(call: Call, asked: &[u8], msg: &[u8], table: &mut [u8], expected: &[u8]) -> Found {
-    runs::fill(table);
-    let outcome = call::decode(call, msg, table, number(asked, 1) as usize);
-    judged(outcome, table, expected)
-}
-
-// A case of a decoder.
-fn decode(call: Call, asked: &[u8], expected: &[u8]) -> Found {
-    let mut msg = io::large_buffer();
-    let n = put_bytes(word(asked, 4), &mut msg);
-    let mut lent = io::large_buffer();
-    let end = room(asked);
-    if 65536 < end {
-        return unclear();
-    }
-    decode_into(call, asked, front(&msg, n), &mut lent[0..end], expected)
-}
-
-// Calls an encoder on an output that was filled.
-fn encode_into(
-    call: Call,
-    asked: &[u8],
-    table: &[u8],
-    out: &mut [u8],
-    expected: &[u8],
-) -> Found {
-    let mut source = io::large_buffer();
-    let n = put_bytes(word(asked, 4), &mut source);
-    runs::fill(out);
-    let count = number(asked, 1) as usize;
-    let outcome = call::encode(call, table, count, front(&source, n), out);
-    judged(outcome, out, expected)
-}
-
-// A case of an encoder.
-fn encode(call: Call, asked: &[u8], expected: &[u8]) -> Found {
+// Fills what is lent, makes the call and compares.
+fn ask_into(call: usize, asked: &[u8], input: &[u8], lent: &mut [u8], expected: &[u8]) -> Found {
     let mut table = io::large_buffer();
     let from = start(asked, 5);
     let n = put_table(&asked[from..], &mut table);
-    let mut lent = io::large_buffer();
-    let end = room(asked);
-    if 65536 < end {
-        return unclear();
-    }
-    encode_into(call, asked, front(&table, n), &mut lent[0..end], expected)
+    runs::fill(lent);
+    let number = number(asked, 1) as usize;
+    let outcome = call::make(call, number, input, front(&table, n), lent);
+    judged(outcome, lent, expected)
 }
 
-// Whether the numbers, the input and the table of a case are spelled as they should be.
+// Whether the input and the table of a case are spelled as they should be.
 fn is_clear(asked: &[u8]) -> bool {
-    if !is_number(word(asked, 1)) {
-        return false;
-    }
-    if !is_number(word(asked, 2)) {
-        return false;
-    }
-    if !is_number(word(asked, 3)) {
-        return false;
-    }
     let from = start(asked, 5);
     is_bytes(word(asked, 4)) && is_table(&asked[from..])
 }
 
-// Makes the call of a case, and compares.
-pub fn ask(call: Call, asked: &[u8], expected: &[u8]) -> Found {
+// A case.
+pub fn ask(call: usize, asked: &[u8], expected: &[u8]) -> Found {
+    let mut input = io::large_buffer();
+    let n = put_bytes(word(asked, 4), &mut input);
+    let mut lent = io::large_buffer();
+    let end = room(asked);
+    if 65536 < end {
+        return unclear();
+    }
     if !is_clear(asked) {
         return unclear();
     }
-    if !expected::is_clear(expected) {
-        return unclear();
-    }
-    match call {
-        Call::Unclear => unclear(),
-        Call::Udp => decode(call, asked, expected),
-        Call::Tcp => decode(call, asked, expected),
-        Call::TcpVec => decode(call, asked, expected),
-        _ => encode(call, asked, expected),
-    }
+    ask_into(call, asked, front(&input, n), &mut lent[0..end], expected)
 }

@@ -2,32 +2,24 @@
 use decoder::Decoded;
 use encoder::Encoded;
 use refusal::Refusal;
-ghost use Prim.Native.Nat.{_≤_, _<_};
+ghost use Prim.Native.Nat.{_≤_};
 ghost use Rattle.runs.specs.Put.{Put};
 
-// What a line calls.
-pub enum Call {
-    Udp,
-    Tcp,
-    TcpVec,
-    Packet,
-    Frame,
-    Text,
-    Unclear,
-}
+// The names of the calls. A call is the place of its name, from 0 on; the last is for what is none.
+pub const NAMES: [u8; 73] = *b"decode_udp decode_tcp decode_tcp_vec encode encode_tcp encode_string none";
 
-// What a call answered: the answer's place in the tally, the records or bytes that were given, and the bytes left over.
+// The answers: given, waiting, refused with a number (this and the number), and none that is known.
+pub const GIVEN: usize = 0;
+pub const WAITING: usize = 1;
+pub const REFUSED: usize = 2;
+pub const UNKNOWN: usize = 39;
+
+// What a call answered, the records or bytes that were given, and the bytes left over.
 pub struct Outcome {
     pub answer: usize,
     pub count: usize,
     pub left: usize,
 }
-
-// The places of the answers: given, waiting, refused with a number (this and the number), and no answer that is known.
-pub const GIVEN: usize = 0;
-pub const WAITING: usize = 1;
-pub const REFUSED: usize = 2;
-pub const UNKNOWN: usize = 39;
 
 // An answer that gives nothing.
 pub fn empty(answer: usize) -> Outcome {
@@ -68,31 +60,44 @@ fn wrote(encoded: Encoded) -> Outcome {
     }
 }
 
-// Calls a decoder.
-pub fn decode(call: Call, msg: &[u8], table: &mut [u8], depth: usize) -> Outcome {
-    match call {
-        Call::Udp => read(decoder::decode_udp(msg, table, depth)),
-        Call::Tcp => read(decoder::decode_tcp(msg, table, depth)),
-        Call::TcpVec => read(decoder::decode_tcp_vec(msg, table, depth)),
-        _ => empty(UNKNOWN),
+// Calls a decoder: the first three calls.
+fn decode(call: usize, msg: &[u8], table: &mut [u8], depth: usize) -> Decoded {
+    if call == 0 {
+        return decoder::decode_udp(msg, table, depth);
     }
+    if call == 1 {
+        return decoder::decode_tcp(msg, table, depth);
+    }
+    decoder::decode_tcp_vec(msg, table, depth)
 }
 
-// Calls an encoder.
-pub fn encode(call: Call, table: &[u8], count: usize, source: &[u8], out: &mut [u8]) -> Outcome {
-    match call {
-        Call::Packet => wrote(encoder::encode(table, count, source, out)),
-        Call::Frame => wrote(encoder::encode_tcp(table, count, source, out)),
-        Call::Text => wrote(encoder::encode_string(source, out)),
-        _ => empty(UNKNOWN),
+// Calls an encoder: the next three.
+fn encode(call: usize, table: &[u8], count: usize, source: &[u8], out: &mut [u8]) -> Encoded {
+    if call == 3 {
+        return encoder::encode(table, count, source, out);
     }
+    if call == 4 {
+        return encoder::encode_tcp(table, count, source, out);
+    }
+    encoder::encode_string(source, out)
 }
 
-// How many bytes so many records are; more than any slice here has where they are too many.
+// Makes a call. The number is the depth for a decoder and the count for an encoder.
+pub fn make(call: usize, number: usize, input: &[u8], table: &[u8], lent: &mut [u8]) -> Outcome {
+    if call < 3 {
+        return read(decode(call, input, lent, number));
+    }
+    if call < 6 {
+        return wrote(encode(call, table, number, input, lent));
+    }
+    empty(UNKNOWN)
+}
+
+// How many bytes so many records are; more than a slice here has where they are too many.
 pub fn size_of(records: u64) -> usize
     ensures { λ r. ⌜ r ≤ 1048576 ⌝ }
 {
-    if 65536 < records {
+    if 65535 < records {
         return 1048576;
     }
     records as usize * types::record::RECORD_SIZE

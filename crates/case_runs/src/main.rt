@@ -6,46 +6,18 @@ mod expected; // expected.rt: what a line expects
 mod ask; // ask.rt: one case
 mod tally; // tally.rt: what was met
 
-use call::Call;
 use tally::Tally;
 use words::line::after;
 use words::line::front;
+use words::line::place_of;
 use words::line::until;
 use words::line::word;
-
-// The encoder that a word names.
-fn encoder_of(name: &[u8]) -> Call {
-    if check::same(name, b"encode") {
-        return Call::Packet;
-    }
-    if check::same(name, b"encode_tcp") {
-        return Call::Frame;
-    }
-    if check::same(name, b"encode_string") {
-        return Call::Text;
-    }
-    Call::Unclear
-}
-
-// The call that a word names.
-fn call_of(name: &[u8]) -> Call {
-    if check::same(name, b"decode_udp") {
-        return Call::Udp;
-    }
-    if check::same(name, b"decode_tcp") {
-        return Call::Tcp;
-    }
-    if check::same(name, b"decode_tcp_vec") {
-        return Call::TcpVec;
-    }
-    encoder_of(name)
-}
 
 // Runs the case of a line.
 fn case(text: &[u8], number: u64, tally: &mut Tally) {
     let equals = until(text, 0, b'=');
     let asked = front(text, equals);
-    let call = call_of(word(asked, 0));
+    let call = place_of(&call::NAMES, word(asked, 0));
     let found = ask::ask(call, asked, after(text, equals + 1));
     let outcome = found.outcome;
     tally::count(tally, call, outcome.answer, found.is_right);

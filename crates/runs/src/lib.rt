@@ -54,3 +54,9 @@ pub fn holds(out: &[u8], bytes: &[u8]) -> bool
     }
     is_kept(out, bytes.len())
 }
+
+// Says a text and a number.
+pub fn say(text: &[u8], x: u64) {
+    io::write_all(1, text);
+    io::print_decimal(1, x);
+}

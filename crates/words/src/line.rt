@@ -69,3 +69,15 @@ pub fn word(s: &[u8], n: usize) -> &[u8] {
     let to = until(s, from, b' ');
     &s[from..to]
 }
+
+// The place of a name among the words of a line; the line's length where it is none of them.
+pub fn place_of(names: &[u8], name: &[u8]) -> usize {
+    let mut n = 0;
+    while n < names.len() {
+        if check::same(word(names, n), name) {
+            return n;
+        }
+        n += 1;
+    }
+    n
+}

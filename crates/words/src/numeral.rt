@@ -76,10 +76,10 @@ pub fn decimal(word: &[u8]) -> Numeral
     Numeral::Is(x)
 }
 
-// The number of word `n`; 0 where it is none.
+// The number of word `n`; the greatest where it is none.
 pub fn number(s: &[u8], n: usize) -> u64 {
     match decimal(word(s, n)) {
         Numeral::Is(x) => x,
-        Numeral::Unclear => 0,
+        Numeral::Unclear => u64::MAX,
     }
 }

@@ -5,10 +5,10 @@ use Rattle.case_runs.proofs.tally.say_call.Statement.{statement}
 use Rattle.case_runs.proofs.tally.say_call.Tie as tie
 
 abbrev Inv-loop : tie.InvT-loop
-Inv-loop tally name from answer₀ t5 answer = answer ≤ 40
+Inv-loop tally call answer₀ t5 answer = answer ≤ 40
 
 abbrev μ-loop : tie.MeasureT-loop
-μ-loop tally name from answer₀ t5 answer = 40 - answer
+μ-loop tally call answer₀ t5 answer = 40 - answer
 
 pub say-call-spec : {M : Type 1} → statement M
 say-call-spec =
@@ -16,7 +16,10 @@ say-call-spec =
     (tie.spec
     Inv-loop
     μ-loop
+    (λ c. search needs)
     (λ c κs. search needs)
+    (λ c κs. search needs)
+    (λ c. search needs)
     (λ c. search needs)
     (λ c. search needs)
     (λ c. search needs)
