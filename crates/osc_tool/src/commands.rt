@@ -45,7 +45,7 @@ pub fn command_of(word: &[u8]) -> Command
     Command::Unclear
 }
 
-// The framing that a word names.
+// The framing that a word names. What is wrong with it is said here.
 //
 // Ruled out: tcp for the word tcp-vec; a framing for every word.
 fn framing_of(word: &[u8]) -> Framed
@@ -60,16 +60,13 @@ fn framing_of(word: &[u8]) -> Framed
     if check::same(word, b"tcp-vec") {
         return Framed::As(Framing::TcpVec);
     }
+    say::trouble(b"not udp, tcp or tcp-vec: ", word);
     Framed::Unclear
 }
 
-// Word 2 of decode and of encode. What is wrong with it is said here.
+// Word 2 of decode and of encode.
 pub fn framing_word() -> Framed {
     let mut word = io::buffer();
     let n = os::arg(2, &mut word);
-    let framed = framing_of(&word[..n]);
-    if let Framed::Unclear = framed {
-        say::trouble(b"not udp, tcp or tcp-vec: ", &word[..n]);
-    }
-    framed
+    framing_of(&word[..n])
 }

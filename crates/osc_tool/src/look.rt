@@ -6,14 +6,35 @@ use crate::space;
 use crate::value;
 use types::look::Looked;
 use types::record;
+use types::record::Record;
+use types::value::OscType;
 use words::numeral::Numeral;
+
+// Says which record is looked at, and the letter of its kind.
+fn say_head(index: usize, kind: u8) {
+    say::number(b"record ", index as u64);
+    say::text(&[b':', b' ', kind]);
+}
+
+// Says where a record ends.
+fn say_end(end: u32) {
+    say::number(b", end ", end as u64);
+    say::text(b"\n");
+}
+
+// Says a record.
+fn say_record(index: usize, value: OscType, record: Record) {
+    say_head(index, record.kind);
+    value::say_value(value);
+    say_end(record.end);
+}
 
 // Says what record `index` holds.
 fn look_at(table: &[u8], index: usize) {
     match types::look::look(table, index) {
         Looked::Value(found) => {
             if index < record::capacity(table) {
-                value::say_record(index, found, record::read_record(table, index).end);
+                say_record(index, found, record::read_record(table, index));
             }
         }
         Looked::Refused(refusal) => say::refused(refusal),
@@ -33,7 +54,7 @@ fn look_in_file(index: usize) {
 
 pub fn run() {
     if os::arg_count() != 4 {
-        say::trouble(b"look takes ", b"TABLE INDEX");
+        say::wrong(b"look takes TABLE INDEX");
         return;
     }
     match options::number_word(3) {

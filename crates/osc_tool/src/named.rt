@@ -13,7 +13,7 @@ fn name_word(i: usize, path: &mut [u8]) -> usize
     if os::errno() != 0 {
         os::fail(b"the name of a file");
     } else if n == 0 {
-        say::trouble(b"the name of a file is empty", b"");
+        say::wrong(b"the name of a file is empty");
     }
     n
 }
@@ -69,23 +69,23 @@ pub fn read_table(i: usize, buf: &mut [u8]) -> Got
     }
 }
 
-// Writes the file that word `i` names, and answers whether it did. What is wrong is said here or there.
+// Says what is wrong with the name of a file that was not written; whether it was.
+fn is_stored(stored: Stored, path: &[u8]) -> bool {
+    match stored {
+        Stored::Whole => return true,
+        Stored::LongName => say::trouble(b"the name of a file is too long: ", path),
+        Stored::NoFile => say::trouble(b"not a file that can be replaced: ", path),
+        Stored::Failed => {}
+    }
+    false
+}
+
+// Writes the file that word `i` names, and answers whether it did.
 pub fn write_word(i: usize, bytes: &[u8]) -> bool {
     let mut path = io::buffer();
     let n = name_word(i, &mut path);
     if n == 0 {
         return false;
     }
-    match files::write(&path[..n], bytes) {
-        Stored::Whole => true,
-        Stored::LongName => {
-            say::trouble(b"the name of a file is too long: ", &path[..n]);
-            false
-        }
-        Stored::NoFile => {
-            say::trouble(b"not a file that can be replaced: ", &path[..n]);
-            false
-        }
-        Stored::Failed => false,
-    }
+    is_stored(files::write(&path[..n], bytes), &path[..n])
 }

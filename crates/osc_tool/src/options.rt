@@ -23,30 +23,26 @@ const MOST_RECORDS: usize = 65_535;
 // As deep as bundles may be nested.
 const DEEPEST: usize = 64;
 
-// The number of a word, where it has at most nine digits.
+// The number of a word, where it has at most nine digits. What is wrong with it is said here.
 //
 // Ruled out: a number for 1000000000; none for 999999999.
 fn short_number(word: &[u8]) -> Numeral
     ensures { λ r. ⌜ r ≡ nineDigits (numeralOf (now (word .entry))) ⌝ }
 {
-    let Numeral::Is(x) = decimal(word) else {
-        return Numeral::Unclear;
-    };
-    if MOST < x {
-        return Numeral::Unclear;
+    if let Numeral::Is(x) = decimal(word) {
+        if x <= MOST {
+            return Numeral::Is(x);
+        }
     }
-    Numeral::Is(x)
+    say::trouble(b"not a number of at most nine digits: ", word);
+    Numeral::Unclear
 }
 
-// Word `i` as a number. What is wrong with it is said here.
+// Word `i` as a number.
 pub fn number_word(i: usize) -> Numeral {
     let mut word = io::buffer();
     let n = os::arg(i, &mut word);
-    let numeral = short_number(&word[..n]);
-    if let Numeral::Unclear = numeral {
-        say::trouble(b"not a number of at most nine digits: ", &word[..n]);
-    }
-    numeral
+    short_number(&word[..n])
 }
 
 // Options that are not understood.
@@ -60,26 +56,14 @@ fn unclear() -> Options
     }
 }
 
-// The options with one of them set. What is wrong with it is said here.
+// The options with as many records. What is wrong with that is said here.
 //
-// Ruled out: more records than a table has room for.
-fn chosen(options: Options, name: &[u8], x: usize) -> Options
-    requires { ⌜ options .records ≤ 65535 ⌝ }
+// Ruled out: more records than a table has room for; other records than were asked for.
+fn with_records(options: Options, x: usize) -> Options
     ensures { λ r. ⌜ r .records ≤ 65535 ⌝ }
 {
-    if check::same(name, b"--depth") {
-        return Options {
-            is_clear: options.is_clear,
-            depth: x,
-            records: options.records,
-        };
-    }
-    if !check::same(name, b"--records") {
-        say::trouble(b"not --depth or --records: ", name);
-        return unclear();
-    }
     if MOST_RECORDS < x {
-        say::trouble(b"more than 65535 for ", name);
+        say::wrong(b"more than 65535 for --records");
         return unclear();
     }
     Options {
@@ -87,6 +71,25 @@ fn chosen(options: Options, name: &[u8], x: usize) -> Options
         depth: options.depth,
         records: x,
     }
+}
+
+// The options with one of them set. What is wrong with it is said here.
+fn chosen(options: Options, name: &[u8], x: usize) -> Options
+    requires { ⌜ options .records ≤ 65535 ⌝ }
+    ensures { λ r. ⌜ r .records ≤ 65535 ⌝ }
+{
+    if check::same(name, b"--records") {
+        return with_records(options, x);
+    }
+    if check::same(name, b"--depth") {
+        return Options {
+            is_clear: options.is_clear,
+            depth: x,
+            records: options.records,
+        };
+    }
+    say::trouble(b"not --depth or --records: ", name);
+    unclear()
 }
 
 // The options with the one whose name is word `i`, and whose number is the word after it.
@@ -125,9 +128,6 @@ pub fn options_words() -> Options
         }
         return with_option(one, 7);
     }
-    say::trouble(
-        b"decode takes ",
-        b"udp|tcp|tcp-vec INPUT TABLE [--depth N] [--records N]",
-    );
+    say::wrong(b"decode takes udp|tcp|tcp-vec INPUT TABLE [--depth N] [--records N]");
     unclear()
 }

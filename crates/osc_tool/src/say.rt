@@ -4,6 +4,11 @@ use libc::STDOUT_FILENO;
 use refusal::Fault;
 use refusal::Refusal;
 
+// Says what is wrong.
+pub fn wrong(what: &[u8]) {
+    trouble(what, b"");
+}
+
 // Says what is wrong, and of which word.
 pub fn trouble(what: &[u8], word: &[u8]) {
     io::write_all(STDERR_FILENO, b"osc: ");

@@ -11,12 +11,6 @@ use borrow.Author.Needs.{needs}
 use Rattle.files.proofs.beside.own_number.Statement.{statement}
 use Rattle.files.proofs.beside.own_number.Tie as tie
 
-getpid-requires : tie.Need-getpid-requires
-getpid-requires c κs = search needs
-
-returns : tie.Need-returns
-returns c = search needs
-
 cast-result : tie.Need-cast-result
 cast-result c =
     let z = c .before .getpid .result in
@@ -25,8 +19,5 @@ cast-result c =
       fits-natAbs {w = w32} {w′ = w64} tt (sfits-toZ (fits-ofZ {z = z} (search needs))),
     )
 
-returns-2 : tie.Need-returns-2
-returns-2 c = search needs
-
 pub own-number-spec : {M : Type 1} → statement M
-own-number-spec = tie.close (tie.spec getpid-requires returns cast-result returns-2)
+own-number-spec = tie.close (tie.spec (λ c κs. search needs) (λ c. search needs) cast-result (λ c. search needs))

@@ -4,64 +4,43 @@ use borrow.Author.Needs.{needs}
 use Rattle.osc_tool.proofs.commands.command_of.Statement.{statement}
 use Rattle.osc_tool.proofs.commands.command_of.Tie as tie
 
-slice-aggregate-same : tie.Need-slice-aggregate-same
-slice-aggregate-same c = search needs
-
-same-requires : tie.Need-same-requires
-same-requires c κs = search needs
-
 returns : tie.Need-returns
 returns c = c .before .same .ensures .0 (c .if1 .taken)
-
-slice-aggregate-same-2 : tie.Need-slice-aggregate-same-2
-slice-aggregate-same-2 c = search needs
-
-same-requires-2 : tie.Need-same-requires-2
-same-requires-2 c κs = search needs
 
 returns-2 : tie.Need-returns-2
 returns-2 c = c .before .same2 .ensures .0 (c .if2 .taken)
 
-slice-aggregate-same-3 : tie.Need-slice-aggregate-same-3
-slice-aggregate-same-3 c = search needs
-
-same-requires-3 : tie.Need-same-requires-3
-same-requires-3 c κs = search needs
-
 returns-3 : tie.Need-returns-3
 returns-3 c = c .before .same3 .ensures .0 (c .if3 .taken)
-
-slice-aggregate-same-4 : tie.Need-slice-aggregate-same-4
-slice-aggregate-same-4 c = search needs
-
-same-requires-4 : tie.Need-same-requires-4
-same-requires-4 c κs = search needs
 
 returns-4 : tie.Need-returns-4
 returns-4 c = c .before .same4 .ensures .0 (c .if4 .taken)
 
 returns-5 : tie.Need-returns-5
-returns-5 c = (
-  differs (c .before .before .before .before .before .before .before .before .before .before .same .ensures) (c .before .before .before .before .before .before .before .before .before .if1 .left),
-  differs (c .before .before .before .before .before .before .before .same2 .ensures) (c .before .before .before .before .before .before .if2 .left),
-  differs (c .before .before .before .before .same3 .ensures) (c .before .before .before .if3 .left),
-  differs (c .before .same4 .ensures) (c .if4 .left),
-)
+returns-5 c =
+    let p3 = c .before .before .before in
+    let p6 = p3 .before .before .before in
+    let p9 = p6 .before .before .before in (
+      differs (p9 .before .same .ensures) (p9 .if1 .left),
+      differs (p6 .before .same2 .ensures) (p6 .if2 .left),
+      differs (p3 .before .same3 .ensures) (p3 .if3 .left),
+      differs (c .before .same4 .ensures) (c .if4 .left),
+    )
 
 pub command-of-spec : {M : Type 1} → statement M
 command-of-spec =
     tie.close
     (tie.spec
-    slice-aggregate-same
-    same-requires
+    (λ c. search needs)
+    (λ c κs. search needs)
     returns
-    slice-aggregate-same-2
-    same-requires-2
+    (λ c. search needs)
+    (λ c κs. search needs)
     returns-2
-    slice-aggregate-same-3
-    same-requires-3
+    (λ c. search needs)
+    (λ c κs. search needs)
     returns-3
-    slice-aggregate-same-4
-    same-requires-4
+    (λ c. search needs)
+    (λ c κs. search needs)
     returns-4
     returns-5)

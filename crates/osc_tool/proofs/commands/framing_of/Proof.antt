@@ -15,11 +15,12 @@ returns-3 c = c .before .same3 .ensures .0 (c .if3 .taken)
 
 returns-4 : tie.Need-returns-4
 returns-4 c =
-    let p3 = c .before .before .before in
-    let p6 = p3 .before .before .before in (
-      differs (p6 .before .same .ensures) (p6 .if1 .left),
-      differs (p3 .before .same2 .ensures) (p3 .if2 .left),
-      differs (c .before .same3 .ensures) (c .if3 .left),
+    let p2 = c .before .before in
+    let p5 = p2 .before .before .before in
+    let p8 = p5 .before .before .before in (
+      differs (p8 .before .same .ensures) (p8 .if1 .left),
+      differs (p5 .before .same2 .ensures) (p5 .if2 .left),
+      differs (p2 .before .same3 .ensures) (p2 .if3 .left),
     )
 
 pub framing-of-spec : {M : Type 1} → statement M
@@ -35,4 +36,6 @@ framing-of-spec =
     (λ c. search needs)
     (λ c κs. search needs)
     returns-3
+    (λ c. search needs)
+    (λ c κs. search needs)
     returns-4)

@@ -1,4 +1,5 @@
 -- `osc_tool::options::short_number` meets its contract, by what `decimal` reads.
+use mathlib.Core.Logic.{⊎-elim}
 use mathlib.Core.Path.{_≡_, sym, ap, _∙_}
 use Prim.Native.Nat.{ℕ, _≤_, _<_}
 use borrow.Author.Needs.{needs}
@@ -17,19 +18,27 @@ short : (x : ℕ) → x ≤ 999999999 → Is x ≡ nineDigits (Is x)
 short x h = rw (le-ltb 999999999 x h)
 
 returns : tie.Need-returns
-returns c = ap nineDigits (sym (c .enum-told .given .1) ∙ c .before .before .decimal .ensures)
+returns c =
+    let p2 = c .before .before in
+    short _ (c .if1 .taken) ∙ ap nineDigits (sym (p2 .x .given .1) ∙ p2 .before .before .decimal .ensures)
 
 returns-2 : tie.Need-returns-2
 returns-2 c =
     let p2 = c .before .before in
-    long _ (c .if1 .taken) ∙ ap nineDigits (sym (p2 .x .given .1) ∙ p2 .before .before .decimal .ensures)
-
-returns-3 : tie.Need-returns-3
-returns-3 c =
-    let p2 = c .before .before in
-    short _ (c .if1 .left) ∙ ap nineDigits (sym (p2 .x .given .1) ∙ p2 .before .before .decimal .ensures)
+    let e = p2 .before .decimal .ensures in
+    ⊎-elim
+    (λ w. long _ (w .3 .left) ∙ ap nineDigits (sym (w .1 .given .1) ∙ e))
+    (λ w. ap nineDigits (sym (w .1 .given .1) ∙ e))
+    (p2 .match .came)
 
 pub short-number-spec : {M : Type 1} → statement M
 short-number-spec =
     tie.close
-    (tie.spec (λ c κs. search needs) (λ c. search needs) (λ c. search needs) returns returns-2 returns-3)
+    (tie.spec
+    (λ c κs. search needs)
+    (λ c. search needs)
+    returns
+    (λ c. search needs)
+    (λ c. search needs)
+    (λ c κs. search needs)
+    returns-2)
