@@ -6,12 +6,16 @@ ghost use Prim.Native.Nat.{_≤_};
 ghost use Rattle.runs.specs.Put.{Put};
 
 // The names of the calls. A call is the place of its name, from 0 on; the last is for what is none.
-pub const NAMES: [u8; 73] = *b"decode_udp decode_tcp decode_tcp_vec encode encode_tcp encode_string none";
+pub const NAMES: [u8; 73] =
+    *b"decode_udp decode_tcp decode_tcp_vec encode encode_tcp encode_string none";
 
 // The answers: given, waiting, refused with a number (this and the number), and none that is known.
 pub const GIVEN: usize = 0;
+
 pub const WAITING: usize = 1;
+
 pub const REFUSED: usize = 2;
+
 pub const UNKNOWN: usize = 39;
 
 // What a call answered, the records or bytes that were given, and the bytes left over.

@@ -10,6 +10,7 @@ pub type Tally = [u64; 282];
 
 // The place of the cases, and of those that differ.
 const CASES: usize = 280;
+
 const DIFFER: usize = 281;
 
 // Counts one more at a place.

@@ -96,21 +96,17 @@ fn total(name: &[u8], seen: u64, differ: u64) {
     io::write_all(1, b" differ\n");
 }
 
-// Says it of the questions about bytes and numbers.
-fn report_bytes(tally: &[u64; 20]) {
-    total(b"utf8", tally[0], tally[10]);
-    total(b"lead", tally[1], tally[11]);
-    total(b"pad", tally[2], tally[12]);
-    total(b"u32", tally[3], tally[13]);
-    total(b"u64", tally[4], tally[14]);
-}
-
-// Says it of the questions about texts and records.
-fn report_records(tally: &[u64; 20]) {
-    total(b"text", tally[5], tally[15]);
-    total(b"record", tally[6], tally[16]);
-    total(b"look", tally[7], tally[17]);
-    total(b"name", tally[8], tally[18]);
+// Says it of every question.
+fn report(tally: &[u64; 20]) {
+    let mut at = 0;
+    while at < 9 {
+        total(
+            line::word(&question::NAMES, at),
+            tally[at],
+            tally[KINDS + at],
+        );
+        at += 1;
+    }
     total(b"not understood", tally[9], tally[19]);
 }
 
@@ -120,6 +116,5 @@ fn main() {
     let n = io::read_full(0, &mut space);
     let mut tally = [0u64; 20];
     run(&space[..n], &mut tally);
-    report_bytes(&tally);
-    report_records(&tally);
+    report(&tally);
 }

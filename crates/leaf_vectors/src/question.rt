@@ -5,6 +5,9 @@ use words::numeral;
 use words::numeral::Numeral;
 ghost use Prim.Native.Nat.{_≤_};
 
+// The names of the questions, in the order of the tally.
+pub const NAMES: [u8; 43] = *b"utf8 lead pad u32 u64 text record look name";
+
 pub enum Question {
     // `utf8 BYTES`: are they UTF-8?
     Utf8,
@@ -93,47 +96,27 @@ fn parts(question: Question) -> usize
     }
 }
 
-// Whether a line asks this question, by its name.
-fn is(asked: &[u8], name: &[u8], question: Question) -> bool {
-    if check::same(line::word(asked, 0), name) {
-        return has_shape(asked, numbers(question), parts(question));
+// The question whose name has a place among the names.
+fn named(place: usize) -> Question {
+    match place {
+        0 => Question::Utf8,
+        1 => Question::Lead,
+        2 => Question::Pad,
+        3 => Question::U32,
+        4 => Question::U64,
+        5 => Question::Text,
+        6 => Question::Record,
+        7 => Question::Look,
+        8 => Question::Name,
+        _ => Question::Unclear,
     }
-    false
-}
-
-// The question of a line, about texts and records.
-fn record_question(asked: &[u8]) -> Question {
-    if is(asked, b"text", Question::Text) {
-        return Question::Text;
-    }
-    if is(asked, b"record", Question::Record) {
-        return Question::Record;
-    }
-    if is(asked, b"look", Question::Look) {
-        return Question::Look;
-    }
-    if is(asked, b"name", Question::Name) {
-        return Question::Name;
-    }
-    Question::Unclear
 }
 
 // The question of a line.
 pub fn question_of(asked: &[u8]) -> Question {
-    if is(asked, b"utf8", Question::Utf8) {
-        return Question::Utf8;
+    let question = named(line::place_of(&NAMES, line::word(asked, 0)));
+    if has_shape(asked, numbers(question), parts(question)) {
+        return question;
     }
-    if is(asked, b"lead", Question::Lead) {
-        return Question::Lead;
-    }
-    if is(asked, b"pad", Question::Pad) {
-        return Question::Pad;
-    }
-    if is(asked, b"u32", Question::U32) {
-        return Question::U32;
-    }
-    if is(asked, b"u64", Question::U64) {
-        return Question::U64;
-    }
-    record_question(asked)
+    Question::Unclear
 }

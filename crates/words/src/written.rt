@@ -2,6 +2,7 @@
 use crate::line::front;
 ghost use mathlib.Core.Path.{_≡_};
 ghost use lib.ListN.{take};
+ghost use lib.IntN.{natAbs};
 
 // Room for an answer.
 pub type Space = [u8; 256];
@@ -42,7 +43,11 @@ pub fn put_number(out: &mut Space, at: usize, x: u64) -> usize {
 }
 
 // A number without its sign.
-fn magnitude(x: i64) -> u64 {
+//
+// Ruled out: 0 for -1; another number for the least.
+fn magnitude(x: i64) -> u64
+    ensures { λ r. ⌜ r ≡ natAbs x ⌝ }
+{
     if x < 0 {
         return (!x) as u64 + 1;
     }
@@ -56,6 +61,11 @@ pub fn put_signed(out: &mut Space, at: usize, x: i64) -> usize {
         return put_decimal(out, from, magnitude(x));
     }
     put_number(out, at, magnitude(x))
+}
+
+// Puts a number of 32 bits with its sign.
+pub fn put_signed32(out: &mut Space, at: usize, x: i32) -> usize {
+    put_signed(out, at, x as i64)
 }
 
 // Puts a name and two numbers.

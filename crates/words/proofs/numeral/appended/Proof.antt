@@ -16,20 +16,26 @@ returns c =
 
 returns-2 : tie.Need-returns-2
 returns-2 c =
-    let s = c .before .before .before .before .args in
-    let e : c .before .before .wide .result ≡ digitOf (s .byte) = cc in
+    let p2 = c .before .before in
+    let p4 = p2 .before .before in
+    let s = p4 .args in
+    let e : p2 .wide .result ≡ digitOf (s .byte) = cc in
     too-large (s .x) (s .byte) (omega arith) (omega arith)
 
 returns-3 : tie.Need-returns-3
 returns-3 c =
-    let s = c .before .before .before .before .before .args in
-    let e : c .before .before .before .wide .result ≡ digitOf (s .byte) = cc in
+    let p3 = c .before .before .before in
+    let p5 = p3 .before .before in
+    let s = p5 .args in
+    let e : p3 .wide .result ≡ digitOf (s .byte) = cc in
     too-large (s .x) (s .byte) (omega arith) (omega arith)
 
 returns-4 : tie.Need-returns-4
 returns-4 c =
-    let s = c .before .before .before .before .before .args in
-    let e : c .before .before .before .wide .result ≡ digitOf (s .byte) = cc in
+    let p3 = c .before .before .before in
+    let p5 = p3 .before .before in
+    let s = p5 .args in
+    let e : p3 .wide .result ≡ digitOf (s .byte) = cc in
     rw e (one-digit (s .x) (s .byte) (omega arith) (omega arith))
 
 pub appended-spec : {M : Type 1} → statement M

@@ -22,40 +22,28 @@ returns c = sym (none-read _ (c .if1 .taken))
 loop-holds : tie.Need-loop-holds Inv-loop μ-loop
 loop-holds c = (search needs, some-read _ (omega arith))
 
-shared-slice-read-appended : tie.Need-shared-slice-read-appended Inv-loop μ-loop
-shared-slice-read-appended c = search needs
-
-appended-requires : tie.Need-appended-requires Inv-loop μ-loop
-appended-requires c κs = search needs
-
-enum-known-more : tie.Need-enum-known-more Inv-loop μ-loop
-enum-known-more c = search needs
-
-enum-told : tie.Need-enum-told Inv-loop μ-loop
-enum-told c = search needs
-
 returns-2 : tie.Need-returns-2 Inv-loop μ-loop
 returns-2 c =
-    let word = c .before .before .before .before .before .before .before .before .args .word .now in
-    let i = c .before .before .before .before .before .loop .i in
-    let x = c .before .before .before .before .before .loop .x in
+    let p5 = c .before .before .before .before .before in
+    let p8 = p5 .before .before .before in
+    let word = p8 .args .word .now in
+    let i = p5 .loop .i in
+    let x = p5 .loop .x in
     cc (byte-read word i (Is x) (omega arith), still-unclear (drop (i + 1) word))
-
-add-i : tie.Need-add-i Inv-loop μ-loop
-add-i c = search needs
-
-loop-less : tie.Need-loop-less Inv-loop μ-loop
-loop-less c = search needs
 
 loop-again : tie.Need-loop-again Inv-loop μ-loop
 loop-again c =
-    let word = c .before .before .before .before .before .before .before .before .before .args .word .now in
-    let i = c .before .before .before .before .before .before .loop .i in
-    let x = c .before .before .before .before .before .before .loop .x in
+    let p6 = c .before .before .before .before .before .before in
+    let p9 = p6 .before .before .before in
+    let word = p9 .args .word .now in
+    let i = p6 .loop .i in
+    let x = p6 .loop .x in
     (search needs, cc (byte-read word i (Is x) (omega arith)))
 
 returns-3 : tie.Need-returns-3 Inv-loop μ-loop
-returns-3 c = cc (all-read (c .before .before .before .before .args .word .now) (c .before .loop .i) (Is (c .before .loop .x)) (omega arith))
+returns-3 c =
+    let p4 = c .before .before .before .before in
+    cc (all-read (p4 .args .word .now) (c .before .loop .i) (Is (c .before .loop .x)) (omega arith))
 
 pub decimal-spec : {M : Type 1} → statement M
 decimal-spec =
@@ -65,12 +53,12 @@ decimal-spec =
     μ-loop
     returns
     loop-holds
-    shared-slice-read-appended
-    appended-requires
-    enum-known-more
-    enum-told
+    (λ c. search needs)
+    (λ c κs. search needs)
+    (λ c. search needs)
+    (λ c. search needs)
     returns-2
-    add-i
-    loop-less
+    (λ c. search needs)
+    (λ c. search needs)
     loop-again
     returns-3)

@@ -23,7 +23,8 @@ returns-3 c =
 returns-4 : tie.Need-returns-4
 unfolding digitOf
 returns-4 c =
-    let b = c .before .before .before .before .args .byte in (
+    let p4 = c .before .before .before .before in
+    let b = p4 .args .byte in (
       simp (le-ltb b 48 (omega arith), le-ltb b 58 (omega arith), le-ltb b 65 (omega arith), lt-ltb b 71 (omega arith)),
       search needs,
     )
@@ -31,7 +32,8 @@ returns-4 c =
 returns-5 : tie.Need-returns-5
 unfolding digitOf
 returns-5 c =
-    let b = c .before .before .before .before .args .byte in (
+    let p4 = c .before .before .before .before in
+    let b = p4 .args .byte in (
       simp (le-ltb b 48 (omega arith), le-ltb b 58 (omega arith), le-ltb b 65 (omega arith), le-ltb b 71 (omega arith)),
       search needs,
     )
