@@ -12,7 +12,9 @@ ghost use Rattle.osc_tool.specs.Framings.{writingOf};
 
 // Calls the encoder, with the length before the packet where a stream is to be cut by it.
 fn encoded(has_length: bool, table: &[u8], count: usize, source: &[u8], out: &mut [u8]) -> Encoded
-    ensures { λ r. ⌜ Encodes (writingOf «has_length») (now (table .entry)) count (now (source .entry)) (now (out .entry)) (record { answer = r; out = now (out .exit) }) ⌝ }
+    ensures { λ r.
+        ⌜ Encodes (writingOf «has_length») (now (table .entry)) count (now (source .entry)) (now (out .entry))
+        (record { answer = r; out = now (out .exit) }) ⌝ }
 {
     if has_length {
         return encoder::encode_tcp(table, count, source, out);
