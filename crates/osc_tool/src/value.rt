@@ -6,6 +6,7 @@ use types::value::OscType;
 use words::written::filled;
 use words::written::put_four;
 use words::written::put_signed;
+use words::written::put_signed32;
 
 // Says a number with its sign.
 fn say_signed(x: i64) {
@@ -16,7 +17,9 @@ fn say_signed(x: i64) {
 
 // Says a number of 32 bits with its sign.
 fn say_int(x: i32) {
-    say_signed(x as i64);
+    let mut digits = [0u8; 256];
+    let n = put_signed32(&mut digits, 0, x);
+    text(filled(&digits, n));
 }
 
 // Says the bits that fix a float.
