@@ -58,7 +58,7 @@ fn unclear() -> Options
 
 // The options with as many records. What is wrong with that is said here.
 //
-// Ruled out: more records than a table has room for; other records than were asked for.
+// Ruled out: more records than a table has room for.
 fn with_records(options: Options, x: usize) -> Options
     ensures { λ r. ⌜ r .records ≤ 65535 ⌝ }
 {
