@@ -4,6 +4,7 @@ use crate::call::Outcome;
 use crate::expected;
 use crate::listed::is_table;
 use crate::listed::put_table;
+use runs::spelled::filler;
 use runs::spelled::is_bytes;
 use runs::spelled::put_bytes;
 use words::line::front;
@@ -36,7 +37,7 @@ fn is_same(found: Outcome, wanted: Outcome) -> bool {
 
 // Compares an answer, and every byte of what was lent, with what is expected: what is not given is to be as it was.
 fn judged(outcome: Outcome, lent: &[u8], expected: &[u8]) -> Found {
-    let mut space = io::large_buffer();
+    let mut space = [filler(word(expected, 1)); 65536];
     let n = expected::put_given(expected, &mut space);
     let bytes = front(&space, n);
     let is_right = runs::holds(lent, bytes) && is_same(outcome, expected::wanted(expected, bytes));
@@ -54,34 +55,51 @@ fn room(asked: &[u8]) -> usize
     call::size_of(number(asked, 2)) + more as usize
 }
 
-// Fills what is lent, makes the call and compares.
-fn ask_into(call: usize, asked: &[u8], input: &[u8], lent: &mut [u8], expected: &[u8]) -> Found {
+// Makes the call and compares.
+fn ask_into(
+    call: usize,
+    list: &[u8],
+    input: &[u8],
+    number: usize,
+    lent: &mut [u8],
+    expected: &[u8],
+) -> Found {
     let mut table = io::large_buffer();
-    let from = start(asked, 5);
-    let n = put_table(&asked[from..], &mut table);
-    runs::fill(lent);
-    let number = number(asked, 1) as usize;
+    let n = put_table(list, &mut table);
     let outcome = call::make(call, number, input, front(&table, n), lent);
     judged(outcome, lent, expected)
 }
 
-// Whether the input and the table of a case are spelled as they should be.
-fn is_clear(asked: &[u8]) -> bool {
-    let from = start(asked, 5);
-    is_bytes(word(asked, 4)) && is_table(&asked[from..])
-}
-
-// A case.
-pub fn ask(call: usize, asked: &[u8], expected: &[u8]) -> Found {
-    let mut input = io::large_buffer();
-    let n = put_bytes(word(asked, 4), &mut input);
-    let mut lent = io::large_buffer();
+// A case whose input is these bytes.
+fn ask_of(call: usize, asked: &[u8], input: &[u8], expected: &[u8]) -> Found {
+    let mut lent = [runs::FILL; 65536];
     let end = room(asked);
     if 65536 < end {
         return unclear();
     }
-    if !is_clear(asked) {
+    let from = start(asked, 5);
+    if !is_table(&asked[from..]) {
         return unclear();
     }
-    ask_into(call, asked, front(&input, n), &mut lent[0..end], expected)
+    let number = number(asked, 1) as usize;
+    ask_into(
+        call,
+        &asked[from..],
+        input,
+        number,
+        &mut lent[0..end],
+        expected,
+    )
+}
+
+// A case.
+pub fn ask(call: usize, asked: &[u8], expected: &[u8]) -> Found {
+    let bytes = word(asked, 4);
+    let byte = filler(bytes);
+    if !is_bytes(bytes, byte) {
+        return unclear();
+    }
+    let mut input = [byte; 65536];
+    let n = put_bytes(bytes, &mut input);
+    ask_of(call, asked, front(&input, n), expected)
 }

@@ -19,16 +19,10 @@ fn kind_of(kind: &[u8]) -> u8 {
 }
 
 // Puts one record.
-fn put_record(kind: &[u8], record: &[u8], out: &mut [u8]) -> usize
+fn put_record(kind: &[u8], end: u64, a: u64, b: u64, out: &mut [u8]) -> usize
     ensures { λ r. ⌜ Put r (now (out .entry)) (now (out .exit)) ⌝ }
 {
-    let n = call::put_record(
-        out,
-        kind_of(kind),
-        number(record, 1),
-        number(record, 2),
-        number(record, 3),
-    );
+    let n = call::put_record(out, kind_of(kind), end, a, b);
     if kind.len() == 8 {
         hex::bytes(kind, out);
     }
@@ -36,13 +30,13 @@ fn put_record(kind: &[u8], record: &[u8], out: &mut [u8]) -> usize
 }
 
 // Puts a record as often as `times` says.
-fn put_records(kind: &[u8], record: &[u8], times: u64, out: &mut [u8]) -> usize
+fn put_records(times: u64, kind: &[u8], end: u64, a: u64, b: u64, out: &mut [u8]) -> usize
     ensures { λ r. ⌜ Put r (now (out .entry)) (now (out .exit)) ⌝ }
 {
     let mut at = 0;
     let mut left = times;
     while 0 < left {
-        at += put_record(kind, record, &mut out[at..]);
+        at += put_record(kind, end, a, b, &mut out[at..]);
         left -= 1;
     }
     at
@@ -53,11 +47,21 @@ fn put_listed(record: &[u8], out: &mut [u8]) -> usize
     ensures { λ r. ⌜ Put r (now (out .entry)) (now (out .exit)) ⌝ }
 {
     let kind = word(record, 0);
+    let end = number(record, 1);
+    let a = number(record, 2);
+    let b = number(record, 3);
     let star = until(kind, 0, b'*');
     if star < kind.len() {
-        return put_records(after(kind, star), record, number(front(kind, star), 0), out);
+        return put_records(
+            number(front(kind, star), 0),
+            after(kind, star),
+            end,
+            a,
+            b,
+            out,
+        );
     }
-    put_record(kind, record, out)
+    put_record(kind, end, a, b, out)
 }
 
 // Puts the records of a list at the front of `out`, and says how many bytes they are.

@@ -1,63 +1,96 @@
-// The bytes of a case as its line spells them: parts with '+' between them. A part is hexadecimal digits ("-" for none), digits
-// with a number and '*' before them, as often as the number says, or a number and '#', so many bundles, each in the one before it.
+// The bytes of a case as its line spells them: parts with '+' between them. A part is hexadecimal digits ("-" for none), a number, '*'
+// and the two digits of a byte, so many of it, or a number and '#', so many bundles, each in the one before it.
 use words::hex;
 use words::line::after;
 use words::line::front;
 use words::line::until;
 use words::numeral::Numeral;
 use words::numeral::decimal;
+use words::numeral::number;
 ghost use mathlib.Core.Path.{_≡_};
-ghost use Prim.Native.Nat.{_≤_};
+ghost use Prim.Native.Nat.{_≤_, _<_};
 ghost use lib.ListN.{length};
 ghost use Rattle.runs.specs.Put.{Put};
 
-// The number that a word is, and 0 for one that is none.
-fn times(word: &[u8]) -> u64 {
-    match decimal(word) {
-        Numeral::Is(x) => x,
-        Numeral::Unclear => 0,
-    }
+// The name of a bundle.
+const NAME: [u8; 7] = *b"#bundle";
+
+// The byte that a word repeats; 0 where it repeats none.
+pub fn filler(word: &[u8]) -> u8 {
+    let mut one = [0u8; 1];
+    hex::bytes(after(word, until(word, 0, b'*')), &mut one);
+    one[0]
 }
 
-// Puts the bytes of hexadecimal digits as often as `n` says.
-fn put_repeated(word: &[u8], n: u64, out: &mut [u8]) -> usize
-    ensures { λ r. ⌜ Put r (now (out .entry)) (now (out .exit)) ⌝ }
-{
-    let mut at = 0;
-    let mut left = n;
-    while 0 < left {
-        at += hex::bytes(word, &mut out[at..]);
-        left -= 1;
+// A part without its last `n` bytes.
+fn without(part: &[u8], n: usize) -> &[u8] {
+    if part.len() < n {
+        return part;
     }
-    at
+    front(part, part.len() - n)
 }
 
-// Puts the size that stands before an element of `n` bundles: 20 * n - 4, in four bytes.
-fn put_size(n: u64, out: &mut [u8]) -> usize
-    ensures { λ r. ⌜ Put r (now (out .entry)) (now (out .exit)) ⌝ }
-{
+// Whether a part has this byte so many places before its end.
+fn is_marked(part: &[u8], n: usize, mark: u8) -> bool {
     if n == 0 {
+        return false;
+    }
+    if part.len() < n {
+        return false;
+    }
+    part[part.len() - n] == mark
+}
+
+// Whether a part repeats a byte: a number, '*' and two digits.
+fn is_repeat(part: &[u8]) -> bool {
+    is_marked(part, 3, b'*')
+}
+
+// Whether a part is bundles: a number and '#'.
+fn is_nest(part: &[u8]) -> bool {
+    is_marked(part, 1, b'#')
+}
+
+// The bytes that a part repeats are not put: they stand there already.
+fn skipped(n: u64, out: &[u8]) -> usize
+    ensures { λ r. ⌜ r ≤ length (now (out .entry)) ⌝ }
+{
+    if n < out.len() as u64 {
+        return n as usize;
+    }
+    out.len()
+}
+
+// Puts the name of a bundle.
+fn put_name(out: &mut [u8])
+    requires { ⌜ 7 ≤ length (now out) ⌝ }
+    ensures { λ _. ⌜ length (now (out .exit)) ≡ length (now (out .entry)) ⌝ }
+{
+    let mut i = 0;
+    while i < 7 {
+        out[i] = NAME[i];
+        i += 1;
+    }
+}
+
+// Puts the name of a bundle and the immediate time tag over zeros, and if there are `n` bundles in it their size, 20 * n - 4.
+fn put_bundle(n: u64, out: &mut [u8]) -> usize
+    ensures { λ r. ⌜ Put r (now (out .entry)) (now (out .exit)) ⌝ }
+{
+    if out.len() < 20 {
         return 0;
+    }
+    put_name(out);
+    out[15] = 1;
+    if n == 0 {
+        return 16;
     }
     if 3276 < n {
         return 0;
     }
-    if out.len() < 4 {
-        return 0;
-    }
-    out[0] = 0;
-    out[1] = 0;
-    out[2] = ((20 * n - 4) / 256 % 256) as u8;
-    out[3] = ((20 * n - 4) % 256) as u8;
-    4
-}
-
-// Puts "#bundle", the immediate time tag and the size of the `n` bundles in it, if there are any.
-fn put_head(n: u64, out: &mut [u8]) -> usize
-    ensures { λ r. ⌜ Put r (now (out .entry)) (now (out .exit)) ⌝ }
-{
-    let at = hex::bytes(b"2362756E646C65000000000000000001", out);
-    at + put_size(n, &mut out[at..])
+    out[18] = ((20 * n - 4) / 256 % 256) as u8;
+    out[19] = ((20 * n - 4) % 256) as u8;
+    20
 }
 
 // Puts `n` bundles, each in the one before it.
@@ -68,7 +101,7 @@ fn put_nested(n: u64, out: &mut [u8]) -> usize
     let mut left = n;
     while 0 < left {
         left -= 1;
-        at += put_head(left, &mut out[at..]);
+        at += put_bundle(left, &mut out[at..]);
     }
     at
 }
@@ -77,18 +110,17 @@ fn put_nested(n: u64, out: &mut [u8]) -> usize
 fn put_part(part: &[u8], out: &mut [u8]) -> usize
     ensures { λ r. ⌜ Put r (now (out .entry)) (now (out .exit)) ⌝ }
 {
-    let star = until(part, 0, b'*');
-    if star < part.len() {
-        return put_repeated(after(part, star), times(front(part, star)), out);
+    if is_repeat(part) {
+        return skipped(number(without(part, 3), 0), out);
     }
-    let sharp = until(part, 0, b'#');
-    if sharp < part.len() {
-        return put_nested(times(front(part, sharp)), out);
+    if is_nest(part) {
+        return put_nested(number(without(part, 1), 0), out);
     }
     hex::bytes(part, out)
 }
 
-// Puts the bytes that a word spells at the front of `out`, and says how many there are. What has no room is left out.
+// Puts the bytes that a word spells at the front of `out`, every byte of which is the word's filler, and says how many there are. What
+// has no room is left out. (A repeated byte is not put one by one: the interpreter's steps would not be enough.)
 pub fn put_bytes(word: &[u8], out: &mut [u8]) -> usize
     ensures { λ r. ⌜ Put r (now (out .entry)) (now (out .exit)) ⌝ }
 {
@@ -110,28 +142,26 @@ pub fn is_number(word: &[u8]) -> bool {
     }
 }
 
-// Whether a part spells bytes.
-fn is_part(part: &[u8]) -> bool {
-    let star = until(part, 0, b'*');
-    if star < part.len() {
-        return is_number(front(part, star)) && hex::is_bytes(after(part, star));
+// Whether a part spells bytes, and repeats no other byte than this one; under bundles stand zeros.
+fn is_part(part: &[u8], byte: u8) -> bool {
+    if is_repeat(part) {
+        return is_number(without(part, 3)) && filler(part) == byte;
     }
-    let sharp = until(part, 0, b'#');
-    if sharp < part.len() {
-        return is_number(front(part, sharp)) && sharp + 1 == part.len();
+    if is_nest(part) {
+        return is_number(without(part, 1)) && byte == 0;
     }
     hex::is_bytes(part)
 }
 
-// Whether a word spells bytes.
-pub fn is_bytes(word: &[u8]) -> bool {
+// Whether a word spells bytes, and repeats only one byte.
+pub fn is_bytes(word: &[u8], byte: u8) -> bool {
     if word.len() == 0 {
         return false;
     }
     let mut at = 0;
     while at < word.len() {
         let end = until(word, at, b'+');
-        if !is_part(&word[at..end]) {
+        if !is_part(&word[at..end], byte) {
             return false;
         }
         at = end + 1;

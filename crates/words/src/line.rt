@@ -70,14 +70,17 @@ pub fn word(s: &[u8], n: usize) -> &[u8] {
     &s[from..to]
 }
 
-// The place of a name among the words of a line; the line's length where it is none of them.
+// The place of a name among the words of a line, from 0 on; the number of the words where it is none of them.
 pub fn place_of(names: &[u8], name: &[u8]) -> usize {
+    let mut at = 0;
     let mut n = 0;
-    while n < names.len() {
-        if check::same(word(names, n), name) {
+    while at < names.len() {
+        let end = until(names, at, b' ');
+        if check::same(&names[at..end], name) {
             return n;
         }
         n += 1;
+        at = end + 1;
     }
     n
 }

@@ -5,10 +5,10 @@ use Rattle.case_runs.proofs.listed.put_records.Statement.{statement}
 use Rattle.case_runs.proofs.listed.put_records.Tie as tie
 
 abbrev Inv-loop : tie.InvT-loop
-Inv-loop kind «record» times out₀ at₀ left₀ out at left = Put at out₀ out
+Inv-loop times kind end a b out₀ at₀ left₀ out at left = Put at out₀ out
 
 abbrev μ-loop : tie.MeasureT-loop
-μ-loop kind «record» times out₀ at₀ left₀ out at left = left
+μ-loop times kind end a b out₀ at₀ left₀ out at left = left
 
 pub put-records-spec : {M : Type 1} → statement M
 put-records-spec =
