@@ -1,20 +1,21 @@
 // What the leaves answer to a question.
-use crate::hex;
-use crate::hex::put_bytes;
 use crate::question;
 use crate::question::Question;
 use crate::value::put_value;
-use crate::words;
-use crate::words::Space;
-use crate::words::front;
-use crate::written::put;
-use crate::written::put_number;
+use wire::Padded;
 use refusal::Refusal;
 use text::Lack;
 use text::Text;
 use values::look::Looked;
 use values::value::OscType;
-use wire::Padded;
+use words::hex;
+use words::hex::put_bytes;
+use words::line;
+use words::line::front;
+use words::numeral;
+use words::written::Space;
+use words::written::put;
+use words::written::put_number;
 
 // The largest number of a field.
 const MOST: u64 = 0xffff_ffff;
@@ -116,7 +117,7 @@ fn text_answer(out: &mut Space, pos: u64, bytes: &[u8]) -> usize {
 
 // Whether the record at the front of a table has these fields.
 fn is_record(table: &[u8], kind: u8, end: u32, a: u32, b: u32) -> bool {
-    if node::record::capacity(table) == 0 {
+    if node::record::capacity_of(table) == 0 {
         return false;
     }
     let found = node::record::read_record(table, 0);
@@ -207,14 +208,14 @@ pub fn answer(question: Question, asked: &[u8], out: &mut Space) -> usize {
     let numbers = question::numbers(question);
     let mut first = [0u8; 256];
     let mut second = [0u8; 256];
-    let n = hex::bytes(words::word(asked, numbers + 1), &mut first);
-    let m = hex::bytes(words::word(asked, numbers + 2), &mut second);
-    let x = words::number(asked, 1);
-    let y = words::number(asked, 2);
-    let z = words::number(asked, 3);
+    let n = hex::bytes(line::word(asked, numbers + 1), &mut first);
+    let m = hex::bytes(line::word(asked, numbers + 2), &mut second);
+    let x = numeral::number(asked, 1);
+    let y = numeral::number(asked, 2);
+    let z = numeral::number(asked, 3);
     match question {
         Question::Pad => pad_answer(out, x),
-        Question::Record => record_answer(out, x, y, z, words::number(asked, 4)),
+        Question::Record => record_answer(out, x, y, z, numeral::number(asked, 4)),
         Question::Name => name_answer(out, x, y, z, front(&first, n), front(&second, m)),
         _ => bytes_answer(out, question, x, front(&first, n)),
     }

@@ -1,12 +1,14 @@
 // The command decode: the bytes of a file to a table.
-use crate::files;
+use crate::commands;
+use crate::commands::Framed;
+use crate::commands::Framing;
+use crate::named;
+use crate::options;
+use crate::options::Options;
 use crate::say;
 use crate::space;
-use crate::words;
-use crate::words::Framed;
-use crate::words::Framing;
-use crate::words::Options;
 use decoder::Decoded;
+use words::line::front;
 ghost use mathlib.Core.Path.{_≡_};
 ghost use Prim.Native.Nat.{_*_, _/_, _≤_};
 ghost use lib.ListN.{length, take};
@@ -30,14 +32,14 @@ fn records_of(table: &[u8], count: usize) -> &[u8]
     ensures { λ r. ⌜ now r ≡ take (count * 16) (now (table .entry)) ⌝ }
 {
     if count <= table.len() / 16 {
-        return files::front(table, count * 16);
+        return front(table, count * 16);
     }
     table
 }
 
 // Writes the table to the file that word 4 names, and says what was answered.
 fn keep(table: &[u8], count: usize, left: usize) {
-    if files::write_word(4, records_of(table, count)) {
+    if named::write_word(4, records_of(table, count)) {
         say::packets(count, left);
     }
 }
@@ -59,7 +61,7 @@ fn decode_file(framing: Framing, options: Options)
     requires { ⌜ options .records ≤ 65535 ⌝ }
 {
     let mut input = io::large_buffer();
-    let got = files::read_word(3, &mut input);
+    let got = named::read_word(3, &mut input);
     if !got.is_read {
         return;
     }
@@ -69,11 +71,11 @@ fn decode_file(framing: Framing, options: Options)
 }
 
 pub fn run() {
-    let options = words::options_words();
+    let options = options::options_words();
     if !options.is_clear {
         return;
     }
-    match words::framing_word() {
+    match commands::framing_word() {
         Framed::As(framing) => decode_file(framing, options),
         Framed::Unclear => {}
     }
