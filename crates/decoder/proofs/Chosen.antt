@@ -3,6 +3,7 @@ use mathlib.Core.List.{List}
 use Prim.Native.Nat.{ℕ, _<_, _≤_}
 use lib.ListN.{length}
 use Rattle.refusal.specs.declared.Refusal.the-variants.{TooLong, TooDeep, TableFull, DepthLimit}
+use Rattle.wire.specs.Limits.{longest, deepest}
 use Rattle.node.specs.Forest.{Forest, size, depth}
 use Rattle.wire.proofs.Choices.{by-le}
 use Rattle.decoder.specs.Framing.{Whole, trees}
@@ -12,11 +13,11 @@ use Rattle.decoder.specs.declared.Decoded.the-variants.{Packets, Refused
 
 module _ (P : Decoded → Type 0) where
   -- 13, then 1, then what the rule gives
-  pub by-decoded : (rule : List ℕ → Whole) (capacity limit : ℕ) (msg : List ℕ) → (64 < limit → P (Refused DepthLimit))
-      → (65535 < length msg → P (Refused TooLong))
-      → (limit ≤ 64 → length msg ≤ 65535 → P (limited capacity limit (rule msg))) → P (decoded rule capacity limit msg)
+  pub by-decoded : (rule : List ℕ → Whole) (capacity limit : ℕ) (msg : List ℕ) → (deepest < limit → P (Refused DepthLimit))
+      → (longest < length msg → P (Refused TooLong))
+      → (limit ≤ deepest → length msg ≤ longest → P (limited capacity limit (rule msg))) → P (decoded rule capacity limit msg)
   unfolding decoded
-  by-decoded rule capacity limit msg deep long f = by-le P limit 64 (λ h. by-le P (length msg) 65535 (λ k. f h k) long) deep
+  by-decoded rule capacity limit msg deep long f = by-le P limit deepest (λ h. by-le P (length msg) longest (λ k. f h k) long) deep
 
   -- of trees: 9, then 10, then their count
   pub by-trees : (capacity limit : ℕ) (f : Forest) (left : ℕ) → (limit < depth f → P (Refused TooDeep))

@@ -10,11 +10,12 @@ use Rattle.wire.specs.Number.{number, bytes}
 use Rattle.node.specs.Forest.{size, depth, snoc}
 use Rattle.node.specs.Records.{recordsOf, recordOf, stored}
 use Rattle.node.specs.Tags.{classOf, sortOf}
-use Rattle.text.specs.Text.{textOf}
-use Rattle.argument.specs.Argument.{argOf}
-use Rattle.arguments.specs.Arguments.{readArgs}
-use Rattle.packet.specs.Packet.{messageOf, bundleOf, packetOf, elementOf, elementsOf, packetAt, packet}
-use Rattle.decoder.specs.Framing.{Whole, udp, frameOf, tcp, framesAt, frames, tcpVec}
+use Rattle.text.specs.Text.{readText}
+use Rattle.argument.specs.Argument.{readArg}
+use Rattle.arguments.specs.Arguments.{readTags}
+use Rattle.packet.specs.Packet.{readMessage, bundleBy, packetBy, elementBy, elementsBy, packetAt, readPacket}
+use Rattle.packet.specs.Heads.{startOf, sizeOf, prefixOf}
+use Rattle.decoder.specs.Framing.{Whole, udp, readFrame, tcp, framesAt, readFrames, tcpVec}
 use Rattle.decoder.specs.Limits.{decoded, forestOf, tabled}
 use Rattle.decoder.specs.declared.Decoded.{Decoded}
 use Rattle.decoder.specs.declared.Decoded.the-variants.{Packets, Waiting, Refused}
@@ -67,9 +68,10 @@ pub record Proved : Type 0 where
   pub p13 : Refuses tcp (hex (0x00000008 ∷ 0x2F610000 ∷ [])) 3
   pub p14 : Answers tcp (hex (0x00000009 ∷ 0x2F610000 ∷ [])) Waiting
 
+-- all of them hold
 pub proved : Proved
-unfolding decoded size depth snoc number bytes classOf sortOf textOf argOf readArgs messageOf bundleOf packetOf elementOf elementsOf
-    packetAt packet udp frameOf tcp framesAt frames tcpVec stored recordsOf recordOf
+unfolding decoded size depth snoc number bytes classOf sortOf readText readArg readTags startOf sizeOf prefixOf readMessage bundleBy
+    packetBy elementBy elementsBy packetAt readPacket udp readFrame tcp framesAt readFrames tcpVec stored recordsOf recordOf
 proved =
     record {
       p1 = refl;
@@ -141,9 +143,10 @@ pub record Traps : Type 0 where
   -- a late frame's 2 comes before an early one's 9
   pub t26 : decoded tcpVec 8 1 (hex (0x00000000 ∷ []) ++ (nested ++ hex (0x00000000 ∷ []))) ≡ Refused (Unreadable Empty)
 
+-- all of them hold
 pub traps : Traps
-unfolding decoded size depth snoc number bytes classOf sortOf textOf argOf readArgs messageOf bundleOf packetOf elementOf elementsOf
-    packetAt packet udp frameOf tcp framesAt frames tcpVec stored recordsOf recordOf
+unfolding decoded size depth snoc number bytes classOf sortOf readText readArg readTags startOf sizeOf prefixOf readMessage bundleBy
+    packetBy elementBy elementsBy packetAt readPacket udp readFrame tcp framesAt readFrames tcpVec stored recordsOf recordOf
 traps =
     record {
       t1 = (refl, refl);

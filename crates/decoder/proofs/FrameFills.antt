@@ -10,81 +10,80 @@ use borrow.Rule.Slice.PartMut.{midOf, putMid}
 use Rattle.refusal.specs.declared.Fault.the-variants as faults
 use Rattle.wire.proofs.Parts.{tail, length-lent}
 use Rattle.node.specs.Forest.{Forest, nil, node, size}
-use Rattle.node.specs.Records.{recordSize, stored}
-use Rattle.packet.specs.Packet.{Out, fault, one, packet}
-use Rattle.decoder.specs.Framing.{Whole, trees, waiting, refusal, Frame, tree, wait, stop, framed, frameOf, before, framesAt}
-use Rattle.decoder.specs.Framing.{frames, tcpVec}
+use Rattle.node.specs.declared.record.Item.{Item}
+use Rattle.node.specs.Records.{recordSize, mostRecords, stored, TableRoom}
+use Rattle.packet.specs.Packet.{fault, one, after, readPacket}
+use Rattle.decoder.specs.Framing.{Whole, trees, waiting, refusal, Frame, wait, read, frameWith, readFrame, before, framesAt}
+use Rattle.decoder.specs.Framing.{readFrames, tcpVec}
 use Rattle.decoder.specs.Limits.{forestOf}
 use Rattle.packet.specs.Heads.{prefixOf}
-use Rattle.fill.specs.SecondReading.{treeOf, filled, Room, Fills}
-use Rattle.decoder.specs.Readings.{framePacket, Accepted}
+use Rattle.fill.specs.CodeFill.{treeOf, reread, Fills}
+use Rattle.decoder.specs.CodeFrames.{framePacket, Accepted}
 use Rattle.packet.specs.declared.Prefix.the-variants as prefix
-use Rattle.fill.specs.declared.Filled.{Filled}
-use Rattle.fill.specs.declared.Filled.the-variants.{Wrote, Nothing}
-use Rattle.decoder.proofs.Prefixes.{prefixed, frame-prefix, FrameIn, frame-in}
+use Rattle.fill.specs.declared.Reread.{Reread}
+use Rattle.fill.specs.declared.Reread.the-variants.{Wrote, Nothing}
+use Rattle.fill.proofs.Fills.{room-after, fills-after}
+use Rattle.decoder.proofs.FrameKnot.{FrameIn, frame-in}
 use Rattle.decoder.proofs.FrameExtents.{remaining, remaining-list, remaining-none, frames-by, frames-tree}
 use Rattle.node.proofs.Stored.{completed, length-completed, completed-nil, lent-stored, completed-turn}
 
--- the second reading of a frame: its packet stands at 4
-filled-framed : (o : Out) → filled 4 o ≡ filled 0 (framePacket (framed o))
-filled-framed (fault k) = refl
-filled-framed (one k a b f u) = rw zero-add
+-- ---- one frame
 
-tree-framed : (o : Out) → treeOf (framePacket (framed o)) ≡ treeOf o
-tree-framed (fault k) = refl
-tree-framed (one k a b f u) = refl
+module _ (base : ℕ) (l rest : List ℕ) (e : prefix.Ready ≡ prefixOf l) (s : rest ≡ drop 4 l) where
+  ready-frame : framePacket (readFrame base l) ≡ after 4 (readPacket base rest 4)
+  unfolding readFrame
+  ready-frame = ap (λ x. framePacket (frameWith base l x)) (sym e) ∙ rw s
 
-module _ (base : ℕ) (l rest : List ℕ) (e : prefix.Whole ≡ prefixOf l) (s : rest ≡ drop 4 l) where
-  whole-frame : frameOf base l ≡ framed (packet base rest 4)
-  whole-frame = frame-prefix base l ∙ ap (prefixed base l) (sym e) ∙ rw s
+  -- room for a frame is room for its packet
+  pub frame-room : {i : ℕ} {T : List ℕ} → TableRoom (treeOf (framePacket (readFrame base l))) i T → TableRoom (treeOf (readPacket base rest 4)) i T
+  frame-room w = room-after 4 (readPacket base rest 4) ready-frame w
 
-  pub frame-room : {i : ℕ} {T : List ℕ} → Room (treeOf (framePacket (frameOf base l))) i T → Room (treeOf (packet base rest 4)) i T
-  frame-room {i} {T} w = subst (λ (f : Forest). Room f i T)
-      (ap (λ (x : Frame). treeOf (framePacket x)) whole-frame ∙ tree-framed (packet base rest 4)) w
-
-  pub frame-fills : {i : ℕ} {r : Filled} {T T' : List ℕ} → Fills (packet base rest 4) 4 i T r T'
-      → Fills (framePacket (frameOf base l)) 0 i T r T'
-  frame-fills {i} {r} {T} w =
-      let o = packet base rest 4 in
-      rw whole-frame (record
-      { answered = w .answered ∙ filled-framed o; table = w .table ∙ ap (λ (f : Forest). stored i f T) (sym (tree-framed o)) })
+  -- a frame is written where its packet is
+  pub frame-fills : {i : ℕ} {r : Reread} {T T' : List ℕ} → Fills (readPacket base rest 4) 4 i T r T'
+      → Fills (framePacket (readFrame base l)) 0 i T r T'
+  frame-fills w = fills-after 4 (readPacket base rest 4) ready-frame w
 
 module _ (base : ℕ) (l : List ℕ) where
-  pub waits-nothing : prefix.Waiting ≡ prefixOf l → framePacket (frameOf base l) ≡ fault faults.RunsOut
-  waits-nothing e = ap framePacket (frame-prefix base l ∙ ap (prefixed base l) (sym e))
+  -- nothing is written of a frame that waits
+  pub waits-nothing : prefix.Waiting ≡ prefixOf l → framePacket (readFrame base l) ≡ fault faults.RunsOut
+  unfolding readFrame
+  waits-nothing e = ap (λ x. framePacket (frameWith base l x)) (sym e)
 
-  pub short-nothing : prefix.RunsOut ≡ prefixOf l → framePacket (frameOf base l) ≡ fault faults.RunsOut
-  short-nothing e = ap framePacket (frame-prefix base l ∙ ap (prefixed base l) (sym e))
+  -- nothing is written of a prefix that is not all there
+  pub short-nothing : prefix.RunsOut ≡ prefixOf l → framePacket (readFrame base l) ≡ fault faults.RunsOut
+  unfolding readFrame
+  short-nothing e = ap (λ x. framePacket (frameWith base l x)) (sym e)
 
 -- ---- a list
 
 accepted-some : (msg : List ℕ) → Accepted (tcpVec msg) → 0 < length msg
-unfolding tcpVec frames framesAt frameOf
+unfolding tcpVec readFrames framesAt readFrame prefixOf
 accepted-some [] h = absurd h
 accepted-some (x ∷ msg) h = omega arith
 
-accepted-rest : (k a b : ℕ) (f : Forest) (w : Whole) → Accepted (before k a b f w) → Accepted w
-accepted-rest k a b f (trees g left) h = tt
-accepted-rest k a b f waiting h = h
-accepted-rest k a b f (refusal j) h = h
+accepted-rest : (item : Item) (f : Forest) (w : Whole) → Accepted (before item f w) → Accepted w
+accepted-rest item f (trees g left) h = tt
+accepted-rest item f waiting h = h
+accepted-rest item f (refusal j) h = h
 
-forest-before : (k a b : ℕ) (f : Forest) (w : Whole) → Accepted (before k a b f w) → forestOf (before k a b f w) ≡ node k a b f (forestOf w)
-forest-before k a b f (trees g left) h = refl
-forest-before k a b f waiting h = absurd h
-forest-before k a b f (refusal j) h = absurd h
+forest-before : (item : Item) (f : Forest) (w : Whole) → Accepted (before item f w) → forestOf (before item f w) ≡ node item f (forestOf w)
+forest-before item f (trees g left) h = refl
+forest-before item f waiting h = absurd h
+forest-before item f (refusal j) h = absurd h
 
 -- the frames of msg are written to T, which was T₀: c records have their place, and the frames from `at` on are left
 pub record Listing (msg T₀ T : List ℕ) (at c : ℕ) : Type 0 where
   pub accepted : Accepted (remaining at (drop at msg))
   pub same : length T ≡ length T₀
   pub fits : recordSize * (c + size (forestOf (remaining at (drop at msg)))) ≤ length T
-  pub low : c + size (forestOf (remaining at (drop at msg))) ≤ 65535
+  pub low : c + size (forestOf (remaining at (drop at msg))) ≤ mostRecords
   pub left : completed T c c (forestOf (remaining at (drop at msg))) ≡ stored 0 (forestOf (tcpVec msg)) T₀
 
-pub listing-start : (msg T : List ℕ) → Accepted (tcpVec msg) → Room (forestOf (tcpVec msg)) 0 T → Listing msg T T 0 0
+-- before the first frame
+pub listing-start : (msg T : List ℕ) → Accepted (tcpVec msg) → TableRoom (forestOf (tcpVec msg)) 0 T → Listing msg T T 0 0
 unfolding tcpVec
 listing-start msg T h r =
-    let e : remaining 0 msg ≡ frames 0 msg = remaining-list 0 msg (accepted-some msg h) in
+    let e : remaining 0 msg ≡ readFrames 0 msg = remaining-list 0 msg (accepted-some msg h) in
     record { accepted = rw e h; same = refl; fits = rw e (omega (arith, r .fits)); low = rw e (omega (arith, r .low)); left = rw e refl }
 
 -- nothing is left
@@ -98,54 +97,56 @@ module _ (msg T₀ T : List ℕ) (at c : ℕ) (w : Listing msg T₀ T at c) (som
   abbrev later : List ℕ
   later = midOf (recordSize * c) (length T - recordSize * c) T
 
-  here : remaining at (drop at msg) ≡ frames at (drop at msg)
+  here : remaining at (drop at msg) ≡ readFrames at (drop at msg)
   here = remaining-list at (drop at msg) (omega (arith, length-drop at msg))
 
   -- by the next frame
-  here-tree : {k a b u : ℕ} {f : Forest} → frameOf at (drop at msg) ≡ tree k a b f u
-      → remaining at (drop at msg) ≡ before k a b f (remaining (at + u) (drop (at + u) msg))
-  here-tree {k} {a} {b} {u} {f} e = here ∙ frames-tree at (drop at msg) e ∙ rw (drop-drop u at msg)
+  here-tree : {item : Item} {u : ℕ} {f : Forest} → readFrame at (drop at msg) ≡ read (one item f u)
+      → remaining at (drop at msg) ≡ before item f (remaining (at + u) (drop (at + u) msg))
+  here-tree {item} {u} {f} e = here ∙ frames-tree at (drop at msg) e ∙ rw (drop-drop u at msg)
 
-  forest-tree : {k a b u : ℕ} {f : Forest} → frameOf at (drop at msg) ≡ tree k a b f u
-      → forestOf (remaining at (drop at msg)) ≡ node k a b f (forestOf (remaining (at + u) (drop (at + u) msg)))
-  forest-tree {k} {a} {b} {u} {f} e =
+  forest-tree : {item : Item} {u : ℕ} {f : Forest} → readFrame at (drop at msg) ≡ read (one item f u)
+      → forestOf (remaining at (drop at msg)) ≡ node item f (forestOf (remaining (at + u) (drop (at + u) msg)))
+  forest-tree {item} {u} {f} e =
       ap forestOf (here-tree e)
-      ∙ forest-before k a b f (remaining (at + u) (drop (at + u) msg)) (subst Accepted (here-tree e) (w .accepted))
+      ∙ forest-before item f (remaining (at + u) (drop (at + u) msg)) (subst Accepted (here-tree e) (w .accepted))
 
-  pub next-fits : Room (treeOf (framePacket (frameOf at (drop at msg)))) c later
+  -- there is room for the next frame
+  pub next-fits : TableRoom (treeOf (framePacket (readFrame at (drop at msg)))) c later
   unfolding size
-  next-fits = by-frame (frameOf at (drop at msg)) refl
+  next-fits = by-frame (readFrame at (drop at msg)) refl
     where
-      by-frame : (x : Frame) → frameOf at (drop at msg) ≡ x → Room (treeOf (framePacket x)) c later
+      by-frame : (x : Frame) → readFrame at (drop at msg) ≡ x → TableRoom (treeOf (framePacket x)) c later
       by-frame wait e = record { fits = omega arith; low = omega (arith, w .low) }
-      by-frame (stop k) e = record { fits = omega arith; low = omega (arith, w .low) }
-      by-frame (tree k a b f u) e =
+      by-frame (read (fault k)) e = record { fits = omega arith; low = omega (arith, w .low) }
+      by-frame (read (one item f u)) e =
           record {
             fits = omega (arith, w .fits, ap size (forest-tree e), length-lent T (recordSize * c));
             low = omega
                 (arith, w .low, ap size (forest-tree e));
           }
 
-  pub next-in : {n next : ℕ} {x : Filled} {Y : List ℕ} → Fills (framePacket (frameOf at (drop at msg))) 0 c later x Y → x ≡ Wrote n next
-      → (4 ≤ next) × (at + next ≤ length msg) × (c + n ≤ 65535)
+  -- a frame that was written takes its prefix, and its records fit
+  pub next-in : {n next : ℕ} {x : Reread} {Y : List ℕ} → Fills (framePacket (readFrame at (drop at msg))) 0 c later x Y → x ≡ Wrote n next
+      → (4 ≤ next) × (at + next ≤ length msg) × (c + n ≤ mostRecords)
   unfolding size
-  next-in {n} {next} f z = by-frame (frameOf at (drop at msg)) refl (frame-in at (drop at msg)) (sym z ∙ f .answered)
+  next-in {n} {next} f z = by-frame (readFrame at (drop at msg)) refl (frame-in at (drop at msg)) (sym z ∙ f .answered)
     where
-      by-frame : (x : Frame) → frameOf at (drop at msg) ≡ x → FrameIn (length (drop at msg)) x
-          → Wrote n next ≡ filled 0 (framePacket x) → (4 ≤ next) × (at + next ≤ length msg) × (c + n ≤ 65535)
+      by-frame : (x : Frame) → readFrame at (drop at msg) ≡ x → FrameIn (length (drop at msg)) x
+          → Wrote n next ≡ reread 0 (framePacket x) → (4 ≤ next) × (at + next ≤ length msg) × (c + n ≤ mostRecords)
       by-frame wait e i h = let z : _≡_ {A = ℕ} 0 1 = cc in absurd (omega arith)
-      by-frame (stop k) e i h = let z : _≡_ {A = ℕ} 0 1 = cc in absurd (omega arith)
-      by-frame (tree k a b g u) e i h =
+      by-frame (read (fault k)) e i h = let z : _≡_ {A = ℕ} 0 1 = cc in absurd (omega arith)
+      by-frame (read (one item g u)) e i h =
           let en : n ≡ 1 + size g = cc in
           let ee : next ≡ 0 + u = cc in
           (omega arith, omega (arith, length-drop at msg), omega (arith, w .low, ap size (forest-tree e)))
 
-  listing-tree : {k a b u : ℕ} {g : Forest} {x : Filled} {Y : List ℕ} → frameOf at (drop at msg) ≡ tree k a b g u
-      → Fills (framePacket (frameOf at (drop at msg))) 0 c later x Y
+  listing-tree : {item : Item} {u : ℕ} {g : Forest} {x : Reread} {Y : List ℕ} → readFrame at (drop at msg) ≡ read (one item g u)
+      → Fills (framePacket (readFrame at (drop at msg))) 0 c later x Y
       → Listing msg T₀ (putMid (recordSize * c) (length T - recordSize * c) T Y) (at + u) (c + (1 + size g))
   unfolding size
-  listing-tree {k} {a} {b} {u} {g} {x} {Y} e f =
-      let N = node k a b g nil in
+  listing-tree {item} {u} {g} {x} {Y} e f =
+      let N = node item g nil in
       let rest = remaining (at + u) (drop (at + u) msg) in
       let put : putMid (recordSize * c) (length T - recordSize * c) T Y ≡ completed T c c N
       = lent-stored T c c N (f .table ∙ ap (λ (y : Frame). stored c (treeOf (framePacket y)) later) e) in
@@ -153,43 +154,43 @@ module _ (msg T₀ T : List ℕ) (at c : ℕ) (w : Listing msg T₀ T at c) (som
       let long : length (putMid (recordSize * c) (length T - recordSize * c) T Y) ≡ length T
       = ap length put ∙ length-completed T c c N (omega (arith, w .fits)) in
       record {
-        accepted = accepted-rest k a b g rest (subst Accepted (here-tree e) (w .accepted));
+        accepted = accepted-rest item g rest (subst Accepted (here-tree e) (w .accepted));
         same = long ∙ w .same;
         fits = omega (arith, w .fits);
         low = omega (arith, w .low);
         left =
-            completed-turn T c (1 + size g) c k a b g (forestOf rest) (omega (arith, w .fits)) refl put
+            completed-turn T c (1 + size g) c item g (forestOf rest) (omega (arith, w .fits)) refl put
             ∙ ap (λ (h : Forest). completed T c c h) (sym (forest-tree e)) ∙ w .left;
       }
 
   -- the next frame was written
-  pub listing-on : {n next : ℕ} {x : Filled} {Y : List ℕ} → Fills (framePacket (frameOf at (drop at msg))) 0 c later x Y → x ≡ Wrote n next
+  pub listing-on : {n next : ℕ} {x : Reread} {Y : List ℕ} → Fills (framePacket (readFrame at (drop at msg))) 0 c later x Y → x ≡ Wrote n next
       → Listing msg T₀ (putMid (recordSize * c) (length T - recordSize * c) T Y) (at + next) (c + n)
-  listing-on {n} {next} {x} {Y} f z = by-frame (frameOf at (drop at msg)) refl (sym z ∙ f .answered)
+  listing-on {n} {next} {x} {Y} f z = by-frame (readFrame at (drop at msg)) refl (sym z ∙ f .answered)
     where
-      by-frame : (y : Frame) → frameOf at (drop at msg) ≡ y → Wrote n next ≡ filled 0 (framePacket y)
+      by-frame : (y : Frame) → readFrame at (drop at msg) ≡ y → Wrote n next ≡ reread 0 (framePacket y)
           → Listing msg T₀ (putMid (recordSize * c) (length T - recordSize * c) T Y) (at + next) (c + n)
       by-frame wait e h = let z : _≡_ {A = ℕ} 0 1 = cc in absurd (omega arith)
-      by-frame (stop k) e h = let z : _≡_ {A = ℕ} 0 1 = cc in absurd (omega arith)
-      by-frame (tree k a b g u) e h =
+      by-frame (read (fault k)) e h = let z : _≡_ {A = ℕ} 0 1 = cc in absurd (omega arith)
+      by-frame (read (one item g u)) e h =
           let en : n ≡ 1 + size g = cc in let e0 : next ≡ 0 + u = cc in let ee : next ≡ u = e0 ∙ zero-add u in
           rw (en, ee) (listing-tree e f)
 
   -- the next frame waits
-  pub listing-waits : {x : Filled} {Y : List ℕ} → Fills (framePacket (frameOf at (drop at msg))) 0 c later x Y → x ≡ Nothing
+  pub listing-waits : {x : Reread} {Y : List ℕ} → Fills (framePacket (readFrame at (drop at msg))) 0 c later x Y → x ≡ Nothing
       → putMid (recordSize * c) (length T - recordSize * c) T Y ≡ stored 0 (forestOf (tcpVec msg)) T₀
-  listing-waits {x} {Y} f z = by-frame (frameOf at (drop at msg)) refl (sym z ∙ f .answered)
+  listing-waits {x} {Y} f z = by-frame (readFrame at (drop at msg)) refl (sym z ∙ f .answered)
     where
-      by-frame : (y : Frame) → frameOf at (drop at msg) ≡ y → Nothing ≡ filled 0 (framePacket y)
+      by-frame : (y : Frame) → readFrame at (drop at msg) ≡ y → Nothing ≡ reread 0 (framePacket y)
           → putMid (recordSize * c) (length T - recordSize * c) T Y ≡ stored 0 (forestOf (tcpVec msg)) T₀
       by-frame wait e h =
           lent-stored T c c nil (f .table ∙ ap (λ (y : Frame). stored c (treeOf (framePacket y)) later) e)
           ∙ ap (λ (y : Whole). completed T c c (forestOf y)) (sym (here ∙ frames-by at (drop at msg) e)) ∙ w .left
-      by-frame (stop k) e h = absurd (subst Accepted (here ∙ frames-by at (drop at msg) e) (w .accepted))
-      by-frame (tree k a b g u) e h = let z : _≡_ {A = ℕ} 0 1 = cc in absurd (omega arith)
+      by-frame (read (fault k)) e h = absurd (subst Accepted (here ∙ frames-by at (drop at msg) e) (w .accepted))
+      by-frame (read (one item g u)) e h = let z : _≡_ {A = ℕ} 0 1 = cc in absurd (omega arith)
 
 -- `&msg[at..]` is what is left
-pub fills-tail : {p i : ℕ} {x : Filled} {T Y : List ℕ} (msg : List ℕ) (at : ℕ)
-    → Fills (framePacket (frameOf at (take (length msg - at) (drop at msg)))) p i T x Y
-    → Fills (framePacket (frameOf at (drop at msg))) p i T x Y
+pub fills-tail : {p i : ℕ} {x : Reread} {T Y : List ℕ} (msg : List ℕ) (at : ℕ)
+    → Fills (framePacket (readFrame at (take (length msg - at) (drop at msg)))) p i T x Y
+    → Fills (framePacket (readFrame at (drop at msg))) p i T x Y
 fills-tail msg at f = rw (tail msg at) at f

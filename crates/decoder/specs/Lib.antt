@@ -1,3 +1,3 @@
 pub mod Framing
 pub mod Limits
-pub mod Readings
+pub mod CodeFrames

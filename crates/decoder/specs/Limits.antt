@@ -5,6 +5,7 @@ use Prim.Native.Nat.{ℕ}
 use lib.Dec.{leb}
 use lib.ListN.{length}
 use Rattle.refusal.specs.declared.Refusal.the-variants.{TooLong, Unreadable, TooDeep, TableFull, DepthLimit}
+use Rattle.wire.specs.Limits.{longest, deepest}
 use Rattle.node.specs.Forest.{Forest, nil, size, depth}
 use Rattle.node.specs.Records.{stored}
 use Rattle.decoder.specs.Framing.{Whole, trees, waiting, refusal}
@@ -21,7 +22,7 @@ limited capacity limit (trees f left) =
 -- what a decoder answers: 13, then 1, then what the rule gives within the limits
 unfoldable pub decoded : (List ℕ → Whole) → ℕ → ℕ → List ℕ → Decoded
 decoded rule capacity limit msg =
-    cond (leb limit 64) (cond (leb (length msg) 65535) (limited capacity limit (rule msg)) (Refused TooLong)) (Refused DepthLimit)
+    cond (leb limit deepest) (cond (leb (length msg) longest) (limited capacity limit (rule msg)) (Refused TooLong)) (Refused DepthLimit)
 
 -- the trees that an input is read as
 abbrev pub forestOf : Whole → Forest
@@ -29,7 +30,7 @@ forestOf (trees f left) = f
 forestOf waiting = nil
 forestOf (refusal k) = nil
 
--- the table after an answer: on success exactly 16 times the count are written, and a refusal or Waiting changes no byte
+-- the table after an answer: on success exactly the records of the count are written, and a refusal or Waiting changes no byte
 abbrev pub tabled : Decoded → Forest → List ℕ → List ℕ
 tabled (Packets count left) f table = stored 0 f table
 tabled Waiting f table = table

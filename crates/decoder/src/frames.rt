@@ -1,6 +1,7 @@
-// Whole inputs: what is answered, by the first reading, and the second reading of frames.
+// Whole inputs: what is answered, by the first reading, and the second reading.
 use crate::Decoded;
-use fill::Filled;
+use crate::Framing;
+use fill::Reread;
 use measure::Extent;
 use node::record;
 use packet::Prefix;
@@ -9,18 +10,18 @@ use refusal::Refusal;
 ghost use mathlib.Core.Path.{_≡_};
 ghost use Prim.Native.Nat.{ℕ, _+_, _≤_};
 ghost use lib.ListN.{length};
-ghost use Rattle.decoder.specs.Framing.{frameOf, udp, tcp, tcpVec};
+ghost use Rattle.decoder.specs.Framing.{readFrame, tcp, tcpVec, ruleOf};
 ghost use Rattle.decoder.specs.Limits.{decoded, forestOf};
-ghost use Rattle.node.specs.Records.{stored};
-ghost use Rattle.fill.specs.SecondReading.{treeOf, Room, Fills};
-ghost use Rattle.decoder.specs.Readings.{framePacket, frameExtent, totalOf, added, answered, Accepted};
+ghost use Rattle.wire.specs.Limits.{longest};
+ghost use Rattle.node.specs.Records.{stored, TableRoom};
+ghost use Rattle.fill.specs.CodeFill.{treeOf, Fills};
+ghost use Rattle.decoder.specs.CodeFrames.{framePacket, frameExtent, EndsIn, totalOf, totalOfOne, added, answered, Accepted, Fillable};
 
-// What the first reading of a frame answers; `used` counts its prefix too.
+// What the first reading of a frame answers.
 pub enum FrameExtent {
-    Tree { count: usize, used: usize },
-    Deep { used: usize },
     Waiting,
-    Refused(Fault),
+    // The packet; its end is counted from the start of the prefix.
+    Packet(Extent),
 }
 
 // What the first reading of a whole input answers.
@@ -33,43 +34,17 @@ pub enum Total {
     Refused(Fault),
 }
 
-// What `decode_udp` answers.
-pub fn answer_udp(msg: &[u8], capacity: usize, depth: usize) -> Decoded
-    ensures { λ r. ⌜ r ≡ decoded udp capacity depth (now (msg .entry)) ⌝ }
+// What a decoder answers: 13, then 1, then the first reading, and 10 last.
+pub fn answer(framing: Framing, msg: &[u8], capacity: usize, depth: usize) -> Decoded
+    ensures { λ r. ⌜ r ≡ decoded (ruleOf framing) capacity depth (now (msg .entry)) ⌝ }
 {
-    if 64 < depth {
+    if wire::DEEPEST < depth {
         return Decoded::Refused(Refusal::DepthLimit);
     }
-    if 65535 < msg.len() {
+    if wire::LONGEST < msg.len() {
         return Decoded::Refused(Refusal::TooLong);
     }
-    within(capacity, measure_udp(msg, depth))
-}
-
-// What `decode_tcp` answers.
-pub fn answer_tcp(msg: &[u8], capacity: usize, depth: usize) -> Decoded
-    ensures { λ r. ⌜ r ≡ decoded tcp capacity depth (now (msg .entry)) ⌝ }
-{
-    if 64 < depth {
-        return Decoded::Refused(Refusal::DepthLimit);
-    }
-    if 65535 < msg.len() {
-        return Decoded::Refused(Refusal::TooLong);
-    }
-    within(capacity, measure_tcp(msg, depth))
-}
-
-// What `decode_tcp_vec` answers.
-pub fn answer_tcp_vec(msg: &[u8], capacity: usize, depth: usize) -> Decoded
-    ensures { λ r. ⌜ r ≡ decoded tcpVec capacity depth (now (msg .entry)) ⌝ }
-{
-    if 64 < depth {
-        return Decoded::Refused(Refusal::DepthLimit);
-    }
-    if 65535 < msg.len() {
-        return Decoded::Refused(Refusal::TooLong);
-    }
-    within(capacity, measure_tcp_vec(msg, depth))
+    within(capacity, measure_input(framing, msg, depth))
 }
 
 // The answer to a first reading, where the table has room for `capacity` records.
@@ -89,15 +64,27 @@ fn within(capacity: usize, total: Total) -> Decoded
     }
 }
 
-// The first reading of one packet.
-fn measure_udp(msg: &[u8], depth: usize) -> Total
-    requires { ⌜ length (now msg) ≤ 65535 ⌝ }
-    ensures { λ r. ⌜ r ≡ totalOf depth (udp (now (msg .entry))) ⌝ }
+// The first reading of a whole input.
+fn measure_input(framing: Framing, msg: &[u8], depth: usize) -> Total
+    requires { ⌜ length (now msg) ≤ longest ⌝ }
+    ensures { λ r. ⌜ r ≡ totalOf depth (ruleOf framing (now (msg .entry))) ⌝ }
 {
-    match measure::measure_packet(msg, 0, depth) {
+    match framing {
+        Framing::Udp => measure_one(measure::measure_packet(msg, 0, depth), msg.len()),
+        Framing::Tcp => measure_tcp(msg, depth),
+        Framing::TcpVec => measure_tcp_vec(msg, depth),
+    }
+}
+
+// The total of one packet of `n` bytes of input.
+fn measure_one(extent: Extent, n: usize) -> Total
+    requires { ⌜ EndsIn n extent ⌝ }
+    ensures { λ r. ⌜ r ≡ totalOfOne n extent ⌝ }
+{
+    match extent {
         Extent::Tree { count, next } => Total::Trees {
             count,
-            left: msg.len() - next,
+            left: n - next,
         },
         Extent::Deep { next: _ } => Total::Deep,
         Extent::Refused(fault) => Total::Refused(fault),
@@ -106,23 +93,18 @@ fn measure_udp(msg: &[u8], depth: usize) -> Total
 
 // The first reading of one frame.
 fn measure_tcp(msg: &[u8], depth: usize) -> Total
-    requires { ⌜ length (now msg) ≤ 65535 ⌝ }
+    requires { ⌜ length (now msg) ≤ longest ⌝ }
     ensures { λ r. ⌜ r ≡ totalOf depth (tcp (now (msg .entry))) ⌝ }
 {
     match measure_frame(msg, depth) {
-        FrameExtent::Tree { count, used } => Total::Trees {
-            count,
-            left: msg.len() - used,
-        },
-        FrameExtent::Deep { used: _ } => Total::Deep,
         FrameExtent::Waiting => Total::Waiting,
-        FrameExtent::Refused(fault) => Total::Refused(fault),
+        FrameExtent::Packet(extent) => measure_one(extent, msg.len()),
     }
 }
 
 // The first reading of a list of frames. A frame that is too deep is passed over: a later one may be refused.
 fn measure_tcp_vec(msg: &[u8], depth: usize) -> Total
-    requires { ⌜ length (now msg) ≤ 65535 ⌝ }
+    requires { ⌜ length (now msg) ≤ longest ⌝ }
     ensures { λ r. ⌜ r ≡ totalOf depth (tcpVec (now (msg .entry))) ⌝ }
 {
     if msg.len() == 0 {
@@ -133,16 +115,18 @@ fn measure_tcp_vec(msg: &[u8], depth: usize) -> Total
     let mut deep = false;
     while at < msg.len() {
         match measure_frame(&msg[at..], depth) {
-            FrameExtent::Tree { count: n, used } => {
-                count += n;
-                at += used;
-            }
-            FrameExtent::Deep { used } => {
-                deep = true;
-                at += used;
-            }
             FrameExtent::Waiting => return counted(count, deep, msg.len() - at),
-            FrameExtent::Refused(fault) => return Total::Refused(fault),
+            FrameExtent::Packet(extent) => match extent {
+                Extent::Tree { count: n, next } => {
+                    count += n;
+                    at += next;
+                }
+                Extent::Deep { next } => {
+                    deep = true;
+                    at += next;
+                }
+                Extent::Refused(fault) => return Total::Refused(fault),
+            },
         }
     }
     counted(count, deep, 0)
@@ -160,38 +144,48 @@ fn counted(count: usize, deep: bool, left: usize) -> Total
 
 // The first reading of a frame: a packet from everything after the prefix.
 fn measure_frame(input: &[u8], depth: usize) -> FrameExtent
-    requires { ⌜ length (now input) ≤ 65535 ⌝ }
-    ensures { λ r. ⌜ ((base : ℕ) → r ≡ frameExtent depth (frameOf base (now (input .entry)))) ⌝ }
+    requires { ⌜ length (now input) ≤ longest ⌝ }
+    ensures { λ r. ⌜ ((base : ℕ) → r ≡ frameExtent depth (readFrame base (now (input .entry)))) ⌝ }
 {
     match packet::read_prefix(input) {
-        Prefix::Whole => match measure::measure_packet(&input[4..], 4, depth) {
-            Extent::Tree { count, next } => FrameExtent::Tree { count, used: next },
-            Extent::Deep { next } => FrameExtent::Deep { used: next },
-            Extent::Refused(fault) => FrameExtent::Refused(fault),
-        },
+        Prefix::Ready => FrameExtent::Packet(measure::measure_packet(&input[4..], 4, depth)),
         Prefix::Waiting => FrameExtent::Waiting,
-        Prefix::RunsOut => FrameExtent::Refused(Fault::RunsOut),
+        Prefix::RunsOut => FrameExtent::Packet(Extent::Refused(Fault::RunsOut)),
+    }
+}
+
+// The second reading of a whole input that is accepted, of `count` records.
+pub fn write(framing: Framing, msg: &[u8], table: &mut [u8], count: usize)
+    requires { ⌜ Fillable (ruleOf framing (now msg)) (length (now msg)) count (now table) ⌝ }
+    ensures { λ _. ⌜ now (table .exit) ≡ stored 0 (forestOf (ruleOf framing (now (msg .entry)))) (now (table .entry)) ⌝ }
+{
+    match framing {
+        Framing::Udp => fill::write_packet(msg, 0, 0, table, 0, count),
+        Framing::Tcp => {
+            decode_frame(msg, 0, table, 0);
+        }
+        Framing::TcpVec => decode_frames(msg, table),
     }
 }
 
 // The second reading of a frame, which stands at `base` of the call's input.
-pub fn decode_frame(input: &[u8], base: usize, table: &mut [u8], index: usize) -> Filled
-    requires { ⌜ base + length (now input) ≤ 65535 ⌝ }
-    requires { ⌜ Room (treeOf (framePacket (frameOf base (now input)))) index (now table) ⌝ }
-    ensures { λ r. ⌜ Fills (framePacket (frameOf base (now (input .entry)))) 0 index (now (table .entry)) r (now (table .exit)) ⌝ }
+fn decode_frame(input: &[u8], base: usize, table: &mut [u8], index: usize) -> Reread
+    requires { ⌜ base + length (now input) ≤ longest ⌝ }
+    requires { ⌜ TableRoom (treeOf (framePacket (readFrame base (now input)))) index (now table) ⌝ }
+    ensures { λ r. ⌜ Fills (framePacket (readFrame base (now (input .entry)))) 0 index (now (table .entry)) r (now (table .exit)) ⌝ }
 {
     match packet::read_prefix(input) {
-        Prefix::Whole => fill::decode_packet(&input[4..], base, 4, table, index),
-        Prefix::Waiting => Filled::Nothing,
-        Prefix::RunsOut => Filled::Nothing,
+        Prefix::Ready => fill::decode_packet(&input[4..], base, 4, table, index),
+        Prefix::Waiting => Reread::Nothing,
+        Prefix::RunsOut => Reread::Nothing,
     }
 }
 
 // The second reading of a list of frames.
-pub fn decode_frames(msg: &[u8], table: &mut [u8])
-    requires { ⌜ length (now msg) ≤ 65535 ⌝ }
+fn decode_frames(msg: &[u8], table: &mut [u8])
+    requires { ⌜ length (now msg) ≤ longest ⌝ }
     requires { ⌜ Accepted (tcpVec (now msg)) ⌝ }
-    requires { ⌜ Room (forestOf (tcpVec (now msg))) 0 (now table) ⌝ }
+    requires { ⌜ TableRoom (forestOf (tcpVec (now msg))) 0 (now table) ⌝ }
     ensures { λ _. ⌜ now (table .exit) ≡ stored 0 (forestOf (tcpVec (now (msg .entry)))) (now (table .entry)) ⌝ }
 {
     let mut at = 0;
@@ -203,11 +197,11 @@ pub fn decode_frames(msg: &[u8], table: &mut [u8])
             &mut table[record::RECORD_SIZE * count..],
             count,
         ) {
-            Filled::Wrote { count: n, next } => {
+            Reread::Wrote { count: n, next } => {
                 count += n;
                 at += next;
             }
-            Filled::Nothing => return,
+            Reread::Nothing => return,
         }
     }
 }

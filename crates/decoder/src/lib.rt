@@ -2,16 +2,25 @@
 // then, where the table has room, its records are written.
 mod frames; // frames.rt: both readings of a whole input
 
+use node::record;
 use refusal::Refusal;
 ghost use mathlib.Core.Path.{_≡_};
-ghost use Prim.Native.Nat.{_/_};
-ghost use lib.ListN.{length};
-ghost use Rattle.node.specs.Records.{recordSize};
-ghost use Rattle.decoder.specs.Framing.{udp, tcp, tcpVec};
+ghost use Rattle.node.specs.Records.{capacity};
+ghost use Rattle.decoder.specs.Framing.{udp, tcp, tcpVec, ruleOf};
 ghost use Rattle.decoder.specs.Limits.{decoded, forestOf, tabled};
 
 // Common MTU size for ethernet.
 pub const MTU: usize = 1536;
+
+// How packets stand in an input.
+pub enum Framing {
+    // One packet is all of the input.
+    Udp,
+    // The first packet of a TCP stream: a 4-byte length, and a packet from everything after it.
+    Tcp,
+    // The packets of a TCP stream, one after another, until nothing is left or one waits.
+    TcpVec,
+}
 
 // What a decoder answers.
 pub enum Decoded {
@@ -22,53 +31,48 @@ pub enum Decoded {
     Refused(Refusal),
 }
 
+// Reads `msg` by its framing, and writes the records of its packets to `table`.
+//
+// Ruled out: a record count that is invented; records left by a refusal.
+pub fn decode(framing: Framing, msg: &[u8], table: &mut [u8], depth: usize) -> Decoded
+    ensures { λ r. ⌜ r ≡ decoded (ruleOf framing) (capacity (now (table .entry))) depth (now (msg .entry)) ⌝ }
+    ensures { λ r. ⌜ now (table .exit) ≡ tabled r (forestOf (ruleOf framing (now (msg .entry)))) (now (table .entry)) ⌝ }
+{
+    let answer = frames::answer(framing, msg, record::capacity_of(table), depth);
+    match answer {
+        Decoded::Packets { count, left: _ } => frames::write(framing, msg, table, count),
+        Decoded::Waiting => {}
+        Decoded::Refused(_) => {}
+    }
+    answer
+}
+
 // Reads a packet from all of `msg`, a UDP packet, and writes its records to `table`.
 //
 // Ruled out: a bundle that ends quietly where the table is full; a byte of the table changed by a refusal.
 pub fn decode_udp(msg: &[u8], table: &mut [u8], depth: usize) -> Decoded
-    ensures { λ r. ⌜ r ≡ decoded udp (length (now (table .entry)) / recordSize) depth (now (msg .entry)) ⌝ }
+    ensures { λ r. ⌜ r ≡ decoded udp (capacity (now (table .entry))) depth (now (msg .entry)) ⌝ }
     ensures { λ r. ⌜ now (table .exit) ≡ tabled r (forestOf (udp (now (msg .entry)))) (now (table .entry)) ⌝ }
 {
-    match frames::answer_udp(msg, node::record::capacity(table), depth) {
-        Decoded::Packets { count, left } => {
-            fill::write_packet(msg, 0, 0, table, 0, count);
-            Decoded::Packets { count, left }
-        }
-        Decoded::Waiting => Decoded::Waiting,
-        Decoded::Refused(refusal) => Decoded::Refused(refusal),
-    }
+    decode(Framing::Udp, msg, table, depth)
 }
 
 // Reads the first packet of `msg`, bytes of a TCP stream: a 4-byte length, and a packet from everything after it.
 //
 // Ruled out: the packet cut at its length; Waiting by a length that is compared with what follows the prefix.
 pub fn decode_tcp(msg: &[u8], table: &mut [u8], depth: usize) -> Decoded
-    ensures { λ r. ⌜ r ≡ decoded tcp (length (now (table .entry)) / recordSize) depth (now (msg .entry)) ⌝ }
+    ensures { λ r. ⌜ r ≡ decoded tcp (capacity (now (table .entry))) depth (now (msg .entry)) ⌝ }
     ensures { λ r. ⌜ now (table .exit) ≡ tabled r (forestOf (tcp (now (msg .entry)))) (now (table .entry)) ⌝ }
 {
-    match frames::answer_tcp(msg, node::record::capacity(table), depth) {
-        Decoded::Packets { count, left } => {
-            frames::decode_frame(msg, 0, table, 0);
-            Decoded::Packets { count, left }
-        }
-        Decoded::Waiting => Decoded::Waiting,
-        Decoded::Refused(refusal) => Decoded::Refused(refusal),
-    }
+    decode(Framing::Tcp, msg, table, depth)
 }
 
 // Reads the packets of `msg`, bytes of a TCP stream, one after another, until nothing is left or one waits.
 //
 // Ruled out: the first packet repeated; 9 of an early packet where a later one is refused for any of 2 to 8.
 pub fn decode_tcp_vec(msg: &[u8], table: &mut [u8], depth: usize) -> Decoded
-    ensures { λ r. ⌜ r ≡ decoded tcpVec (length (now (table .entry)) / recordSize) depth (now (msg .entry)) ⌝ }
+    ensures { λ r. ⌜ r ≡ decoded tcpVec (capacity (now (table .entry))) depth (now (msg .entry)) ⌝ }
     ensures { λ r. ⌜ now (table .exit) ≡ tabled r (forestOf (tcpVec (now (msg .entry)))) (now (table .entry)) ⌝ }
 {
-    match frames::answer_tcp_vec(msg, node::record::capacity(table), depth) {
-        Decoded::Packets { count, left } => {
-            frames::decode_frames(msg, table);
-            Decoded::Packets { count, left }
-        }
-        Decoded::Waiting => Decoded::Waiting,
-        Decoded::Refused(refusal) => Decoded::Refused(refusal),
-    }
+    decode(Framing::TcpVec, msg, table, depth)
 }

@@ -1,2 +1,1 @@
-pub mod SecondReading
-pub mod Known
+pub mod CodeFill

@@ -1,20 +1,21 @@
 // The second reading of a packet: its records are written to the front of a table that has room for them.
 use arguments::Measured;
 use node::record;
-use packet::Sized;
+use node::record::Item;
+use packet::ElementSize;
 use packet::Start;
 use text::Text;
-use wire::be_u32;
 ghost use mathlib.Core.Path.{_≡_};
 ghost use Prim.Native.Nat.{_+_, _≤_};
 ghost use lib.ListN.{length};
-ghost use Rattle.packet.specs.Packet.{messageOf, packet, bundle, element};
-ghost use Rattle.node.specs.Records.{stored};
-ghost use Rattle.fill.specs.SecondReading.{treeOf, Room, Fills};
-ghost use Rattle.fill.specs.Known.{Known};
+ghost use Rattle.wire.specs.Limits.{longest};
+ghost use Rattle.arguments.specs.Arguments.{readArgs};
+ghost use Rattle.packet.specs.Packet.{messageWith, readMessage, readPacket, readBundle, readElement};
+ghost use Rattle.node.specs.Records.{stored, TableRoom};
+ghost use Rattle.fill.specs.CodeFill.{treeOf, Fills, Known};
 
 // What the second reading of a packet answers.
-pub enum Filled {
+pub enum Reread {
     // So many records; `next` is the position after its last byte.
     Wrote { count: usize, next: usize },
     // The packet is refused.
@@ -28,43 +29,41 @@ pub fn decode_packet(
     pos: usize,
     table: &mut [u8],
     index: usize,
-) -> Filled
-    requires { ⌜ base + pos + length (now input) ≤ 65535 ⌝ }
-    requires { ⌜ Room (treeOf (packet base (now input) pos)) index (now table) ⌝ }
-    ensures { λ r. ⌜ Fills (packet base (now (input .entry)) pos) pos index (now (table .entry)) r (now (table .exit)) ⌝ }
+) -> Reread
+    requires { ⌜ base + pos + length (now input) ≤ longest ⌝ }
+    requires { ⌜ TableRoom (treeOf (readPacket base (now input) pos)) index (now table) ⌝ }
+    ensures { λ r. ⌜ Fills (readPacket base (now (input .entry)) pos) pos index (now (table .entry)) r (now (table .exit)) ⌝ }
 {
     match packet::read_start(input, pos) {
         Start::Message { length, used } => {
-            let offset = base + pos;
+            let item = packet::message_item(base + pos, length);
             decode_message(
                 &input[used..],
                 base,
                 pos + used,
-                offset,
-                length,
+                item,
                 table,
                 index,
             )
         }
         Start::Bundle { used } => decode_bundle(&input[used..], base, pos + used, table, index),
-        Start::Refused(_) => Filled::Nothing,
+        Start::Refused(_) => Reread::Nothing,
     }
 }
 
-// What follows the address of a message, whose `n` bytes stand at `offset`. Its arguments are measured before the first
+// What follows the address of the message with these own numbers. Its arguments are measured before the first
 // record is written: in a bundle the message may be refused.
 fn decode_message(
     input: &[u8],
     base: usize,
     pos: usize,
-    offset: usize,
-    n: usize,
+    item: Item,
     table: &mut [u8],
     index: usize,
-) -> Filled
-    requires { ⌜ (base + pos + length (now input) ≤ 65535) × (offset ≤ 65535) × (n ≤ 65535) ⌝ }
-    requires { ⌜ Room (treeOf (messageOf base offset n (now input) pos)) index (now table) ⌝ }
-    ensures { λ r. ⌜ Fills (messageOf base offset n (now (input .entry)) pos) pos index (now (table .entry)) r (now (table .exit)) ⌝ }
+) -> Reread
+    requires { ⌜ base + pos + length (now input) ≤ longest ⌝ }
+    requires { ⌜ TableRoom (treeOf (readMessage base item (now input) pos)) index (now table) ⌝ }
+    ensures { λ r. ⌜ Fills (readMessage base item (now (input .entry)) pos) pos index (now (table .entry)) r (now (table .exit)) ⌝ }
 {
     match text::read_osc_string(input, pos) {
         Text::Found { length, used } => {
@@ -72,36 +71,36 @@ fn decode_message(
             let rest = &input[used..];
             match arguments::measure_osc_args(tags, rest, pos + used) {
                 Measured::Kept { count, used: data } => {
-                    let end = index + 1 + count;
-                    record::put_record(table, b'/', end as u32, offset as u32, n as u32);
-                    arguments::read_osc_args(
+                    put_message(
                         tags,
                         rest,
                         base,
                         pos + used,
-                        &mut table[record::RECORD_SIZE..],
-                        index + 1,
+                        item,
+                        table,
+                        index,
+                        1 + count,
                     );
-                    Filled::Wrote {
+                    Reread::Wrote {
                         count: 1 + count,
                         next: pos + used + data,
                     }
                 }
-                Measured::Refused(_) => Filled::Nothing,
+                Measured::Refused(_) => Reread::Nothing,
             }
         }
-        Text::Lacks(_) => Filled::Nothing,
+        Text::Lacks(_) => Reread::Nothing,
     }
 }
 
 // What follows "#bundle". The bundle's own record is written last, when its end is known.
-fn decode_bundle(input: &[u8], base: usize, pos: usize, table: &mut [u8], index: usize) -> Filled
-    requires { ⌜ base + pos + length (now input) ≤ 65535 ⌝ }
-    requires { ⌜ Room (treeOf (bundle base (now input) pos)) index (now table) ⌝ }
-    ensures { λ r. ⌜ Fills (bundle base (now (input .entry)) pos) pos index (now (table .entry)) r (now (table .exit)) ⌝ }
+fn decode_bundle(input: &[u8], base: usize, pos: usize, table: &mut [u8], index: usize) -> Reread
+    requires { ⌜ base + pos + length (now input) ≤ longest ⌝ }
+    requires { ⌜ TableRoom (treeOf (readBundle base (now input) pos)) index (now table) ⌝ }
+    ensures { λ r. ⌜ Fills (readBundle base (now (input .entry)) pos) pos index (now (table .entry)) r (now (table .exit)) ⌝ }
 {
     if input.len() < 8 {
-        return Filled::Nothing;
+        return Reread::Nothing;
     }
     let mut rest = &input[8..];
     let mut at = pos + 8;
@@ -114,20 +113,15 @@ fn decode_bundle(input: &[u8], base: usize, pos: usize, table: &mut [u8], index:
             &mut table[record::RECORD_SIZE * count..],
             index + count,
         ) {
-            Filled::Wrote { count: n, next } => {
+            Reread::Wrote { count: n, next } => {
                 count += n;
                 rest = &rest[next - at..];
                 at = next;
             }
-            Filled::Nothing => {
-                record::put_record(
-                    table,
-                    b'#',
-                    (index + count) as u32,
-                    be_u32(input, 0),
-                    be_u32(input, 4),
-                );
-                return Filled::Wrote { count, next: at };
+            Reread::Nothing => {
+                let end = index + count;
+                record::put_record(table, packet::bundle_item(input), end as u32);
+                return Reread::Wrote { count, next: at };
             }
         }
     }
@@ -140,22 +134,22 @@ fn read_bundle_element(
     pos: usize,
     table: &mut [u8],
     index: usize,
-) -> Filled
-    requires { ⌜ base + pos + length (now input) ≤ 65535 ⌝ }
-    requires { ⌜ Room (treeOf (element base (now input) pos)) index (now table) ⌝ }
-    ensures { λ r. ⌜ Fills (element base (now (input .entry)) pos) (pos + 4) index (now (table .entry)) r (now (table .exit)) ⌝ }
+) -> Reread
+    requires { ⌜ base + pos + length (now input) ≤ longest ⌝ }
+    requires { ⌜ TableRoom (treeOf (readElement base (now input) pos)) index (now table) ⌝ }
+    ensures { λ r. ⌜ Fills (readElement base (now (input .entry)) pos) (pos + 4) index (now (table .entry)) r (now (table .exit)) ⌝ }
 {
     match packet::read_size(input) {
-        Sized::Holds(size) => {
+        ElementSize::Holds(size) => {
             match decode_packet(&input[4..4 + size], base, pos + 4, table, index) {
-                Filled::Wrote { count, next: _ } => Filled::Wrote {
+                Reread::Wrote { count, next: _ } => Reread::Wrote {
                     count,
                     next: pos + 4 + size,
                 },
-                Filled::Nothing => Filled::Nothing,
+                Reread::Nothing => Reread::Nothing,
             }
         }
-        Sized::RunsOut => Filled::Nothing,
+        ElementSize::RunsOut => Reread::Nothing,
     }
 }
 
@@ -168,20 +162,19 @@ pub fn write_packet(
     index: usize,
     count: usize,
 )
-    requires { ⌜ base + pos + length (now input) ≤ 65535 ⌝ }
-    requires { ⌜ Room (treeOf (packet base (now input) pos)) index (now table) ⌝ }
-    requires { ⌜ Known (packet base (now input) pos) count ⌝ }
-    ensures { λ _. ⌜ now (table .exit) ≡ stored index (treeOf (packet base (now (input .entry)) pos)) (now (table .entry)) ⌝ }
+    requires { ⌜ base + pos + length (now input) ≤ longest ⌝ }
+    requires { ⌜ TableRoom (treeOf (readPacket base (now input) pos)) index (now table) ⌝ }
+    requires { ⌜ Known (readPacket base (now input) pos) count ⌝ }
+    ensures { λ _. ⌜ now (table .exit) ≡ stored index (treeOf (readPacket base (now (input .entry)) pos)) (now (table .entry)) ⌝ }
 {
     match packet::read_start(input, pos) {
         Start::Message { length, used } => {
-            let offset = base + pos;
+            let item = packet::message_item(base + pos, length);
             write_message(
                 &input[used..],
                 base,
                 pos + used,
-                offset,
-                length,
+                item,
                 table,
                 index,
                 count,
@@ -199,31 +192,51 @@ fn write_message(
     input: &[u8],
     base: usize,
     pos: usize,
-    offset: usize,
-    n: usize,
+    item: Item,
     table: &mut [u8],
     index: usize,
     count: usize,
 )
-    requires { ⌜ (base + pos + length (now input) ≤ 65535) × (offset ≤ 65535) × (n ≤ 65535) ⌝ }
-    requires { ⌜ Room (treeOf (messageOf base offset n (now input) pos)) index (now table) ⌝ }
-    requires { ⌜ Known (messageOf base offset n (now input) pos) count ⌝ }
-    ensures { λ _. ⌜ now (table .exit) ≡ stored index (treeOf (messageOf base offset n (now (input .entry)) pos)) (now (table .entry)) ⌝ }
+    requires { ⌜ base + pos + length (now input) ≤ longest ⌝ }
+    requires { ⌜ TableRoom (treeOf (readMessage base item (now input) pos)) index (now table) ⌝ }
+    requires { ⌜ Known (readMessage base item (now input) pos) count ⌝ }
+    ensures { λ _. ⌜ now (table .exit) ≡ stored index (treeOf (readMessage base item (now (input .entry)) pos)) (now (table .entry)) ⌝ }
 {
     match text::read_osc_string(input, pos) {
         Text::Found { length, used } => {
             let tags = packet::tags_in(&input[0..length]);
-            let end = index + count;
-            record::put_record(table, b'/', end as u32, offset as u32, n as u32);
-            arguments::read_osc_args(
+            put_message(
                 tags,
                 &input[used..],
                 base,
                 pos + used,
-                &mut table[record::RECORD_SIZE..],
-                index + 1,
+                item,
+                table,
+                index,
+                count,
             );
         }
         Text::Lacks(_) => {}
     }
+}
+
+// The records of a message that is accepted, `count` in all: its own, and after it those of its arguments.
+fn put_message(
+    tags: &[u8],
+    input: &[u8],
+    base: usize,
+    pos: usize,
+    item: Item,
+    table: &mut [u8],
+    index: usize,
+    count: usize,
+)
+    requires { ⌜ base + pos + length (now input) ≤ longest ⌝ }
+    requires { ⌜ TableRoom (treeOf (messageWith item (readArgs base (now tags) (now input) pos))) index (now table) ⌝ }
+    requires { ⌜ Known (messageWith item (readArgs base (now tags) (now input) pos)) count ⌝ }
+    ensures { λ _. ⌜ now (table .exit) ≡ stored index (treeOf (messageWith item (readArgs base (now (tags .entry)) (now (input .entry)) pos))) (now (table .entry)) ⌝ }
+{
+    record::put_record(table, item, (index + count) as u32);
+    let later = &mut table[record::RECORD_SIZE..];
+    arguments::read_osc_args(tags, input, base, pos, later, index + 1);
 }

@@ -10,17 +10,17 @@ use Rattle.refusal.specs.declared.Fault.{Fault}
 use Rattle.wire.proofs.Choices.{by-test}
 use Rattle.wire.proofs.Parts.{tail}
 use Rattle.node.specs.Forest.{level, depth}
-use Rattle.packet.specs.Packet.{Out, fault, one, Elements, upto, after, messageOf, bundleWith, filling, packet, elements}
+use Rattle.node.specs.declared.record.Item.{Item}
+use Rattle.packet.specs.Packet.{Out, fault, one, Elements, upto, after, messageItem, readMessage, bundleWith, filling, readPacket, readElements}
 use Rattle.packet.specs.Heads.{startOf, sizeOf}
-use Rattle.packet.specs.Packet.{bundle, element, usedBy}
-use Rattle.measure.specs.FirstReading.{extent, skimmed, accepted}
-use Rattle.packet.specs.declared.Start.{Start}
+use Rattle.packet.specs.Packet.{readBundle, readElement, usedBy}
+use Rattle.measure.specs.CodeMeasure.{extent, skimmed, accepted}
 use Rattle.packet.specs.declared.Start.the-variants as start
-use Rattle.packet.specs.declared.Sized.the-variants as sized
+use Rattle.packet.specs.declared.ElementSize.the-variants as sized
 use Rattle.measure.specs.declared.Extent.{Extent}
 use Rattle.measure.specs.declared.Extent.the-variants.{Tree, Deep, Refused}
 use Rattle.measure.specs.declared.Skimmed.the-variants.{Takes, Fails}
-use Rattle.packet.proofs.Fronts.{started, packet-start, held, element-size, element-runs-out}
+use Rattle.packet.proofs.Knot.{starts-message, starts-bundle, starts-refused, element-holds, element-runs-out}
 use Rattle.packet.proofs.Bundles.{bundle-short, bundle-long, ended, first-used, first-in}
 
 -- ---- packets
@@ -34,80 +34,83 @@ isTree (Refused k) = false
 extent-tree : (room p : ℕ) (o : Out) → isTree (extent room p o) ≡ accepted o
 unfolding extent
 extent-tree room p (fault k) = refl
-extent-tree room p (one k a b f u) = by-test (λ (x : Extent). isTree x ≡ true) (leb (level k (depth f)) room) (λ _. refl) (λ _. refl)
+extent-tree room p (one item f u) = by-test (λ (x : Extent). isTree x ≡ true) (leb (level (item .kind) (depth f)) room) (λ _. refl) (λ _. refl)
 
 after-accepted : (n : ℕ) (o : Out) → accepted o ≡ accepted (after n o)
 after-accepted n (fault k) = refl
-after-accepted n (one k a b f u) = refl
+after-accepted n (one item f u) = refl
 
-with-accepted : (a b : ℕ) (k : Elements) → true ≡ accepted (bundleWith a b k)
-with-accepted a b (upto f u) = refl
+with-accepted : (item : Item) (k : Elements) → true ≡ accepted (bundleWith item k)
+with-accepted item (upto f u) = refl
 
 module _ (base : ℕ) (l : List ℕ) (p : ℕ) where
-  accepted-start : {s : Start} → s ≡ startOf l p → accepted (started base l p s) ≡ accepted (packet base l p)
-  accepted-start e = ap (λ (s : Start). accepted (started base l p s)) e ∙ ap accepted (sym (packet-start base l p))
-
+  -- a message is accepted where its first reading is a tree
   pub is-message : {n used : ℕ} {r : Extent} (rest : List ℕ) → start.Message n used ≡ startOf l p → rest ≡ drop used l
-      → r ≡ extent 0 (p + used) (messageOf base (base + p) n rest (p + used)) → isTree r ≡ accepted (packet base l p)
+      → r ≡ extent 0 (p + used) (readMessage base (messageItem (base + p) n) rest (p + used)) → isTree r ≡ accepted (readPacket base l p)
   is-message {n} {used} {r} rest e s g =
-      let o = messageOf base (base + p) n (drop used l) (p + used) in
+      let o = readMessage base (messageItem (base + p) n) (drop used l) (p + used) in
       let is : r ≡ extent 0 (p + used) o = rw s at g in
-      ap isTree is ∙ extent-tree 0 (p + used) o ∙ after-accepted used o ∙ accepted-start e
+      ap isTree is ∙ extent-tree 0 (p + used) o ∙ after-accepted used o ∙ ap accepted (sym (starts-message base l p e))
 
   module _ {used : ℕ} (e : start.Bundle used ≡ startOf l p) where
-    pub is-bundle : 8 ≤ length l - used → true ≡ accepted (packet base l p)
+    -- a bundle is accepted where its time tag is there
+    pub is-bundle : 8 ≤ length l - used → true ≡ accepted (readPacket base l p)
     is-bundle h =
         let long : 8 ≤ length (drop used l) = omega (arith, length-drop used l) in
-        with-accepted _ _ (elements base (drop 8 (drop used l)) (p + used + 8))
-        ∙ ap accepted (sym (bundle-long base (drop used l) (p + used) long)) ∙ after-accepted used (bundle base (drop used l) (p + used))
-        ∙ accepted-start e
+        with-accepted _ (readElements base (drop 8 (drop used l)) (p + used + 8))
+        ∙ ap accepted (sym (bundle-long base (drop used l) (p + used) long)) ∙ after-accepted used (readBundle base (drop used l) (p + used))
+        ∙ ap accepted (sym (starts-bundle base l p e))
 
-    pub is-no-bundle : length l - used < 8 → false ≡ accepted (packet base l p)
+    -- a bundle without its time tag is refused
+    pub is-no-bundle : length l - used < 8 → false ≡ accepted (readPacket base l p)
     is-no-bundle h =
         let short : length (drop used l) < 8 = omega (arith, length-drop used l) in
-        ap accepted (sym (bundle-short base (drop used l) (p + used) short)) ∙ after-accepted used (bundle base (drop used l) (p + used))
-        ∙ accepted-start e
+        ap accepted (sym (bundle-short base (drop used l) (p + used) short)) ∙ after-accepted used (readBundle base (drop used l) (p + used))
+        ∙ ap accepted (sym (starts-bundle base l p e))
 
-  pub is-refused : {k : Fault} → start.Refused k ≡ startOf l p → false ≡ accepted (packet base l p)
-  is-refused e = accepted-start e
+  -- a packet that is refused by what it starts with
+  pub is-refused : {k : Fault} → start.Refused k ≡ startOf l p → false ≡ accepted (readPacket base l p)
+  is-refused e = ap accepted (sym (starts-refused base l p e))
 
   -- ---- elements
 
   filling-skimmed : (n : ℕ) (o : Out) → cond (accepted o) (Takes n) Fails ≡ skimmed (filling n o)
   filling-skimmed n (fault k) = refl
-  filling-skimmed n (one k a b f u) = refl
+  filling-skimmed n (one item f u) = refl
 
+  -- an element is accepted where its packet is
   pub skim-packet : {n : ℕ} {r : Bool} (part : List ℕ) → sized.Holds n ≡ sizeOf l → part ≡ take n (drop 4 l)
-      → r ≡ accepted (packet base part (p + 4)) → cond r (Takes n) Fails ≡ skimmed (element base l p)
+      → r ≡ accepted (readPacket base part (p + 4)) → cond r (Takes n) Fails ≡ skimmed (readElement base l p)
   skim-packet {n} {r} part e s g =
-      let o = packet base (take n (drop 4 l)) (p + 4) in
+      let o = readPacket base (take n (drop 4 l)) (p + 4) in
       let is : r ≡ accepted o = rw s at g in
       ap (λ (t : Bool). cond t (Takes n) Fails) is ∙ filling-skimmed n o
-      ∙ ap skimmed (ap (held base l p) e ∙ sym (element-size base l p))
+      ∙ ap skimmed (sym (element-holds base l p e))
 
-  pub skim-none : sized.RunsOut ≡ sizeOf l → Fails ≡ skimmed (element base l p)
+  -- an element that is not all there fails
+  pub skim-none : sized.RunsOut ≡ sizeOf l → Fails ≡ skimmed (readElement base l p)
   skim-none e = sym (ap skimmed (element-runs-out base l p e))
 
   -- the next element is accepted
-  pub skim-on : {n : ℕ} → Takes n ≡ skimmed (element base l p)
+  pub skim-on : {n : ℕ} → Takes n ≡ skimmed (readElement base l p)
       → (4 + n ≤ length l) ×
-      (p + usedBy (elements base l p) ≡ p + (4 + n) + usedBy (elements base (take (length l - (4 + n)) (drop (4 + n) l)) (p + (4 + n))))
-  skim-on {n} h = by-out (element base l p) refl h
+      (p + usedBy (readElements base l p) ≡ p + (4 + n) + usedBy (readElements base (take (length l - (4 + n)) (drop (4 + n) l)) (p + (4 + n))))
+  skim-on {n} h = by-out (readElement base l p) refl h
     where
-      by-out : (o : Out) → element base l p ≡ o → Takes n ≡ skimmed o
+      by-out : (o : Out) → readElement base l p ≡ o → Takes n ≡ skimmed o
           → (4 + n ≤ length l) ×
-          (p + usedBy (elements base l p) ≡ p + (4 + n) + usedBy
-          (elements base (take (length l - (4 + n)) (drop (4 + n) l)) (p + (4 + n))))
+          (p + usedBy (readElements base l p) ≡ p + (4 + n) + usedBy
+          (readElements base (take (length l - (4 + n)) (drop (4 + n) l)) (p + (4 + n))))
       by-out (fault k) e g = let z : _≡_ {A = ℕ} 0 1 = cc in absurd (omega arith)
-      by-out (one k a b f u) e g =
+      by-out (one item f u) e g =
           let eu : n ≡ u = cc in
           let w = first-in base l p e in
           rw (eu, tail l (4 + u)) (omega arith, omega (arith, first-used base l p e))
 
   -- the next one fails
-  pub skim-end : Fails ≡ skimmed (element base l p) → p ≡ p + usedBy (elements base l p)
-  skim-end h = by-out (element base l p) refl h
+  pub skim-end : Fails ≡ skimmed (readElement base l p) → p ≡ p + usedBy (readElements base l p)
+  skim-end h = by-out (readElement base l p) refl h
     where
-      by-out : (o : Out) → element base l p ≡ o → Fails ≡ skimmed o → p ≡ p + usedBy (elements base l p)
+      by-out : (o : Out) → readElement base l p ≡ o → Fails ≡ skimmed o → p ≡ p + usedBy (readElements base l p)
       by-out (fault k) e g = omega (arith, ap usedBy (ended base l p e))
-      by-out (one k a b f u) e g = let z : _≡_ {A = ℕ} 0 1 = cc in absurd (omega arith)
+      by-out (one item f u) e g = let z : _≡_ {A = ℕ} 0 1 = cc in absurd (omega arith)

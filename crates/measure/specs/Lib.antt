@@ -1,1 +1,1 @@
-pub mod FirstReading
+pub mod CodeMeasure

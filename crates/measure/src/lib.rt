@@ -1,14 +1,15 @@
 // The first reading of a packet: it writes nothing, and goes no deeper than the limit on nested bundles.
 use arguments::Measured;
-use packet::Sized;
+use packet::ElementSize;
 use packet::Start;
 use refusal::Fault;
 use text::Text;
 ghost use mathlib.Core.Path.{_≡_};
 ghost use Prim.Native.Nat.{ℕ, _+_, _≤_};
 ghost use lib.ListN.{length};
-ghost use Rattle.packet.specs.Packet.{messageOf, packet, elements, bundle, element, usedBy};
-ghost use Rattle.measure.specs.FirstReading.{extent, skimmed, accepted};
+ghost use Rattle.wire.specs.Limits.{longest};
+ghost use Rattle.packet.specs.Packet.{messageItem, readMessage, readPacket, readElements, readBundle, readElement, usedBy};
+ghost use Rattle.measure.specs.CodeMeasure.{extent, skimmed, accepted};
 
 // What the first reading of a packet answers; `next` is the position after its last byte.
 pub enum Extent {
@@ -28,8 +29,8 @@ pub enum Skimmed {
 
 // A packet at `pos`; `room` levels of bundles may be opened yet.
 pub fn measure_packet(input: &[u8], pos: usize, room: usize) -> Extent
-    requires { ⌜ pos + length (now input) ≤ 65535 ⌝ }
-    ensures { λ r. ⌜ ((base : ℕ) → r ≡ extent room pos (packet base (now (input .entry)) pos)) ⌝ }
+    requires { ⌜ pos + length (now input) ≤ longest ⌝ }
+    ensures { λ r. ⌜ ((base : ℕ) → r ≡ extent room pos (readPacket base (now (input .entry)) pos)) ⌝ }
 {
     match packet::read_start(input, pos) {
         Start::Message { length: _, used } => measure_message(&input[used..], pos + used),
@@ -40,8 +41,8 @@ pub fn measure_packet(input: &[u8], pos: usize, room: usize) -> Extent
 
 // What follows the address of a message: the type text, then the data.
 pub fn measure_message(input: &[u8], pos: usize) -> Extent
-    requires { ⌜ pos + length (now input) ≤ 65535 ⌝ }
-    ensures { λ r. ⌜ ((base offset n room : ℕ) → r ≡ extent room pos (messageOf base offset n (now (input .entry)) pos)) ⌝ }
+    requires { ⌜ pos + length (now input) ≤ longest ⌝ }
+    ensures { λ r. ⌜ ((base offset n room : ℕ) → r ≡ extent room pos (readMessage base (messageItem offset n) (now (input .entry)) pos)) ⌝ }
 {
     match text::read_osc_string(input, pos) {
         Text::Found { length, used } => {
@@ -61,8 +62,8 @@ pub fn measure_message(input: &[u8], pos: usize) -> Extent
 // What follows "#bundle". Where the limit is reached, or was passed in an element, no bundle is opened any more: the
 // elements that are left say where the bundle ends.
 fn measure_bundle(input: &[u8], pos: usize, room: usize) -> Extent
-    requires { ⌜ pos + length (now input) ≤ 65535 ⌝ }
-    ensures { λ r. ⌜ ((base : ℕ) → r ≡ extent room pos (bundle base (now (input .entry)) pos)) ⌝ }
+    requires { ⌜ pos + length (now input) ≤ longest ⌝ }
+    ensures { λ r. ⌜ ((base : ℕ) → r ≡ extent room pos (readBundle base (now (input .entry)) pos)) ⌝ }
 {
     if input.len() < 8 {
         return Extent::Refused(Fault::RunsOut);
@@ -94,11 +95,11 @@ fn measure_bundle(input: &[u8], pos: usize, room: usize) -> Extent
 
 // An element: a size and that many bytes, which hold a packet.
 fn measure_element(input: &[u8], pos: usize, room: usize) -> Extent
-    requires { ⌜ pos + length (now input) ≤ 65535 ⌝ }
-    ensures { λ r. ⌜ ((base : ℕ) → r ≡ extent room (pos + 4) (element base (now (input .entry)) pos)) ⌝ }
+    requires { ⌜ pos + length (now input) ≤ longest ⌝ }
+    ensures { λ r. ⌜ ((base : ℕ) → r ≡ extent room (pos + 4) (readElement base (now (input .entry)) pos)) ⌝ }
 {
     match packet::read_size(input) {
-        Sized::Holds(size) => match measure_packet(&input[4..4 + size], pos + 4, room) {
+        ElementSize::Holds(size) => match measure_packet(&input[4..4 + size], pos + 4, room) {
             Extent::Tree { count, next: _ } => Extent::Tree {
                 count,
                 next: pos + 4 + size,
@@ -108,14 +109,14 @@ fn measure_element(input: &[u8], pos: usize, room: usize) -> Extent
             },
             Extent::Refused(fault) => Extent::Refused(fault),
         },
-        Sized::RunsOut => Extent::Refused(Fault::RunsOut),
+        ElementSize::RunsOut => Extent::Refused(Fault::RunsOut),
     }
 }
 
 // The position after the elements that are accepted. No bundle in them is opened.
 fn skim_elements(input: &[u8], pos: usize) -> usize
-    requires { ⌜ pos + length (now input) ≤ 65535 ⌝ }
-    ensures { λ r. ⌜ ((base : ℕ) → r ≡ pos + usedBy (elements base (now (input .entry)) pos)) ⌝ }
+    requires { ⌜ pos + length (now input) ≤ longest ⌝ }
+    ensures { λ r. ⌜ ((base : ℕ) → r ≡ pos + usedBy (readElements base (now (input .entry)) pos)) ⌝ }
 {
     let mut rest = input;
     let mut at = pos;
@@ -132,24 +133,24 @@ fn skim_elements(input: &[u8], pos: usize) -> usize
 
 // Whether an element is accepted.
 fn skim_element(input: &[u8], pos: usize) -> Skimmed
-    requires { ⌜ pos + length (now input) ≤ 65535 ⌝ }
-    ensures { λ r. ⌜ ((base : ℕ) → r ≡ skimmed (element base (now (input .entry)) pos)) ⌝ }
+    requires { ⌜ pos + length (now input) ≤ longest ⌝ }
+    ensures { λ r. ⌜ ((base : ℕ) → r ≡ skimmed (readElement base (now (input .entry)) pos)) ⌝ }
 {
     match packet::read_size(input) {
-        Sized::Holds(size) => {
+        ElementSize::Holds(size) => {
             if is_packet(&input[4..4 + size], pos + 4) {
                 return Skimmed::Takes(size);
             }
             Skimmed::Fails
         }
-        Sized::RunsOut => Skimmed::Fails,
+        ElementSize::RunsOut => Skimmed::Fails,
     }
 }
 
 // Whether a packet is accepted: a bundle is, once its time tag is read.
 fn is_packet(input: &[u8], pos: usize) -> bool
-    requires { ⌜ pos + length (now input) ≤ 65535 ⌝ }
-    ensures { λ r. ⌜ ((base : ℕ) → r ≡ accepted (packet base (now (input .entry)) pos)) ⌝ }
+    requires { ⌜ pos + length (now input) ≤ longest ⌝ }
+    ensures { λ r. ⌜ ((base : ℕ) → r ≡ accepted (readPacket base (now (input .entry)) pos)) ⌝ }
 {
     match packet::read_start(input, pos) {
         Start::Message { length: _, used } => {

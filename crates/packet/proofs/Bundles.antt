@@ -7,11 +7,11 @@ use borrow.Author.Tests.{le-leb, lt-leb}
 use lib.ListN.{length, take, drop, length-drop}
 use Rattle.refusal.specs.declared.Fault.{Fault}
 use Rattle.refusal.specs.declared.Fault.the-variants.{RunsOut}
-use Rattle.wire.specs.Number.{number}
 use Rattle.wire.proofs.Parts.{tail}
 use Rattle.node.specs.Forest.{Forest, nil, node, size}
-use Rattle.packet.specs.Packet.{fault, one, Elements, upto, bundleWith, bundleOf, joined, goOn, elements}
-use Rattle.packet.specs.Packet.{bundle, element, usedBy, treesIn}
+use Rattle.node.specs.declared.record.Item.{Item}
+use Rattle.packet.specs.Packet.{fault, one, Elements, upto, bundleItem, bundleWith, bundleBy, joined, goOn, readElements}
+use Rattle.packet.specs.Packet.{readBundle, readElement, usedBy, treesIn}
 use Rattle.packet.proofs.Knot.{elements-by}
 use Rattle.packet.proofs.Within.{Within, element-in, elements-in}
 
@@ -19,63 +19,70 @@ use Rattle.packet.proofs.Within.{Within, element-in, elements-in}
 
 -- the elements of the bundle
 abbrev pub contents : ℕ → List ℕ → ℕ → Elements
-contents base l p = elements base (drop 8 l) (p + 8)
+contents base l p = readElements base (drop 8 l) (p + 8)
 
 module _ (base : ℕ) (l : List ℕ) (p : ℕ) where
-  pub bundle-short : length l < 8 → bundle base l p ≡ fault RunsOut
-  unfolding bundle bundleOf
-  bundle-short h = rw (bundleOf, lt-leb 8 (length l) h)
+  -- a bundle without its time tag
+  pub bundle-short : length l < 8 → readBundle base l p ≡ fault RunsOut
+  unfolding readBundle bundleBy
+  bundle-short h = rw (bundleBy, lt-leb 8 (length l) h)
 
-  pub bundle-long : 8 ≤ length l → bundle base l p ≡ bundleWith (number 4 l) (number 4 (drop 4 l)) (contents base l p)
-  unfolding bundle bundleOf
-  bundle-long h = rw (bundleOf, le-leb 8 (length l) h)
+  -- a bundle with its time tag
+  pub bundle-long : 8 ≤ length l → readBundle base l p ≡ bundleWith (bundleItem l) (contents base l p)
+  unfolding readBundle bundleBy
+  bundle-long h = rw (bundleBy, le-leb 8 (length l) h)
 
 -- ---- elements by the first one
 
-joined-trees : (k a b : ℕ) (f : Forest) (n : ℕ) (g : Elements) → treesIn (joined k a b f n g) ≡ node k a b f (treesIn g)
-joined-trees k a b f n (upto g u) = refl
+joined-trees : (item : Item) (f : Forest) (n : ℕ) (g : Elements) → treesIn (joined item f n g) ≡ node item f (treesIn g)
+joined-trees item f n (upto g u) = refl
 
-joined-used : (k a b : ℕ) (f : Forest) (n : ℕ) (g : Elements) → usedBy (joined k a b f n g) ≡ 4 + n + usedBy g
-joined-used k a b f n (upto g u) = refl
+joined-used : (item : Item) (f : Forest) (n : ℕ) (g : Elements) → usedBy (joined item f n g) ≡ 4 + n + usedBy g
+joined-used item f n (upto g u) = refl
 
 module _ (base : ℕ) (m : List ℕ) (q : ℕ) where
   -- an element that fails ends them
-  pub ended : {k : Fault} → element base m q ≡ fault k → elements base m q ≡ upto nil 0
-  ended e = elements-by base m q ∙ ap (goOn (λ l p. elements base l p) m q) e
+  pub ended : {k : Fault} → readElement base m q ≡ fault k → readElements base m q ≡ upto nil 0
+  ended e = elements-by base m q ∙ ap (goOn (λ l p. readElements base l p) m q) e
 
-  module _ {k a b n : ℕ} {f : Forest} (e : element base m q ≡ one k a b f n) where
+  module _ {item : Item} {n : ℕ} {f : Forest} (e : readElement base m q ≡ one item f n) where
     -- the elements after the first
     abbrev rest : Elements
-    rest = elements base (drop (4 + n) m) (q + (4 + n))
+    rest = readElements base (drop (4 + n) m) (q + (4 + n))
 
-    first-one : elements base m q ≡ joined k a b f n rest
-    first-one = elements-by base m q ∙ ap (goOn (λ l p. elements base l p) m q) e
+    first-one : readElements base m q ≡ joined item f n rest
+    first-one = elements-by base m q ∙ ap (goOn (λ l p. readElements base l p) m q) e
 
-    pub first-trees : treesIn (elements base m q) ≡ node k a b f (treesIn rest)
-    first-trees = ap treesIn first-one ∙ joined-trees k a b f n rest
+    -- the first element's tree stands before the others
+    pub first-trees : treesIn (readElements base m q) ≡ node item f (treesIn rest)
+    first-trees = ap treesIn first-one ∙ joined-trees item f n rest
 
-    pub first-used : usedBy (elements base m q) ≡ 4 + n + usedBy rest
-    first-used = ap usedBy first-one ∙ joined-used k a b f n rest
+    -- the first element takes its size and 4 bytes
+    pub first-used : usedBy (readElements base m q) ≡ 4 + n + usedBy rest
+    first-used = ap usedBy first-one ∙ joined-used item f n rest
 
-    pub first-in : Within (length m - 4) (one k a b f n)
+    -- the first element lies in what it is read from
+    pub first-in : Within (length m - 4) (one item f n)
     first-in = subst (Within (length m - 4)) e (element-in base m q)
 
-    pub first-rest : elements base (drop (q + 4 + n - q) m) (q + 4 + n) ≡ rest
+    -- what is read after the first element, counted from its end
+    pub first-rest : readElements base (drop (q + 4 + n - q) m) (q + 4 + n) ≡ rest
     first-rest = let d : q + 4 + n - q ≡ 4 + n = omega arith in let a : q + 4 + n ≡ q + (4 + n) = omega arith in rw (d, a)
 
 -- ---- counting
 
 -- the elements from m on, at q, by those after the first, which has n records and ends at `next`
 pub record Stepped (base : ℕ) (m : List ℕ) (q n next : ℕ) : Type 0 where
-  pub nodes : size (treesIn (elements base m q)) ≡ n + size (treesIn (elements base (drop (next - q) m) next))
-  pub bytes : q + usedBy (elements base m q) ≡ next + usedBy (elements base (drop (next - q) m) next)
+  pub nodes : size (treesIn (readElements base m q)) ≡ n + size (treesIn (readElements base (drop (next - q) m) next))
+  pub bytes : q + usedBy (readElements base m q) ≡ next + usedBy (readElements base (drop (next - q) m) next)
   pub low : (1 ≤ n) × (q + 4 + n ≤ next)
   pub high : next ≤ q + length m
 
-pub stepped : {k a b u : ℕ} {f : Forest} (base : ℕ) (m : List ℕ) (q : ℕ) → element base m q ≡ one k a b f u
+-- an element is one step
+pub stepped : {item : Item} {u : ℕ} {f : Forest} (base : ℕ) (m : List ℕ) (q : ℕ) → readElement base m q ≡ one item f u
     → Stepped base m q (1 + size f) (q + 4 + u)
 unfolding size
-stepped {k} {a} {b} {u} {f} base m q e =
+stepped {item} {u} {f} base m q e =
     let w = first-in base m q e in
     record {
       nodes = rw (first-rest base m q e) (ap size (first-trees base m q e));
@@ -86,12 +93,14 @@ stepped {k} {a} {b} {u} {f} base m q e =
 
 -- the bundle l at p has c records so far, and the elements from m on, at q, are left
 pub record Counted (base : ℕ) (l : List ℕ) (p : ℕ) (m : List ℕ) (q c : ℕ) : Type 0 where
-  pub count : 1 + size (treesIn (contents base l p)) ≡ c + size (treesIn (elements base m q))
-  pub used : p + 8 + usedBy (contents base l p) ≡ q + usedBy (elements base m q)
+  pub count : 1 + size (treesIn (contents base l p)) ≡ c + size (treesIn (readElements base m q))
+  pub used : p + 8 + usedBy (contents base l p) ≡ q + usedBy (readElements base m q)
 
+-- before the first element
 pub counted-start : (base : ℕ) (l : List ℕ) (p : ℕ) → Counted base l p (take (length l - 8) (drop 8 l)) (p + 8) 1
 counted-start base l p = rw (tail l 8) (record { count = refl; used = refl })
 
+-- after one element more
 pub counted-on : {n next : ℕ} (base : ℕ) (l : List ℕ) (p : ℕ) (m : List ℕ) (q c : ℕ) → Counted base l p m q c → Stepped base m q n next
     → Counted base l p (take (length m - (next - q)) (drop (next - q) m)) next (c + n)
 counted-on {n} {next} base l p m q c w s = rw (tail m (next - q)) (record { count = omega arith; used = omega arith })

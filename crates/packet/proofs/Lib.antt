@@ -1,4 +1,4 @@
+pub mod Heads
 pub mod Knot
-pub mod Fronts
 pub mod Within
 pub mod Bundles

@@ -1,37 +1,55 @@
--- What stands at the front of a packet, of an element and of a frame: the tests of Packet.antt and Framing.antt, each told by
--- itself.
-use mathlib.Core.Bool.{cond}
-use mathlib.Core.List.{List}
+-- What stands at the front of a packet, of an element of a bundle, of a type text, and of a frame of a TCP stream: document 01,
+-- "How bytes are read", rules 2, 5 and 6. A rule reads at the front of l, which stands at position p of its frame.
+use mathlib.Core.Bool.{Bool, true, false, cond}
+use mathlib.Core.List.{List, [], _∷_}
 use Prim.Native.Nat.{ℕ, _-_}
 use lib.Dec.{leb, eqb}
-use lib.ListN.{length, getD, take}
+use lib.ListN.{length, getD, take, drop}
 use Rattle.refusal.specs.declared.Fault.the-variants as fault
 use Rattle.wire.specs.Number.{number}
-use Rattle.text.specs.Text.{textOf, faultOf}
+use Rattle.utf8.specs.Lead.{leadOf}
+use Rattle.node.specs.Tags.{messageKind, bundleKind}
+use Rattle.text.specs.Text.{readText, faultOf}
 use Rattle.text.specs.declared.Text.{Text}
 use Rattle.text.specs.declared.Text.the-variants.{Found, Lacks}
-use Rattle.packet.specs.Packet.{same, bundleWord}
 use Rattle.packet.specs.declared.Start.{Start}
 use Rattle.packet.specs.declared.Start.the-variants.{Message, Bundle, Refused}
-use Rattle.packet.specs.declared.Sized.{Sized}
-use Rattle.packet.specs.declared.Sized.the-variants.{Holds, RunsOut}
+use Rattle.packet.specs.declared.ElementSize.{ElementSize}
+use Rattle.packet.specs.declared.ElementSize.the-variants.{Holds, RunsOut}
 use Rattle.packet.specs.declared.Prefix.{Prefix}
 use Rattle.packet.specs.declared.Prefix.the-variants as prefix
 
--- what the first text of a packet starts
+-- "#bundle": its first character is also the kind of a bundle
+abbrev pub bundleWord : List ℕ
+bundleWord = bundleKind ∷ 98 ∷ 117 ∷ 110 ∷ 100 ∷ 108 ∷ 101 ∷ []
+
+-- two lists of bytes are the same
+abbrev pub sameBytes : List ℕ → List ℕ → Bool
+sameBytes [] [] = true
+sameBytes [] (y ∷ m) = false
+sameBytes (x ∷ l) [] = false
+sameBytes (x ∷ l) (y ∷ m) = cond (eqb x y) (sameBytes l m) false
+
+-- the first text of a packet decides: '/'-led a message, "#bundle" a bundle, any other refusal 5
 abbrev pub startBy : List ℕ → Text → Start
 startBy l (Lacks lack) = Refused (faultOf lack)
 startBy l (Found n used) =
-    cond (eqb (getD l 0 0) 47) (Message n used) (cond (same (take n l) bundleWord) (Bundle used) (Refused fault.BadStart))
+    cond (eqb (getD l 0 0) messageKind) (Message n used) (cond (sameBytes (take n l) bundleWord) (Bundle used) (Refused fault.BadStart))
 
--- what starts at the front of l, which stands at position p (rule 2, rule 5, refusals 2 and 5)
+-- what a packet starts with; a packet of no bytes is refusal 2
 unfoldable pub startOf : List ℕ → ℕ → Start
-startOf l p = cond (eqb (length l) 0) (Refused fault.Empty) (startBy l (textOf l p))
+startOf l p = cond (eqb (length l) 0) (Refused fault.Empty) (startBy l (readText l p))
 
--- the size of an element, where that many bytes follow it (rule 5)
-unfoldable pub sizeOf : List ℕ → Sized
+-- the tags of a type text (rule 2): none of an empty one; else its first character is skipped, whatever it is and however many
+-- bytes it has
+abbrev pub tagsIn : List ℕ → List ℕ
+tagsIn [] = []
+tagsIn (x ∷ text) = drop (leadOf x) (x ∷ text)
+
+-- the size of an element (rule 5): 4 bytes, and that many bytes follow it
+unfoldable pub sizeOf : List ℕ → ElementSize
 sizeOf l = cond (leb 4 (length l)) (cond (leb (number 4 l) (length l - 4)) (Holds (number 4 l)) RunsOut) RunsOut
 
--- the length of a frame against all of the input, prefix included (rule 6)
+-- the prefix of a frame (rule 6): 4 bytes; a length greater than the whole input, prefix included, waits
 unfoldable pub prefixOf : List ℕ → Prefix
-prefixOf l = cond (leb 4 (length l)) (cond (leb (number 4 l) (length l)) prefix.Whole prefix.Waiting) prefix.RunsOut
+prefixOf l = cond (leb 4 (length l)) (cond (leb (number 4 l) (length l)) prefix.Ready prefix.Waiting) prefix.RunsOut

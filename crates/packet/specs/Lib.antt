@@ -1,2 +1,2 @@
-pub mod Packet
 pub mod Heads
+pub mod Packet

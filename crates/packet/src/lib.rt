@@ -1,4 +1,7 @@
 // What stands at the front of a packet, of an element of a bundle, and of a frame of a TCP stream.
+use node::record::Item;
+use node::tags::BUNDLE;
+use node::tags::MESSAGE;
 use refusal::Fault;
 use text::Text;
 use wire::be_u32;
@@ -6,9 +9,10 @@ ghost use mathlib.Core.Path.{_≡_};
 ghost use mathlib.Core.Bool.{true};
 ghost use Prim.Native.Nat.{_+_, _≤_};
 ghost use lib.ListN.{length};
+ghost use Rattle.wire.specs.Limits.{longest};
 ghost use Rattle.utf8.specs.Derive.{utf8};
-ghost use Rattle.packet.specs.Packet.{same, tagsIn};
-ghost use Rattle.packet.specs.Heads.{startOf, sizeOf, prefixOf};
+ghost use Rattle.packet.specs.Packet.{messageItem, bundleItem};
+ghost use Rattle.packet.specs.Heads.{sameBytes, startOf, tagsIn, sizeOf, prefixOf};
 
 // What a packet starts with; `used` bytes are the first text's.
 pub enum Start {
@@ -20,7 +24,7 @@ pub enum Start {
 }
 
 // The size of an element.
-pub enum Sized {
+pub enum ElementSize {
     // So many bytes follow the size.
     Holds(usize),
     // There are fewer.
@@ -30,7 +34,7 @@ pub enum Sized {
 // The prefix of a frame.
 pub enum Prefix {
     // The length is at most that of the input, prefix included.
-    Whole,
+    Ready,
     // The length is greater.
     Waiting,
     // There are fewer than 4 bytes.
@@ -39,7 +43,7 @@ pub enum Prefix {
 
 // Whether two lists of bytes are the same.
 fn same(a: &[u8], b: &[u8]) -> bool
-    ensures { λ r. ⌜ r ≡ same (now (a .entry)) (now (b .entry)) ⌝ }
+    ensures { λ r. ⌜ r ≡ sameBytes (now (a .entry)) (now (b .entry)) ⌝ }
 {
     if a.len() != b.len() {
         return false;
@@ -56,7 +60,7 @@ fn same(a: &[u8], b: &[u8]) -> bool
 
 // The first text of a packet decides what it is.
 pub fn read_start(input: &[u8], pos: usize) -> Start
-    requires { ⌜ pos + length (now input) ≤ 65535 ⌝ }
+    requires { ⌜ pos + length (now input) ≤ longest ⌝ }
     ensures { λ r. ⌜ r ≡ startOf (now (input .entry)) pos ⌝ }
 {
     if input.len() == 0 {
@@ -64,7 +68,7 @@ pub fn read_start(input: &[u8], pos: usize) -> Start
     }
     match text::read_osc_string(input, pos) {
         Text::Found { length, used } => {
-            if input[0] == b'/' {
+            if input[0] == MESSAGE {
                 return Start::Message { length, used };
             }
             if same(&input[0..length], b"#bundle") {
@@ -89,17 +93,17 @@ pub fn tags_in(types: &[u8]) -> &[u8]
 }
 
 // The size of an element, where that many bytes follow it.
-pub fn read_size(input: &[u8]) -> Sized
+pub fn read_size(input: &[u8]) -> ElementSize
     ensures { λ r. ⌜ r ≡ sizeOf (now (input .entry)) ⌝ }
 {
     if input.len() < 4 {
-        return Sized::RunsOut;
+        return ElementSize::RunsOut;
     }
     let size = be_u32(input, 0) as usize;
     if input.len() - 4 < size {
-        return Sized::RunsOut;
+        return ElementSize::RunsOut;
     }
-    Sized::Holds(size)
+    ElementSize::Holds(size)
 }
 
 // The length of a frame against all of the input, prefix included. It cuts nothing.
@@ -112,5 +116,29 @@ pub fn read_prefix(input: &[u8]) -> Prefix
     if input.len() < be_u32(input, 0) as usize {
         return Prefix::Waiting;
     }
-    Prefix::Whole
+    Prefix::Ready
+}
+
+// The own numbers of a message whose address of `n` bytes stands at `offset`.
+pub fn message_item(offset: usize, n: usize) -> Item
+    requires { ⌜ (offset ≤ longest) × (n ≤ longest) ⌝ }
+    ensures { λ r. ⌜ r ≡ messageItem offset n ⌝ }
+{
+    Item {
+        kind: MESSAGE,
+        a: offset as u32,
+        b: n as u32,
+    }
+}
+
+// The own numbers of a bundle, whose time tag `input` starts with.
+pub fn bundle_item(input: &[u8]) -> Item
+    requires { ⌜ 8 ≤ length (now input) ⌝ }
+    ensures { λ r. ⌜ r ≡ bundleItem (now (input .entry)) ⌝ }
+{
+    Item {
+        kind: BUNDLE,
+        a: be_u32(input, 0),
+        b: be_u32(input, 4),
+    }
 }

@@ -1,6 +1,7 @@
--- `decoder::fill`: packet, bundle and element meet their contracts. The measure is the number of bytes left; in a bundle the table,
+-- `fill`: packet, bundle and element meet their contracts. The measure is the number of bytes left; in a bundle the table,
 -- completed by what is left, is the table at the end.
-use Rattle.wire.proofs.be_u32.Reads as be-u32-reads
+use Rattle.packet.proofs.bundle_item.Reads as bundle-item-reads
+use Rattle.packet.proofs.message_item.Reads as message-item-reads
 use Rattle.fill.proofs.decode_message.Reads as decode-message-reads
 use Rattle.node.proofs.record.put_record.Reads as put-record-reads
 use Rattle.packet.proofs.read_size.Reads as read-size-reads
@@ -8,7 +9,8 @@ use Rattle.packet.proofs.read_start.Reads as read-start-reads
 use Rattle.fill.proofs.Fills.{fills-none, message-room, bundle-room, packet-fills-message, packet-fills-bundle, element-room}
 use Rattle.fill.proofs.Fills.{element-fills, contents-room, Filling, filling-start, filling-fits, filling-step, next-fits}
 use Rattle.fill.proofs.Fills.{filling-on, filling-done}
-use Rattle.packet.proofs.Fronts.{packet-refused, element-runs-out, part-4, message-start-in, bundle-start-in, size-in}
+use Rattle.packet.proofs.Heads.{part-4, message-start-in, bundle-start-in, size-in}
+use Rattle.packet.proofs.Knot.{starts-refused, element-runs-out}
 use Rattle.packet.proofs.Bundles.{bundle-short}
 use Rattle.wire.proofs.Parts.{tail}
 use lib.ListN.{length}
@@ -91,8 +93,8 @@ pub +decode-bundle+decode-packet+read-bundle-element-spec : {M : Type 1} → sta
     close μ-decode-bundle μ-decode-packet μ-read-bundle-element (λ t. decode-bundle-lts.spec (
       read-bundle-element-below t,
       read-bundle-element.Post,
-      be-u32-reads.Asked,
-      be-u32-reads.Learnt,
+      bundle-item-reads.Asked,
+      bundle-item-reads.Learnt,
       put-record-reads.Asked,
       put-record-reads.Learnt,
     )
@@ -237,45 +239,46 @@ pub +decode-bundle+decode-packet+read-bundle-element-spec : {M : Type 1} → sta
           (p6 .read-bundle-element .ensures) (p2 .n .given .1),
     ))
     (λ c. search needs)
-    (λ c. let p7 = c .before .before .before .before .before .before .before in let p9 = p7 .before .before in
-    let p12 = p9 .before .before .before in
+    (λ c. let p6 = c .before .before .before .before .before .before in let p8 = p6 .before .before in
+    let p11 = p8 .before .before .before in
     omega (
       arith,
-      filling-fits (p12 .args .base) (p12 .args .input .now) (p12 .args .pos) (p12 .args .index) (p12 .args .table .now)
-          (p7 .loop .table) (p7 .loop .rest .now) (p7 .loop .at) (p7 .loop .count) (p7 .loop .inv .2)
-          (contents-room (p12 .args .base) (p12 .args .input .now) (p12 .args .pos) (p9 .if1 .left) (p12 .pre .1 .1)),
-    ))
-    (λ c. let p7 = c .before .before .before .before .before .before .before in let p9 = p7 .before .before in
-    let p12 = p9 .before .before .before in
-    omega (
-      arith,
-      filling-fits (p12 .args .base) (p12 .args .input .now) (p12 .args .pos) (p12 .args .index) (p12 .args .table .now)
-          (p7 .loop .table) (p7 .loop .rest .now) (p7 .loop .at) (p7 .loop .count) (p7 .loop .inv .2)
-          (contents-room (p12 .args .base) (p12 .args .input .now) (p12 .args .pos) (p9 .if1 .left) (p12 .pre .1 .1)),
+      filling-fits (p11 .args .base) (p11 .args .input .now) (p11 .args .pos) (p11 .args .index) (p11 .args .table .now)
+          (p6 .loop .table) (p6 .loop .rest .now) (p6 .loop .at) (p6 .loop .count) (p6 .loop .inv .2)
+          (contents-room (p11 .args .base) (p11 .args .input .now) (p11 .args .pos) (p8 .if1 .left) (p11 .pre .1 .1)),
     ))
     (λ c κs. search needs)
-    (λ c κs. search needs)
-    (λ c κs. let p6 = c .before .before .before .before .before .before in let p9 = p6 .before .before .before in
-    let p11 = p9 .before .before in let p14 = p11 .before .before .before in
+    (λ c. let p8 = c .before .before .before .before .before .before .before .before in let p10 = p8 .before .before in
+    let p13 = p10 .before .before .before in
     omega (
       arith,
-      filling-fits (p14 .args .base) (p14 .args .input .now) (p14 .args .pos) (p14 .args .index) (p14 .args .table .now)
-          (p9 .loop .table) (p9 .loop .rest .now) (p9 .loop .at) (p9 .loop .count) (p9 .loop .inv .2)
-          (contents-room (p14 .args .base) (p14 .args .input .now) (p14 .args .pos) (p11 .if1 .left) (p14 .pre .1 .1)),
-      (p9 .loop .inv .2 .some),
-      (p6 .table .given),
+      filling-fits (p13 .args .base) (p13 .args .input .now) (p13 .args .pos) (p13 .args .index) (p13 .args .table .now)
+          (p8 .loop .table) (p8 .loop .rest .now) (p8 .loop .at) (p8 .loop .count) (p8 .loop .inv .2)
+          (contents-room (p13 .args .base) (p13 .args .input .now) (p13 .args .pos) (p10 .if1 .left) (p13 .pre .1 .1)),
+    ))
+    (λ c κs. let p5 = c .before .before .before .before .before in let p8 = p5 .before .before .before in
+    let p10 = p8 .before .before in let p13 = p10 .before .before .before in
+    omega (
+      arith,
+      filling-fits (p13 .args .base) (p13 .args .input .now) (p13 .args .pos) (p13 .args .index) (p13 .args .table .now)
+          (p8 .loop .table) (p8 .loop .rest .now) (p8 .loop .at) (p8 .loop .count) (p8 .loop .inv .2)
+          (contents-room (p13 .args .base) (p13 .args .input .now) (p13 .args .pos) (p10 .if1 .left) (p13 .pre .1 .1)),
+      (p8 .loop .inv .2 .some),
+      (p5 .table .given),
     ))
     (λ c. search needs)
-    (λ c. let p2 = c .before .before in let p3 = p2 .before in let p4 = p3 .before in let p6 = p4 .before .before in
-    let p10 = p6 .before .before .before .before in let p12 = p10 .before .before in let p14 = p12 .before .before in
-    let p17 = p14 .before .before .before in
-    filling-done (p17 .args .base) (p17 .args .input .now) (p17 .args .pos) (p17 .args .index) (p17 .args .table .now) (p12 .loop .table)
-    (p12 .loop .rest .now) (p12 .loop .at) (p12 .loop .count) (p12 .loop .inv .2)
-    (contents-room (p17 .args .base) (p17 .args .input .now) (p17 .args .pos) (p14 .if1 .left) (p17 .pre .1 .1)) (p14 .if1 .left)
-    (p10 .read-bundle-element .ensures) (p6 .enum-told .given .1) (p4 .be-u32 .ensures) (p3 .be-u322 .ensures) (p2 .put-record .ensures)))
+    (λ c. let p2 = c .before .before in let p3 = p2 .before in let p5 = p3 .before .before in
+    let p9 = p5 .before .before .before .before in let p11 = p9 .before .before in let p13 = p11 .before .before in
+    let p16 = p13 .before .before .before in
+    filling-done (p16 .args .base) (p16 .args .input .now) (p16 .args .pos) (p16 .args .index) (p16 .args .table .now) (p11 .loop .table)
+    (p11 .loop .rest .now) (p11 .loop .at) (p11 .loop .count) (p11 .loop .inv .2)
+    (contents-room (p16 .args .base) (p16 .args .input .now) (p16 .args .pos) (p13 .if1 .left) (p16 .pre .1 .1)) (p13 .if1 .left)
+    (p9 .read-bundle-element .ensures) (p5 .enum-told .given .1) (p3 .bundle-item .ensures) (p2 .put-record .ensures)))
     (λ t. decode-packet-lts.spec (
       read-start-reads.Asked,
       read-start-reads.Learnt,
+      message-item-reads.Asked,
+      message-item-reads.Learnt,
       decode-message-reads.Asked,
       decode-message-reads.Learnt,
       decode-bundle-below t,
@@ -291,35 +294,34 @@ pub +decode-bundle+decode-packet+read-bundle-element-spec : {M : Type 1} → sta
       message-start-in (p6 .args .input .now) (p6 .args .pos) (sym (c .before .length .given .1) ∙ (p3 .read-start .ensures)),
       (p6 .pre .1 .0),
     ))
-    (λ c. let p3 = c .before .before .before in let p6 = p3 .before .before .before in
-    omega (
-      arith,
-      message-start-in (p6 .args .input .now) (p6 .args .pos) (sym (c .before .length .given .1) ∙ (p3 .read-start .ensures)),
-      (p6 .pre .1 .0),
-    ))
-    (λ c. let p3 = c .before .before .before in let p6 = p3 .before .before .before in
-    omega (
-      arith,
-      message-start-in (p6 .args .input .now) (p6 .args .pos) (sym (c .before .length .given .1) ∙ (p3 .read-start .ensures)),
-      (p6 .pre .1 .0),
-    ))
-    (λ c. search needs)
+    (λ c κs. let p3 = c .before .before .before in let p6 = p3 .before .before .before in
+    let w = message-start-in (p6 .args .input .now) (p6 .args .pos) (sym (c .before .length .given .1) ∙ (p3 .read-start .ensures)) in
+    (omega (arith, p6 .pre .1 .0), omega (arith, p6 .pre .1 .0)))
     (λ c. let p2 = c .before .before in let p4 = p2 .before .before in let p7 = p4 .before .before .before in
     omega (
       arith,
       message-start-in (p7 .args .input .now) (p7 .args .pos) (sym (p2 .length .given .1) ∙ (p4 .read-start .ensures)),
       (p7 .pre .1 .0),
     ))
-    (λ c κs. let p3 = c .before .before .before in let p5 = p3 .before .before in let p8 = p5 .before .before .before in
-    let w = message-start-in (p8 .args .input .now) (p8 .args .pos) (sym (p3 .length .given .1) ∙ (p5 .read-start .ensures)) in (
-      (
-        omega (arith, (c .before .decode-message-arg .given .2), (p8 .pre .1 .0)),
-        omega (arith, (p8 .pre .1 .0)),
-        omega
-            (arith, (p8 .pre .1 .0)),
-      ),
-      message-room (p8 .args .base) (p8 .args .input .now) _ (p8 .args .pos) (sym (p3 .length .given .1)
-          ∙ (p5 .read-start .ensures)) (tail (p8 .args .input .now) (p3 .length .given .0 .1 .0)) (p8 .pre .1 .1),
+    (λ c. let p2 = c .before .before in let p4 = p2 .before .before in let p7 = p4 .before .before .before in
+    omega (
+      arith,
+      message-start-in (p7 .args .input .now) (p7 .args .pos) (sym (p2 .length .given .1) ∙ (p4 .read-start .ensures)),
+      (p7 .pre .1 .0),
+    ))
+    (λ c. search needs)
+    (λ c. let p3 = c .before .before .before in let p5 = p3 .before .before in let p8 = p5 .before .before .before in
+    omega (
+      arith,
+      message-start-in (p8 .args .input .now) (p8 .args .pos) (sym (p3 .length .given .1) ∙ (p5 .read-start .ensures)),
+      (p8 .pre .1 .0),
+    ))
+    (λ c κs. let p2 = c .before .before in let p4 = p2 .before .before in let p6 = p4 .before .before in
+    let p9 = p6 .before .before .before in
+    let w = message-start-in (p9 .args .input .now) (p9 .args .pos) (sym (p4 .length .given .1) ∙ (p6 .read-start .ensures)) in (
+      omega (arith, (c .before .decode-message-arg .given .2), (p9 .pre .1 .0)),
+      message-room (p9 .args .base) (p9 .args .input .now) _ (p9 .args .pos) (sym (p4 .length .given .1) ∙ (p6 .read-start .ensures))
+          (p2 .message-item .ensures) (tail (p9 .args .input .now) (p4 .length .given .0 .1 .0)) (p9 .pre .1 .1),
     ))
     (λ c. search needs)
     (λ c. let p3 = c .before .before .before in let p6 = p3 .before .before .before in
@@ -353,18 +355,18 @@ pub +decode-bundle+decode-packet+read-bundle-element-spec : {M : Type 1} → sta
     ))
     (λ c. search needs)
     (λ c. search needs)
-    (λ c. let p2 = c .before .before in let p6 = p2 .before .before .before .before in let p8 = p6 .before .before in
-    let p11 = p8 .before .before .before in
-    packet-fills-message (p11 .args .base) (p11 .args .input .now) _ (p11 .args .pos)
-    (sym (p6 .length .given .1) ∙ (p8 .read-start .ensures)) (tail (p11 .args .input .now) (p6 .length .given .0 .1 .0))
-    (p2 .decode-message .ensures))
+    (λ c. let p2 = c .before .before in let p5 = p2 .before .before .before in let p7 = p5 .before .before in
+    let p9 = p7 .before .before in let p12 = p9 .before .before .before in
+    packet-fills-message (p12 .args .base) (p12 .args .input .now) _ (p12 .args .pos)
+    (sym (p7 .length .given .1) ∙ (p9 .read-start .ensures)) (p5 .message-item .ensures)
+    (tail (p12 .args .input .now) (p7 .length .given .0 .1 .0)) (p2 .decode-message .ensures))
     (λ c. search needs)
     (λ c. let p2 = c .before .before in let p6 = p2 .before .before .before .before in let p8 = p6 .before .before in
     let p11 = p8 .before .before .before in
     packet-fills-bundle (p11 .args .base) (p11 .args .input .now) _ (p11 .args .pos)
     (sym (p6 .used .given .1) ∙ (p8 .read-start .ensures)) (tail (p11 .args .input .now) (p6 .used .given .0 .0))
     (p2 .decode-bundle .ensures))
-    (λ c. fills-none (packet-refused _ _ _ (sym (c .enum-told .given .1) ∙ (c .before .before .read-start .ensures)))))
+    (λ c. fills-none (starts-refused _ _ _ (sym (c .enum-told .given .1) ∙ (c .before .before .read-start .ensures)))))
     λ t. read-bundle-element-lts.spec
     (read-size-reads.Asked, read-size-reads.Learnt, decode-packet-below t, decode-packet.Post)
     (read-bundle-element-at t)

@@ -1,11 +1,12 @@
--- `decoder::measure`: packet, bundle and element meet their contracts. The measure is the number of bytes left; in a bundle what is
+-- `measure`: packet, bundle and element meet their contracts. The measure is the number of bytes left; in a bundle what is
 -- counted so far and what is left make up the whole.
 use Rattle.measure.proofs.measure_message.Reads as measure-message-reads
 use Rattle.packet.proofs.read_size.Reads as read-size-reads
 use Rattle.packet.proofs.read_start.Reads as read-start-reads
 use Rattle.measure.proofs.skim_elements.Reads as skim-elements-reads
 use Rattle.measure.proofs.Extents.{refused-is, packet-by-message, packet-by-bundle}
-use Rattle.packet.proofs.Fronts.{packet-refused, element-runs-out, part-4, message-start-in, bundle-start-in, size-in}
+use Rattle.packet.proofs.Heads.{part-4, message-start-in, bundle-start-in, size-in}
+use Rattle.packet.proofs.Knot.{starts-refused, element-runs-out}
 use Rattle.measure.proofs.Extents.{element-by-packet, bundle-deep, Going, going-start, going-on, going-deep, going-done, turned}
 use Rattle.packet.proofs.Bundles.{bundle-short, counted-in}
 use Rattle.wire.proofs.Parts.{tail}
@@ -277,4 +278,4 @@ pub +measure-bundle+measure-element+measure-packet-spec : {M : Type 1} → state
     λ base. packet-by-bundle base _ (p7 .args .input .now) _ _ (sym (p3 .used2 .given .1) ∙ (p5 .read-start .ensures))
     (tail (p7 .args .input .now) (p3 .used2 .given .0 .0)) (c .measure-bundle .ensures base))
     (λ c. λ base. refused-is _ _
-    (packet-refused base _ _ (sym (c .before .fault .given .1) ∙ (c .before .before .before .read-start .ensures))))
+    (starts-refused base _ _ (sym (c .before .fault .given .1) ∙ (c .before .before .before .read-start .ensures))))

@@ -1,8 +1,9 @@
--- `decoder::measure::measure_message` meets its contract. The extent of a message is that of its arguments, and one record more.
+-- `measure::measure_message` meets its contract. The extent of a message is that of its arguments, and one record more.
 use Rattle.measure.proofs.Extents.{refused-is, message-exit}
-use Rattle.packet.proofs.Fronts.{types-tags, args-fit}
+use Rattle.packet.proofs.Heads.{types-tags, args-fit}
 use Rattle.text.proofs.Within.{found-in}
 use Rattle.packet.proofs.Within.{types-lack}
+use Rattle.packet.specs.Packet.{messageItem}
 use Rattle.measure.specs.declared.Extent.the-variants.{Refused}
 use Rattle.arguments.proofs.Counts.{measured-within}
 use Rattle.wire.proofs.Parts.{tail}
@@ -129,7 +130,7 @@ returns-3 c =
     let p2 = c .before .before in
     let p4 = p2 .before .before in
     λ base offset n room. ap Refused (c .fault-of .ensures)
-    ∙ refused-is room _ (types-lack base offset n _ _ (sym (p2 .lack .given .1) ∙ (p4 .read-osc-string .ensures)))
+    ∙ refused-is room _ (types-lack base (messageItem offset n) _ _ (sym (p2 .lack .given .1) ∙ (p4 .read-osc-string .ensures)))
 
 pub measure-message-spec : {M : Type 1} → statement M
 measure-message-spec =

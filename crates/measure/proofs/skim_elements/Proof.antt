@@ -1,6 +1,6 @@
--- `decoder::measure::skim_elements` meets its contract. The invariant: where the elements end is counted from `at`.
+-- `measure::skim_elements` meets its contract. The invariant: where the elements end is counted from `at`.
 use Rattle.measure.proofs.Skims.{skim-on, skim-end}
-use Rattle.packet.specs.Packet.{usedBy, elements}
+use Rattle.packet.specs.Packet.{usedBy, readElements}
 use lib.ListN.{length}
 use Prim.Native.Nat.{ℕ, _+_}
 use mathlib.Core.Path.{_≡_, refl, sym, _∙_}
@@ -11,7 +11,7 @@ use Rattle.measure.proofs.skim_elements.Tie as tie
 
 abbrev Inv-loop : tie.InvT-loop
 Inv-loop input pos rest₀ at₀ rest at =
-    (at + length rest ≡ pos + length input) × ((base : ℕ) → pos + usedBy (elements base input pos) ≡ at + usedBy (elements base rest at))
+    (at + length rest ≡ pos + length input) × ((base : ℕ) → pos + usedBy (readElements base input pos) ≡ at + usedBy (readElements base rest at))
 
 abbrev μ-loop : tie.MeasureT-loop
 μ-loop input pos rest₀ at₀ rest at = length rest

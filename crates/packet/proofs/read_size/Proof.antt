@@ -1,5 +1,5 @@
--- `decoder::heads::read_size` meets its contract. Each answer is a case of `sizeOf`.
-use Rattle.packet.proofs.Fronts.{size-short, size-past, size-holds}
+-- `packet::read_size` meets its contract. Each answer is a case of `sizeOf`.
+use Rattle.packet.proofs.Heads.{size-short, size-past, size-holds}
 use borrow.Author.Needs.{needs}
 use Rattle.packet.proofs.read_size.Statement.{statement}
 use Rattle.packet.proofs.read_size.Tie as tie

@@ -1,5 +1,5 @@
--- `decoder::heads::tags_in` meets its contract. The first character of a text lies within it.
-use Rattle.packet.proofs.Fronts.{no-types, first-in, first-skipped}
+-- `packet::tags_in` meets its contract. The first character of a text lies within it.
+use Rattle.packet.proofs.Heads.{no-types, first-in, first-skipped}
 use borrow.Author.Needs.{needs}
 use Rattle.packet.proofs.tags_in.Statement.{statement}
 use Rattle.packet.proofs.tags_in.Tie as tie
@@ -11,18 +11,19 @@ sub-result : tie.Need-sub-result
 sub-result c =
     let p2 = c .before .before in
     let p4 = p2 .before .before in
-    first-in (p4 .args .types .now) (p4 .pre) (p2 .if1 .left) (c .lead .ensures)
+    first-in (p4 .args .types .now) (p2 .if1 .left) (c .lead .ensures) (p4 .pre)
 
 part-result-start : tie.Need-part-result-start
 part-result-start c =
     let p2 = c .before .before in
     let p4 = p2 .before .before in
-    first-in (p4 .args .types .now) (p4 .pre) (p2 .if1 .left) (c .lead .ensures)
+    first-in (p4 .args .types .now) (p2 .if1 .left) (c .lead .ensures) (p4 .pre)
 
 returns-2 : tie.Need-returns-2
 returns-2 c =
-    let p5 = c .before .before .before .before .before in
-    first-skipped (p5 .args .types .now) (c .before .lead .ensures)
+    let p3 = c .before .before .before in
+    let p5 = p3 .before .before in
+    first-skipped (p5 .args .types .now) (p3 .if1 .left) (c .before .lead .ensures)
 
 pub tags-in-spec : {M : Type 1} → statement M
 tags-in-spec =

@@ -1,5 +1,5 @@
--- What the first reading of a packet answers, from what `packet` says: it writes nothing. These describe code, not the document.
--- A position that is answered is the one after the last byte that was read.
+-- Describes code, and no part of the document: what the first reading of a packet answers, from what `readPacket` says. It writes
+-- nothing. A position that is answered is the one after the last byte that was read.
 use mathlib.Core.Bool.{Bool, true, false, cond}
 use Prim.Native.Nat.{ℕ, _+_}
 use lib.Dec.{leb}
@@ -14,14 +14,14 @@ use Rattle.measure.specs.declared.Skimmed.the-variants.{Takes, Fails}
 -- deep, and where it ends
 unfoldable pub extent : ℕ → ℕ → Out → Extent
 extent room p (fault k) = Refused k
-extent room p (one kind a b inside used) = cond (leb (level kind (depth inside)) room) (Tree (1 + size inside) (p + used)) (Deep (p + used))
+extent room p (one item inside used) = cond (leb (level (item .kind) (depth inside)) room) (Tree (1 + size inside) (p + used)) (Deep (p + used))
 
 -- whether an element is accepted, and its size then
 abbrev pub skimmed : Out → Skimmed
 skimmed (fault k) = Fails
-skimmed (one kind a b inside used) = Takes used
+skimmed (one item inside used) = Takes used
 
 -- whether a packet is accepted
 abbrev pub accepted : Out → Bool
 accepted (fault k) = false
-accepted (one kind a b inside used) = true
+accepted (one item inside used) = true
