@@ -121,10 +121,12 @@ pub fn put_record(out: &mut [u8], kind: u8, end: u64, a: u64, b: u64) -> usize
     }
     node::record::put_record(
         out,
-        kind,
+        node::record::Item {
+            kind,
+            a: (a % 0x1_0000_0000) as u32,
+            b: (b % 0x1_0000_0000) as u32,
+        },
         (end % 0x1_0000_0000) as u32,
-        (a % 0x1_0000_0000) as u32,
-        (b % 0x1_0000_0000) as u32,
     );
     node::record::RECORD_SIZE
 }

@@ -37,14 +37,7 @@ pub fn decode_packet(
     match packet::read_start(input, pos) {
         Start::Message { length, used } => {
             let item = packet::message_item(base + pos, length);
-            decode_message(
-                &input[used..],
-                base,
-                pos + used,
-                item,
-                table,
-                index,
-            )
+            decode_message(&input[used..], base, pos + used, item, table, index)
         }
         Start::Bundle { used } => decode_bundle(&input[used..], base, pos + used, table, index),
         Start::Refused(_) => Reread::Nothing,
@@ -71,16 +64,7 @@ fn decode_message(
             let rest = &input[used..];
             match arguments::measure_osc_args(tags, rest, pos + used) {
                 Measured::Kept { count, used: data } => {
-                    put_message(
-                        tags,
-                        rest,
-                        base,
-                        pos + used,
-                        item,
-                        table,
-                        index,
-                        1 + count,
-                    );
+                    put_message(tags, rest, base, pos + used, item, table, index, 1 + count);
                     Reread::Wrote {
                         count: 1 + count,
                         next: pos + used + data,
@@ -170,15 +154,7 @@ pub fn write_packet(
     match packet::read_start(input, pos) {
         Start::Message { length, used } => {
             let item = packet::message_item(base + pos, length);
-            write_message(
-                &input[used..],
-                base,
-                pos + used,
-                item,
-                table,
-                index,
-                count,
-            );
+            write_message(&input[used..], base, pos + used, item, table, index, count);
         }
         Start::Bundle { used } => {
             decode_bundle(&input[used..], base, pos + used, table, index);

@@ -4,7 +4,7 @@ use mathlib.Core.List.{List, [], _∷_}
 use Prim.Native.Nat.{ℕ}
 use Rattle.osc_tool.specs.declared.commands.Command.{Command}
 use Rattle.osc_tool.specs.declared.commands.Command.the-variants as command
-use Rattle.osc_tool.specs.declared.commands.Framing.the-variants.{Udp, Tcp, TcpVec}
+use Rattle.decoder.specs.declared.Framing.the-variants.{Udp, Tcp, TcpVec}
 use Rattle.osc_tool.specs.declared.commands.Framed.{Framed}
 use Rattle.osc_tool.specs.declared.commands.Framed.the-variants as framed
 

@@ -1,5 +1,6 @@
 // What the first words of a command mean.
 use crate::say;
+use decoder::Framing;
 ghost use Rattle.osc_tool.specs.Commands.{NamesCommand, NamesFraming};
 
 // The first word.
@@ -9,13 +10,6 @@ pub enum Command {
     Look,
     Help,
     Unclear,
-}
-
-// How packets stand in the bytes.
-pub enum Framing {
-    Udp,
-    Tcp,
-    TcpVec,
 }
 
 // A word read as a framing.

@@ -1,11 +1,12 @@
 // The command encode: a table and its source to the bytes of a packet.
 use crate::commands;
 use crate::commands::Framed;
-use crate::commands::Framing;
 use crate::named;
 use crate::say;
 use crate::space;
+use decoder::Framing;
 use encoder::Encoded;
+use node::record::capacity_of;
 use words::line::front;
 ghost use Rattle.encoder.specs.Outcome.{Encodes};
 ghost use Rattle.osc_tool.specs.Framings.{writingOf};
@@ -25,7 +26,7 @@ fn encoded(has_length: bool, table: &[u8], count: usize, source: &[u8], out: &mu
 // Encodes to the file that word 5 names, and says what was answered.
 fn encode_table(has_length: bool, table: &[u8], source: &[u8]) {
     let mut out = io::large_buffer();
-    match encoded(has_length, table, table.len() / 16, source, &mut out) {
+    match encoded(has_length, table, capacity_of(table), source, &mut out) {
         Encoded::Written(n) => {
             if named::write_word(5, front(&out, n)) {
                 say::written(n);

@@ -4,9 +4,9 @@ use crate::options;
 use crate::say;
 use crate::space;
 use crate::value;
-use values::look::Looked;
 use node::record;
-use node::record::Record;
+use node::record::END;
+use values::look::Looked;
 use values::value::OscType;
 use words::numeral::Numeral;
 
@@ -23,10 +23,10 @@ fn say_end(end: u32) {
 }
 
 // Says a record.
-fn say_record(index: usize, value: OscType, record: Record) {
-    say_head(index, record.kind);
+fn say_record(index: usize, value: OscType, kind: u8, end: u32) {
+    say_head(index, kind);
     value::say_value(value);
-    say_end(record.end);
+    say_end(end);
 }
 
 // Says what record `index` holds.
@@ -34,7 +34,12 @@ fn look_at(table: &[u8], index: usize) {
     match values::look::look(table, index) {
         Looked::Value(found) => {
             if index < record::capacity_of(table) {
-                say_record(index, found, record::read_record(table, index));
+                say_record(
+                    index,
+                    found,
+                    record::kind_at(table, index),
+                    record::field_at(table, index, END),
+                );
             }
         }
         Looked::Refused(refusal) => say::refused(refusal),

@@ -2,6 +2,7 @@
 use crate::say;
 use files::Got;
 use files::Stored;
+use node::record::RECORD_SIZE;
 ghost use Rattle.io.specs.Counts.{Counts};
 
 // Puts word `i`, the name of a file, at the start of `path`, and answers its length; 0 where it cannot be a name, and then
@@ -48,12 +49,12 @@ pub fn read_whole(i: usize, buf: &mut [u8]) -> Got
     }
 }
 
-// Reads a table: its records are 16 bytes each.
+// Reads a table: whole records.
 pub fn read_table(i: usize, buf: &mut [u8]) -> Got
     ensures { λ r. ⌜ Counts (r .count) (now (buf .exit)) ⌝ }
 {
     let got = read_whole(i, buf);
-    if got.count % 16 == 0 {
+    if got.count % RECORD_SIZE == 0 {
         return got;
     }
     if got.is_read {
