@@ -121,6 +121,8 @@ fn put_part(part: &[u8], out: &mut [u8]) -> usize
 
 // Puts the bytes that a word spells at the front of `out`, every byte of which is the word's filler, and says how many there are. What
 // has no room is left out. (A repeated byte is not put one by one: the interpreter's steps would not be enough.)
+//
+// Ruled out: more bytes than there is room for; parts put over each other.
 pub fn put_bytes(word: &[u8], out: &mut [u8]) -> usize
     ensures { λ r. ⌜ Put r (now (out .entry)) (now (out .exit)) ⌝ }
 {

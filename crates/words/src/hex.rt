@@ -38,6 +38,8 @@ fn paired(high: u8, low: u8) -> u8 {
 }
 
 // Puts the bytes that a word gives at the front of `out`, and says how many there are. What has no room is left out.
+//
+// Ruled out: more bytes than there is room for.
 pub fn bytes(word: &[u8], out: &mut [u8]) -> usize
     ensures { λ r. ⌜ (r ≤ length (now (out .exit))) × (length (now (out .exit)) ≡ length (now (out .entry))) ⌝ }
 {

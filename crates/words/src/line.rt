@@ -5,7 +5,7 @@ ghost use lib.ListN.{length, take};
 
 // The first `n` bytes; all where there are fewer.
 //
-// Ruled out: no bytes where there are fewer; the bytes after them.
+// Ruled out: nothing, and all of them, where there are more.
 pub fn front(bytes: &[u8], n: usize) -> &[u8]
     ensures { λ r. ⌜ now r ≡ take n (now (bytes .entry)) ⌝ }
 {
@@ -16,6 +16,8 @@ pub fn front(bytes: &[u8], n: usize) -> &[u8]
 }
 
 // Where the first `byte` from `from` on stands; the end where there is none.
+//
+// Ruled out: a place before `from`; one past the end.
 pub fn until(s: &[u8], from: usize, byte: u8) -> usize
     requires { ⌜ from ≤ length (now s) ⌝ }
     ensures { λ r. ⌜ (from ≤ r) × (r ≤ length (now (s .entry))) ⌝ }
@@ -50,7 +52,9 @@ fn next(s: &[u8], from: usize) -> usize
     end
 }
 
-// Where word `n` begins, the first being word 0.
+// Where word `n` begins, the first being word 0; the end where there are fewer.
+//
+// Ruled out: a place past the end.
 pub fn start(s: &[u8], n: usize) -> usize
     ensures { λ r. ⌜ r ≤ length (now (s .entry)) ⌝ }
 {
