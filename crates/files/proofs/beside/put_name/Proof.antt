@@ -15,7 +15,8 @@ returns c =
     record {
       count = simp length-append (omega arith);
       wrote =
-          wrote-lent _ (wrote-lent _ (p12 .copy .ensures) refl (p7 .copy2 .ensures)) (simp length-append (omega arith)) (p2 .copy3 .ensures);
+          wrote-lent _ (wrote-lent _ (p12 .copy .ensures) refl (p7 .copy2 .ensures))
+          (simp length-append (omega arith)) (p2 .copy3 .ensures);
     }
 
 pub put-name-spec : {M : Type 1} → statement M
