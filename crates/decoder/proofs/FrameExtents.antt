@@ -91,7 +91,8 @@ total-before : (limit : ℕ) (item : Item) (f : Forest) (w : Whole)
     → totalOf limit (before item f w) ≡ cond (leb (level (item .kind) (depth f)) limit) (added (1 + size f) false (totalOf limit w))
     (added 0 true (totalOf limit w))
 unfolding size depth
-total-before limit item f waiting = by-test (λ (x : Total). total.Waiting ≡ x) (leb (level (item .kind) (depth f)) limit) (λ _. refl) (λ _. refl)
+total-before limit item f waiting =
+    by-test (λ (x : Total). total.Waiting ≡ x) (leb (level (item .kind) (depth f)) limit) (λ _. refl) (λ _. refl)
 total-before limit item f (refusal j) =
     by-test (λ (x : Total). total.Refused j ≡ x) (leb (level (item .kind) (depth f)) limit) (λ _. refl) (λ _. refl)
 total-before limit item f (trees g left) =

@@ -35,7 +35,8 @@ module _ (base : ℕ) (l rest : List ℕ) (e : prefix.Ready ≡ prefixOf l) (s :
   ready-frame = ap (λ x. framePacket (frameWith base l x)) (sym e) ∙ rw s
 
   -- room for a frame is room for its packet
-  pub frame-room : {i : ℕ} {T : List ℕ} → TableRoom (treeOf (framePacket (readFrame base l))) i T → TableRoom (treeOf (readPacket base rest 4)) i T
+  pub frame-room : {i : ℕ} {T : List ℕ} → TableRoom (treeOf (framePacket (readFrame base l))) i T
+      → TableRoom (treeOf (readPacket base rest 4)) i T
   frame-room w = room-after 4 (readPacket base rest 4) ready-frame w
 
   -- a frame is written where its packet is
@@ -164,7 +165,8 @@ module _ (msg T₀ T : List ℕ) (at c : ℕ) (w : Listing msg T₀ T at c) (som
       }
 
   -- the next frame was written
-  pub listing-on : {n next : ℕ} {x : Reread} {Y : List ℕ} → Fills (framePacket (readFrame at (drop at msg))) 0 c later x Y → x ≡ Wrote n next
+  pub listing-on : {n next : ℕ} {x : Reread} {Y : List ℕ} → Fills (framePacket (readFrame at (drop at msg))) 0 c later x Y
+      → x ≡ Wrote n next
       → Listing msg T₀ (putMid (recordSize * c) (length T - recordSize * c) T Y) (at + next) (c + n)
   listing-on {n} {next} {x} {Y} f z = by-frame (readFrame at (drop at msg)) refl (sym z ∙ f .answered)
     where

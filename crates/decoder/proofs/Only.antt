@@ -25,7 +25,8 @@ module _ (msg T₀ : List ℕ) (depth : ℕ) (r s : Decoded) (T T′ : List ℕ)
       record { answer = e; table = v .table ∙ ap (λ (x : Decoded). tabled x (forestOf (rule msg)) T₀) e ∙ sym (w .table) }
 
   -- of `decode`
-  pub decode-only : (framing : Framing) → Contract (ruleOf framing) msg T₀ depth r T → Contract (ruleOf framing) msg T₀ depth s T′ → Same r s T T′
+  pub decode-only : (framing : Framing) → Contract (ruleOf framing) msg T₀ depth r T → Contract (ruleOf framing) msg T₀ depth s T′
+      → Same r s T T′
   decode-only framing = only (ruleOf framing)
 
   -- of `decode_udp`

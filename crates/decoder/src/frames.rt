@@ -15,7 +15,8 @@ ghost use Rattle.decoder.specs.Limits.{decoded, forestOf};
 ghost use Rattle.wire.specs.Limits.{longest};
 ghost use Rattle.node.specs.Records.{stored, TableRoom};
 ghost use Rattle.fill.specs.CodeFill.{treeOf, Fills};
-ghost use Rattle.decoder.specs.CodeFrames.{framePacket, frameExtent, EndsIn, totalOf, totalOfOne, added, answered, Accepted, Fillable};
+ghost use Rattle.decoder.specs.CodeFrames.{framePacket, frameExtent, EndsIn, totalOf, totalOfOne, added, answered};
+ghost use Rattle.decoder.specs.CodeFrames.{Accepted, Fillable};
 
 // What the first reading of a frame answers.
 pub enum FrameExtent {

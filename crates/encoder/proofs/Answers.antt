@@ -190,7 +190,8 @@ module _ (t : List ℕ) (count : ℕ) (source : List ℕ) {b : Bool} (d : Decide
     rooted = record { forest = root; spans = tree .spans; table = well .fits }
 
     -- its records can be summed
-    pub measurable : ((count ≤ mostRecords) × (recordSize * count ≤ length t)) × ((i : ℕ) → i < count → (i < endAt t i) × (endAt t i ≤ count))
+    pub measurable : ((count ≤ mostRecords) × (recordSize * count ≤ length t)) ×
+        ((i : ℕ) → i < count → (i < endAt t i) × (endAt t i ≤ count))
     measurable = ((well .few, well .fits), λ i h. (omega (arith, tiles-le (well .nodes i h .tiles)), well .nodes i h .within))
 
     module _ {x : Bool} (q : (F : Forest) → Spans t 0 count F → x ≡ ltb deepest (depth F)) where

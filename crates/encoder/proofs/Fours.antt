@@ -24,10 +24,12 @@ use Rattle.node.specs.declared.record.Item.{Item}
 use Rattle.wire.proofs.Choices.{by-test}
 
 -- what `encode_tcp` writes is a multiple of four bytes long
-pub prefixed-even : (source : List ℕ) (item : Item) (inside : Forest) → length (prefixed (item .kind) (writePacket source item inside)) % 4 ≡ 0
+pub prefixed-even : (source : List ℕ) (item : Item) (inside : Forest)
+    → length (prefixed (item .kind) (writePacket source item inside)) % 4 ≡ 0
 prefixed-even source item inside =
     let e = packet-even source item inside in
-    by-test (λ (bs : List ℕ). length bs % 4 ≡ 0) (eqb (item .kind) messageKind) (λ _. element-even (writePacket source item inside) e) (λ _. e)
+    by-test (λ (bs : List ℕ). length bs % 4 ≡ 0) (eqb (item .kind) messageKind) (λ _. element-even (writePacket source item inside) e)
+    (λ _. e)
 
 -- an outcome that answers a count answers a multiple of four
 abbrev Even : Outcome → Type 0
@@ -56,7 +58,8 @@ unfolding treeOutcome
 encodes-even frame h t count source out r (malformed n e) = rw e (refuse-even BadTable out)
 encodes-even frame h t count source out r (formed item inside tree e) =
     rw e
-    (cond-even (leb (depth (node item inside nil)) deepest) (bytesOutcome (frame (item .kind) (writePacket source item inside)) out) (refuse TooDeep out)
+    (cond-even (leb (depth (node item inside nil)) deepest) (bytesOutcome (frame (item .kind) (writePacket source item inside)) out)
+    (refuse TooDeep out)
     (write-even (frame (item .kind) (writePacket source item inside)) out (h source item inside))
     (refuse-even TooDeep out))
 

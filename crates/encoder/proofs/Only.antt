@@ -4,7 +4,8 @@ use mathlib.Core.List.{List}
 use Prim.Native.Nat.{ℕ}
 use Rattle.wire.proofs.Only.{one-outcome}
 use Rattle.node.specs.Forest.{nil, node}
-use Rattle.table.proofs.Theorem.{tree-formed, tree-unique}
+use Rattle.table.proofs.Spanned.{spans-unique}
+use Rattle.table.proofs.Theorem.{tree-formed}
 use Rattle.encoder.specs.Outcome.{Outcome, unframed, prefixed, treeOutcome, Encodes, malformed, formed, stringOutcome}
 
 -- a table has one tree, or none
@@ -14,7 +15,7 @@ encodes-only frame t count source out r s (malformed n e) (malformed m f) = one-
 encodes-only frame t count source out r s (malformed n e) (formed item inside tree f) = absurd (n (tree-formed tree))
 encodes-only frame t count source out r s (formed item inside tree e) (malformed n f) = absurd (n (tree-formed tree))
 encodes-only frame t count source out r s (formed item inside tree e) (formed item′ inside′ tree′ f) =
-    let u : node item inside nil ≡ node item′ inside′ nil = tree-unique t 0 count _ _ (tree .spans) (tree′ .spans) in
+    let u : node item inside nil ≡ node item′ inside′ nil = spans-unique t 0 count _ _ (tree .spans) (tree′ .spans) in
     let v : treeOutcome frame source out item inside ≡ treeOutcome frame source out item′ inside′ = cc in
     e ∙ v ∙ sym f
 

@@ -19,7 +19,8 @@ use Rattle.text.specs.declared.Text.the-variants.{Found}
 use Rattle.arguments.specs.Arguments.{Args, refused, args, readArgs}
 use Rattle.arguments.specs.CodeReadings.{measured, keptOf, ArgsRoom}
 use Rattle.arguments.specs.declared.Measured.the-variants as measure
-use Rattle.packet.specs.Packet.{Out, fault, one, Elements, upto, after, messageItem, messageWith, readMessage, bundleItem, bundleWith, filling}
+use Rattle.packet.specs.Packet.{Out, fault, one, Elements, upto, after, messageItem, messageWith, readMessage, bundleItem, bundleWith}
+use Rattle.packet.specs.Packet.{filling}
 use Rattle.packet.specs.Heads.{tagsIn}
 use Rattle.packet.specs.Packet.{readPacket, readElements, readBundle, readElement, usedBy, treesIn}
 use Rattle.packet.specs.Heads.{startOf, sizeOf}
@@ -74,7 +75,8 @@ module _ {o : Out} (n : ℕ) (o' : Out) (e : o ≡ after n o') where
 
   -- it is written in the same place
   pub fills-after : {p i : ℕ} {r : Reread} {T T' : List ℕ} → Fills o' (p + n) i T r T' → Fills o p i T r T'
-  fills-after {p} {i} {r} {T} w = record { answered = w .answered ∙ reread-after p n o' ∙ ap (reread p) (sym e); table = stored-after i T (w .table) }
+  fills-after {p} {i} {r} {T} w = record
+      { answered = w .answered ∙ reread-after p n o' ∙ ap (reread p) (sym e); table = stored-after i T (w .table) }
 
 -- ---- packets
 
@@ -97,11 +99,13 @@ module _ (base : ℕ) (l rest : List ℕ) (p : ℕ) where
     message-known k = known-after used message message-packet k
 
     -- the packet is written where its message is, and with the same answer
-    pub packet-fills-message : {i : ℕ} {r : Reread} {T T' : List ℕ} → Fills message (p + used) i T r T' → Fills (readPacket base l p) p i T r T'
+    pub packet-fills-message : {i : ℕ} {r : Reread} {T T' : List ℕ} → Fills message (p + used) i T r T'
+        → Fills (readPacket base l p) p i T r T'
     packet-fills-message w = fills-after used message message-packet w
 
     -- the packet is written where its message is
-    pub packet-stored : {T' : List ℕ} (i : ℕ) (T : List ℕ) → T' ≡ stored i (treeOf message) T → T' ≡ stored i (treeOf (readPacket base l p)) T
+    pub packet-stored : {T' : List ℕ} (i : ℕ) (T : List ℕ) → T' ≡ stored i (treeOf message) T
+        → T' ≡ stored i (treeOf (readPacket base l p)) T
     packet-stored i T w = stored-after used message message-packet i T w
 
   module _ {used : ℕ} (e : start.Bundle used ≡ startOf l p) (s : rest ≡ drop used l) where
@@ -117,7 +121,8 @@ module _ (base : ℕ) (l rest : List ℕ) (p : ℕ) where
     bundle-room w = room-after used bundle bundle-packet w
 
     -- the packet is written where its bundle is, and with the same answer
-    pub packet-fills-bundle : {i : ℕ} {r : Reread} {T T' : List ℕ} → Fills bundle (p + used) i T r T' → Fills (readPacket base l p) p i T r T'
+    pub packet-fills-bundle : {i : ℕ} {r : Reread} {T T' : List ℕ} → Fills bundle (p + used) i T r T'
+        → Fills (readPacket base l p) p i T r T'
     packet-fills-bundle w = fills-after used bundle bundle-packet w
 
 -- ---- elements
@@ -140,8 +145,10 @@ module _ {n : ℕ} (base : ℕ) (l part : List ℕ) (p : ℕ) (e : sized.Holds n
   packet-element = element-holds base l p e ∙ rw s
 
   -- room for an element is room for its packet
-  pub element-room : {i : ℕ} {T : List ℕ} → TableRoom (treeOf (readElement base l p)) i T → TableRoom (treeOf (readPacket base part (p + 4))) i T
-  element-room {i} {T} w = subst (λ (f : Forest). TableRoom f i T) (ap treeOf packet-element ∙ tree-filling n (readPacket base part (p + 4))) w
+  pub element-room : {i : ℕ} {T : List ℕ} → TableRoom (treeOf (readElement base l p)) i T
+      → TableRoom (treeOf (readPacket base part (p + 4))) i T
+  element-room {i} {T} w = subst (λ (f : Forest). TableRoom f i T)
+      (ap treeOf packet-element ∙ tree-filling n (readPacket base part (p + 4))) w
 
   -- an element is written where its packet is, and ends where the element ends
   pub element-fills : {i : ℕ} {r r' : Reread} {T T' : List ℕ} → r ≡ r' → Fills (readPacket base part (p + 4)) (p + 4) i T r T'
@@ -214,7 +221,8 @@ module _ {m used : ℕ} {tags rest : List ℕ} (base : ℕ) (item : Item) (l : L
   args-known k = known-after used given with-args k
 
   -- a message is written where its record and its arguments' are
-  pub args-stored : {T' : List ℕ} (i : ℕ) (T : List ℕ) → T' ≡ stored i (treeOf given) T → T' ≡ stored i (treeOf (readMessage base item l p)) T
+  pub args-stored : {T' : List ℕ} (i : ℕ) (T : List ℕ) → T' ≡ stored i (treeOf given) T
+      → T' ≡ stored i (treeOf (readMessage base item l p)) T
   args-stored i T w = stored-after used given with-args i T w
 
   module _ {count taken : ℕ} (g : measure.Kept count taken ≡ measured (readArgs base tags rest (p + used))) where
@@ -282,7 +290,8 @@ no-step base m q h = by-out (readElement base m q) refl h
     by-out (fault k) e g = ended base m q e
     by-out (one item f u) e g = let z : _≡_ {A = ℕ} 0 1 = cc in absurd (omega arith)
 
-with-elements : {c q : ℕ} {Z : List ℕ} (p i : ℕ) (item : Item) (T : List ℕ) (k : Elements) → c ≡ 1 + size (treesIn k) → q ≡ p + (8 + usedBy k)
+with-elements : {c q : ℕ} {Z : List ℕ} (p i : ℕ) (item : Item) (T : List ℕ) (k : Elements) → c ≡ 1 + size (treesIn k)
+    → q ≡ p + (8 + usedBy k)
     → Z ≡ stored i (node item (treesIn k) nil) T
     → Fills (bundleWith item k) p i T (Wrote c q) Z
 with-elements p i item T (upto f u) ec eq et = record { answered = rw (ec, eq); table = et }
@@ -340,7 +349,8 @@ module _ (base : ℕ) (l : List ℕ) (p i : ℕ) (T₀ T m : List ℕ) (q c : �
         same = ap length put ∙ length-completed T c (i + c) N fit ∙ w .same;
         left =
             rw (tail m (q + 4 + u - q), sum, first-rest base m q e)
-            (completed-turn T c (1 + size g) (i + c) item g (treesIn (readElements base (drop (4 + u) m) (q + (4 + u)))) (omega arith) refl put
+            (completed-turn T c (1 + size g) (i + c) item g (treesIn (readElements base (drop (4 + u) m) (q + (4 + u)))) (omega arith)
+            refl put
             ∙ ap (λ (h : Forest). completed T c (i + c) h) (sym (first-trees base m q e)) ∙ w .left);
       }
 
@@ -370,7 +380,8 @@ module _ (base : ℕ) (l : List ℕ) (p i : ℕ) (T₀ T m : List ℕ) (q c : �
       let no-size : size (treesIn (readElements base m q)) ≡ 0 = ap size flat in
       let no-use : usedBy (readElements base m q) ≡ 0 = ap usedBy none in
       let put : putMid (recordSize * c) (length T - recordSize * c) T Y ≡ completed T₀ 1 (i + 1) (treesIn (contents base l p))
-      = lent-stored T c (i + c) (treesIn (readElements base m q)) (f .table ∙ ap (λ (g : Forest). stored (i + c) g later) no-tree) ∙ w .left in
+      = lent-stored T c (i + c) (treesIn (readElements base m q)) (f .table ∙ ap (λ (g : Forest). stored (i + c) g later) no-tree)
+      ∙ w .left in
       let tab : Z ≡ stored i (node item (treesIn (contents base l p)) nil) T₀
       = completed-node T₀ i item (i + c) (treesIn (contents base l p)) (omega (arith, r .fits)) put (omega (arith, w .counted)) v in
       rw (bundle-long base l p h, ← e)

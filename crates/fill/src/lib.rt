@@ -23,6 +23,8 @@ pub enum Reread {
 }
 
 // A packet at `pos` of its frame, which stands at `base` of the call's input. Its first record has index `index`.
+//
+// Ruled out: a bundle's end that is not the index after all that it contains; bytes left in an element read as the next one.
 pub fn decode_packet(
     input: &[u8],
     base: usize,
@@ -37,14 +39,7 @@ pub fn decode_packet(
     match packet::read_start(input, pos) {
         Start::Message { length, used } => {
             let item = packet::message_item(base + pos, length);
-            decode_message(
-                &input[used..],
-                base,
-                pos + used,
-                item,
-                table,
-                index,
-            )
+            decode_message(&input[used..], base, pos + used, item, table, index)
         }
         Start::Bundle { used } => decode_bundle(&input[used..], base, pos + used, table, index),
         Start::Refused(_) => Reread::Nothing,
@@ -71,16 +66,7 @@ fn decode_message(
             let rest = &input[used..];
             match arguments::measure_osc_args(tags, rest, pos + used) {
                 Measured::Kept { count, used: data } => {
-                    put_message(
-                        tags,
-                        rest,
-                        base,
-                        pos + used,
-                        item,
-                        table,
-                        index,
-                        1 + count,
-                    );
+                    put_message(tags, rest, base, pos + used, item, table, index, 1 + count);
                     Reread::Wrote {
                         count: 1 + count,
                         next: pos + used + data,
@@ -154,6 +140,8 @@ fn read_bundle_element(
 }
 
 // A packet that was accepted, of `count` records: a message's arguments need not be measured again.
+//
+// Ruled out: a message's end one late; padding of a bundle counted from its word.
 pub fn write_packet(
     input: &[u8],
     base: usize,
@@ -170,15 +158,7 @@ pub fn write_packet(
     match packet::read_start(input, pos) {
         Start::Message { length, used } => {
             let item = packet::message_item(base + pos, length);
-            write_message(
-                &input[used..],
-                base,
-                pos + used,
-                item,
-                table,
-                index,
-                count,
-            );
+            write_message(&input[used..], base, pos + used, item, table, index, count);
         }
         Start::Bundle { used } => {
             decode_bundle(&input[used..], base, pos + used, table, index);
@@ -234,7 +214,8 @@ fn put_message(
     requires { ⌜ base + pos + length (now input) ≤ longest ⌝ }
     requires { ⌜ TableRoom (treeOf (messageWith item (readArgs base (now tags) (now input) pos))) index (now table) ⌝ }
     requires { ⌜ Known (messageWith item (readArgs base (now tags) (now input) pos)) count ⌝ }
-    ensures { λ _. ⌜ now (table .exit) ≡ stored index (treeOf (messageWith item (readArgs base (now (tags .entry)) (now (input .entry)) pos))) (now (table .entry)) ⌝ }
+    ensures { λ _. ⌜ now (table .exit)
+        ≡ stored index (treeOf (messageWith item (readArgs base (now (tags .entry)) (now (input .entry)) pos))) (now (table .entry)) ⌝ }
 {
     record::put_record(table, item, (index + count) as u32);
     let later = &mut table[record::RECORD_SIZE..];

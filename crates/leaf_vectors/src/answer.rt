@@ -1,20 +1,24 @@
 // What the leaves answer to a question.
-use crate::hex;
-use crate::hex::put_bytes;
 use crate::question;
 use crate::question::Question;
 use crate::value::put_value;
-use crate::words;
-use crate::words::Space;
-use crate::words::front;
-use crate::written::put;
-use crate::written::put_number;
+use node::record;
+use node::record::END;
+use node::record::Item;
 use refusal::Refusal;
 use text::Lack;
 use text::Text;
 use values::look::Looked;
 use values::value::OscType;
 use wire::Padded;
+use words::hex;
+use words::hex::put_bytes;
+use words::line;
+use words::line::front;
+use words::numeral;
+use words::written::Space;
+use words::written::put;
+use words::written::put_number;
 
 // The largest number of a field.
 const MOST: u64 = 0xffff_ffff;
@@ -115,19 +119,25 @@ fn text_answer(out: &mut Space, pos: u64, bytes: &[u8]) -> usize {
 }
 
 // Whether the record at the front of a table has these fields.
-fn is_record(table: &[u8], kind: u8, end: u32, a: u32, b: u32) -> bool {
-    if node::record::capacity(table) == 0 {
+fn is_record(table: &[u8], item: Item, end: u32) -> bool {
+    if record::capacity_of(table) == 0 {
         return false;
     }
-    let found = node::record::read_record(table, 0);
-    found.kind == kind && found.zeros == 0 && found.end == end && found.a == a && found.b == b
+    let found = record::item_at(table, 0);
+    if record::zeros_at(table, 0) != 0 {
+        return false;
+    }
+    if record::field_at(table, 0, END) != end {
+        return false;
+    }
+    found.kind == item.kind && found.a == item.a && found.b == item.b
 }
 
 // The bytes of a record, where reading them gives its fields back. What stood there before is not 0.
-fn put_record(out: &mut Space, kind: u8, end: u32, a: u32, b: u32) -> usize {
-    let mut table = [0xffu8; 16];
-    node::record::put_record(&mut table, kind, end, a, b);
-    if is_record(&table, kind, end, a, b) {
+fn put_record(out: &mut Space, item: Item, end: u32) -> usize {
+    let mut table = [0xffu8; record::RECORD_SIZE];
+    record::put_record(&mut table, item, end);
+    if is_record(&table, item, end) {
         return put_bytes(out, 0, &table);
     }
     put(out, 0, b" read otherwise")
@@ -147,7 +157,15 @@ fn record_answer(out: &mut Space, kind: u64, end: u64, a: u64, b: u64) -> usize 
     if MOST < b {
         return put_out_of_range(out);
     }
-    put_record(out, kind as u8, end as u32, a as u32, b as u32)
+    put_record(
+        out,
+        Item {
+            kind: kind as u8,
+            a: a as u32,
+            b: b as u32,
+        },
+        end as u32,
+    )
 }
 
 // A record of a table as a value.
@@ -183,7 +201,11 @@ fn name_answer<'a>(
     }
     put_text(
         out,
-        values::value::value_of(kind as u8, a as u32, b as u32),
+        values::value::value_of(Item {
+            kind: kind as u8,
+            a: a as u32,
+            b: b as u32,
+        }),
         packet,
         label,
     )
@@ -207,14 +229,14 @@ pub fn answer(question: Question, asked: &[u8], out: &mut Space) -> usize {
     let numbers = question::numbers(question);
     let mut first = [0u8; 256];
     let mut second = [0u8; 256];
-    let n = hex::bytes(words::word(asked, numbers + 1), &mut first);
-    let m = hex::bytes(words::word(asked, numbers + 2), &mut second);
-    let x = words::number(asked, 1);
-    let y = words::number(asked, 2);
-    let z = words::number(asked, 3);
+    let n = hex::bytes(line::word(asked, numbers + 1), &mut first);
+    let m = hex::bytes(line::word(asked, numbers + 2), &mut second);
+    let x = numeral::number(asked, 1);
+    let y = numeral::number(asked, 2);
+    let z = numeral::number(asked, 3);
     match question {
         Question::Pad => pad_answer(out, x),
-        Question::Record => record_answer(out, x, y, z, words::number(asked, 4)),
+        Question::Record => record_answer(out, x, y, z, numeral::number(asked, 4)),
         Question::Name => name_answer(out, x, y, z, front(&first, n), front(&second, m)),
         _ => bytes_answer(out, question, x, front(&first, n)),
     }

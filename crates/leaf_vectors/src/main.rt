@@ -1,13 +1,12 @@
 // Runs the leaves on vectors from outside and says which answers differ. Standard input has one vector to a line,
 // `QUESTION = ANSWER`; an empty line, and one that begins with '#', has none.
-mod words; // words.rt: a line cut into words, and a word read as a number
-mod hex; // hex.rt: bytes as hexadecimal digits, read and written
-mod written; // written.rt: an answer as text
 mod question; // question.rt: what a line asks
 mod answer; // answer.rt: what the leaves answer
 mod value; // value.rt: a value as text
 
 use question::Question;
+use words::line;
+use words::written::filled;
 ghost use Prim.Native.Nat.{_<_};
 
 // The tally has for each question how many vectors there are, and, this much further, how many of them differ.
@@ -59,17 +58,17 @@ fn is_comment(line: &[u8]) -> bool {
 
 // Asks one line's question, and compares the answer with the one that stands there.
 fn vector(line: &[u8], number: u64, tally: &mut [u64; 20]) {
-    let equals = words::until(line, 0, b'=');
-    let asked = words::first(line, equals);
-    let expected = words::after(line, equals);
+    let equals = line::until(line, 0, b'=');
+    let asked = line::front(line, equals);
+    let expected = line::after(line, equals);
     let question = question::question_of(asked);
     let at = place(question);
     let mut out = [0u8; 256];
     let n = answer::answer(question, asked, &mut out);
     add(tally, at);
-    if !check::same(expected, words::front(&out, n)) {
+    if !check::same(expected, filled(&out, n)) {
         add(tally, KINDS + at);
-        tell(number, expected, words::front(&out, n));
+        tell(number, expected, filled(&out, n));
     }
 }
 
@@ -78,7 +77,7 @@ fn run(input: &[u8], tally: &mut [u64; 20]) {
     let mut at = 0;
     let mut number = 0;
     while at < input.len() {
-        let end = words::until(input, at, b'\n');
+        let end = line::until(input, at, b'\n');
         number += 1;
         if !is_comment(&input[at..end]) {
             vector(&input[at..end], number, tally);
@@ -97,21 +96,17 @@ fn total(name: &[u8], seen: u64, differ: u64) {
     io::write_all(1, b" differ\n");
 }
 
-// Says it of the questions about bytes and numbers.
-fn report_bytes(tally: &[u64; 20]) {
-    total(b"utf8", tally[0], tally[10]);
-    total(b"lead", tally[1], tally[11]);
-    total(b"pad", tally[2], tally[12]);
-    total(b"u32", tally[3], tally[13]);
-    total(b"u64", tally[4], tally[14]);
-}
-
-// Says it of the questions about texts and records.
-fn report_records(tally: &[u64; 20]) {
-    total(b"text", tally[5], tally[15]);
-    total(b"record", tally[6], tally[16]);
-    total(b"look", tally[7], tally[17]);
-    total(b"name", tally[8], tally[18]);
+// Says it of every question.
+fn report(tally: &[u64; 20]) {
+    let mut at = 0;
+    while at < 9 {
+        total(
+            line::word(&question::NAMES, at),
+            tally[at],
+            tally[KINDS + at],
+        );
+        at += 1;
+    }
     total(b"not understood", tally[9], tally[19]);
 }
 
@@ -121,6 +116,5 @@ fn main() {
     let n = io::read_full(0, &mut space);
     let mut tally = [0u64; 20];
     run(&space[..n], &mut tally);
-    report_bytes(&tally);
-    report_records(&tally);
+    report(&tally);
 }

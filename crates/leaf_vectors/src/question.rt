@@ -1,8 +1,12 @@
 // What a line asks: a name, numbers in decimal, then bytes in hexadecimal.
-use crate::hex;
-use crate::words;
-use crate::words::Numeral;
+use words::hex;
+use words::line;
+use words::numeral;
+use words::numeral::Numeral;
 ghost use Prim.Native.Nat.{_≤_};
+
+// The names of the questions, in the order of the tally.
+pub const NAMES: [u8; 43] = *b"utf8 lead pad u32 u64 text record look name";
 
 pub enum Question {
     // `utf8 BYTES`: are they UTF-8?
@@ -29,19 +33,27 @@ pub enum Question {
 
 // Whether a word is a number.
 fn is_number(word: &[u8]) -> bool {
-    match words::decimal(word) {
+    match numeral::decimal(word) {
         Numeral::Is(_) => true,
         Numeral::Unclear => false,
     }
 }
 
+// Whether a word is bytes, and no more than there is room for.
+fn is_short_bytes(word: &[u8]) -> bool {
+    if 512 < word.len() {
+        return false;
+    }
+    hex::is_bytes(word)
+}
+
 // Whether word `n` is a number, or for a later one bytes.
 fn is_fitting(asked: &[u8], n: usize, numbers: usize) -> bool {
-    let word = words::word(asked, n);
+    let word = line::word(asked, n);
     if n <= numbers {
         return is_number(word);
     }
-    hex::is_bytes(word)
+    is_short_bytes(word)
 }
 
 // Whether a name is followed by so many numbers and words of bytes, and by nothing else.
@@ -55,7 +67,7 @@ fn has_shape(asked: &[u8], numbers: usize, parts: usize) -> bool
         }
         n += 1;
     }
-    words::start(asked, n) == asked.len()
+    line::start(asked, n) == asked.len()
 }
 
 // How many numbers a question has.
@@ -84,47 +96,27 @@ fn parts(question: Question) -> usize
     }
 }
 
-// Whether a line asks this question, by its name.
-fn is(asked: &[u8], name: &[u8], question: Question) -> bool {
-    if check::same(words::word(asked, 0), name) {
-        return has_shape(asked, numbers(question), parts(question));
+// The question whose name has a place among the names.
+fn named(place: usize) -> Question {
+    match place {
+        0 => Question::Utf8,
+        1 => Question::Lead,
+        2 => Question::Pad,
+        3 => Question::U32,
+        4 => Question::U64,
+        5 => Question::Text,
+        6 => Question::Record,
+        7 => Question::Look,
+        8 => Question::Name,
+        _ => Question::Unclear,
     }
-    false
-}
-
-// The question of a line, about texts and records.
-fn record_question(asked: &[u8]) -> Question {
-    if is(asked, b"text", Question::Text) {
-        return Question::Text;
-    }
-    if is(asked, b"record", Question::Record) {
-        return Question::Record;
-    }
-    if is(asked, b"look", Question::Look) {
-        return Question::Look;
-    }
-    if is(asked, b"name", Question::Name) {
-        return Question::Name;
-    }
-    Question::Unclear
 }
 
 // The question of a line.
 pub fn question_of(asked: &[u8]) -> Question {
-    if is(asked, b"utf8", Question::Utf8) {
-        return Question::Utf8;
+    let question = named(line::place_of(&NAMES, line::word(asked, 0)));
+    if has_shape(asked, numbers(question), parts(question)) {
+        return question;
     }
-    if is(asked, b"lead", Question::Lead) {
-        return Question::Lead;
-    }
-    if is(asked, b"pad", Question::Pad) {
-        return Question::Pad;
-    }
-    if is(asked, b"u32", Question::U32) {
-        return Question::U32;
-    }
-    if is(asked, b"u64", Question::U64) {
-        return Question::U64;
-    }
-    record_question(asked)
+    Question::Unclear
 }

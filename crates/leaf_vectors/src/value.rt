@@ -1,12 +1,17 @@
 // A value as text: the name of its case and what it holds.
-use crate::hex::put_bytes;
-use crate::words::Space;
-use crate::written::put;
-use crate::written::put_four;
-use crate::written::put_number;
-use crate::written::put_signed;
-use crate::written::put_two;
+use values::value::OscColor;
+use values::value::OscMidiMessage;
+use values::value::OscTime;
 use values::value::OscType;
+use words::hex::put_bytes;
+use words::line::word;
+use words::written::Space;
+use words::written::put;
+use words::written::put_four;
+use words::written::put_number;
+use words::written::put_signed;
+use words::written::put_signed32;
+use words::written::put_two;
 
 // Puts the bits of a float and whether its value is a NaN, which is equal to nothing.
 fn put_float(out: &mut Space, name: &[u8], bits: &[u8], is_nan: bool) -> usize {
@@ -32,21 +37,56 @@ fn put_f64(out: &mut Space, bits: u64, value: f64) -> usize {
     put_float(out, b" double", &eight, value != value)
 }
 
-// A name and a signed number.
-fn put_integer(out: &mut Space, name: &[u8], x: i64) -> usize {
-    let at = put(out, 0, name);
+// A signed number of 64 bits.
+fn put_i64(out: &mut Space, x: i64) -> usize {
+    let at = put(out, 0, b" long");
     put_signed(out, at, x)
 }
 
 // A signed number of 32 bits.
 fn put_i32(out: &mut Space, x: i32) -> usize {
-    put_integer(out, b" int", x as i64)
+    let at = put(out, 0, b" int");
+    put_signed32(out, at, x)
 }
 
 // The scalar number of a character.
 fn put_char(out: &mut Space, x: u32) -> usize {
     let at = put(out, 0, b" char");
     put_number(out, at, x as u64)
+}
+
+// A colour.
+fn put_color(out: &mut Space, c: OscColor) -> usize {
+    put_four(out, b" color", c.red, c.green, c.blue, c.alpha)
+}
+
+// A MIDI message.
+fn put_midi(out: &mut Space, m: OscMidiMessage) -> usize {
+    put_four(out, b" midi", m.port, m.status, m.data1, m.data2)
+}
+
+// A bundle's time tag.
+fn put_bundle(out: &mut Space, t: OscTime) -> usize {
+    put_two(out, b" bundle", t.seconds, t.fractional)
+}
+
+// An argument's time tag.
+fn put_time(out: &mut Space, t: OscTime) -> usize {
+    put_two(out, b" time", t.seconds, t.fractional)
+}
+
+// A range of the packet: of a message's address, a text or a blob.
+fn put_range(out: &mut Space, name: usize, offset: u32, length: u32) -> usize {
+    let at = put(out, 0, b" ");
+    let end = put(out, at, word(b"message string blob", name));
+    let second = put_number(out, end, offset as u64);
+    put_number(out, second, length as u64)
+}
+
+// A value that has no data.
+fn put_bare(out: &mut Space, name: usize) -> usize {
+    let at = put(out, 0, b" ");
+    put(out, at, word(b"nil inf array", name))
 }
 
 // A truth value.
@@ -57,39 +97,24 @@ fn put_bool(out: &mut Space, x: bool) -> usize {
     put(out, 0, b" bool false")
 }
 
-// A colour, a MIDI message, or a value that has no data.
-fn put_small(out: &mut Space, value: OscType) -> usize {
-    match value {
-        OscType::Color(c) => put_four(out, b" color", c.red, c.green, c.blue, c.alpha),
-        OscType::Midi(m) => put_four(out, b" midi", m.port, m.status, m.data1, m.data2),
-        OscType::Bool(x) => put_bool(out, x),
-        OscType::Nil => put(out, 0, b" nil"),
-        OscType::Inf => put(out, 0, b" inf"),
-        OscType::Array => put(out, 0, b" array"),
-        _ => put(out, 0, b" no value"),
-    }
-}
-
-// A value that is a number.
-fn put_numeric(out: &mut Space, value: OscType) -> usize {
-    match value {
-        OscType::Int(x) => put_i32(out, x),
-        OscType::Float { bits, value } => put_f32(out, bits, value),
-        OscType::Long(x) => put_integer(out, b" long", x),
-        OscType::Double { bits, value } => put_f64(out, bits, value),
-        OscType::Char(x) => put_char(out, x),
-        _ => put_small(out, value),
-    }
-}
-
-// Puts a value: one of two numbers here, the others above.
+// Puts a value.
 pub fn put_value(out: &mut Space, value: OscType) -> usize {
     match value {
-        OscType::Message { offset, length } => put_two(out, b" message", offset, length),
-        OscType::Bundle(t) => put_two(out, b" bundle", t.seconds, t.fractional),
-        OscType::String { offset, length } => put_two(out, b" string", offset, length),
-        OscType::Blob { offset, length } => put_two(out, b" blob", offset, length),
-        OscType::Time(t) => put_two(out, b" time", t.seconds, t.fractional),
-        _ => put_numeric(out, value),
+        OscType::Message { offset, length } => put_range(out, 0, offset, length),
+        OscType::Bundle(t) => put_bundle(out, t),
+        OscType::Int(x) => put_i32(out, x),
+        OscType::Float { bits, value } => put_f32(out, bits, value),
+        OscType::String { offset, length } => put_range(out, 1, offset, length),
+        OscType::Blob { offset, length } => put_range(out, 2, offset, length),
+        OscType::Time(t) => put_time(out, t),
+        OscType::Long(x) => put_i64(out, x),
+        OscType::Double { bits, value } => put_f64(out, bits, value),
+        OscType::Char(x) => put_char(out, x),
+        OscType::Color(c) => put_color(out, c),
+        OscType::Midi(m) => put_midi(out, m),
+        OscType::Bool(x) => put_bool(out, x),
+        OscType::Nil => put_bare(out, 0),
+        OscType::Inf => put_bare(out, 1),
+        OscType::Array => put_bare(out, 2),
     }
 }

@@ -55,7 +55,8 @@ sum-up g i n h = let e : i + (n - i) ≡ n = omega arith in rw e at (sum-on g i 
 -- what stands in no bundle is no packet
 no-packet : (container k : ℕ) → (container ≡ bundleKind → ⊥) → allowed container k ≡ true → isPacket k ≡ false
 unfolding allowed
-no-packet container k n a = not-true (isPacket k) (go (among container (messageKind ∷ arrayKind ∷ [])) (rw (ne-eqb container bundleKind n) at a))
+no-packet container k n a =
+    not-true (isPacket k) (go (among container (messageKind ∷ arrayKind ∷ [])) (rw (ne-eqb container bundleKind n) at a))
   where
     go : (x : Bool) → cond x (not (isPacket k)) false ≡ true → not (isPacket k) ≡ true
     go true e = e
@@ -70,7 +71,8 @@ no-message container k n a e = true≢false (sym (ap isPacket e) ∙ no-packet c
 -- in a bundle, what is no message is a bundle
 other-bundle : (k : ℕ) → (k ≡ messageKind → ⊥) → allowed bundleKind k ≡ true → k ≡ bundleKind
 unfolding allowed
-other-bundle k n a = ⊎-elim (λ e. e) (λ m. absurd (false≢true (rw (ne-eqb k bundleKind m, ne-eqb k messageKind n) at a))) (is-or k bundleKind)
+other-bundle k n a =
+    ⊎-elim (λ e. e) (λ m. absurd (false≢true (rw (ne-eqb k bundleKind m, ne-eqb k messageKind n) at a))) (is-or k bundleKind)
 
 leaf-empty : (source : List ℕ) (k : ℕ) (inside : Forest)
     → (k ≡ bundleKind → ⊥) → (k ≡ messageKind → ⊥) → (k ≡ arrayKind → ⊥) → Obeys source k inside → inside ≡ nil
@@ -184,7 +186,8 @@ message-sum : (source t : List ℕ) (at : ℕ) (F : Forest) → Spans t (at + 1)
     → messageLength t at ≡ length (writeMessage source (itemAt t at) F)
 unfolding messageLength
 message-sum source t at F s o h =
-    let x : tagsTo t (endAt t at) - tagsTo t (at + 1) ≡ length (writeTags F) = omega (arith, tags-sum source t (at + 1) (endAt t at) F s o) in
+    let x : tagsTo t (endAt t at) - tagsTo t (at + 1) ≡ length (writeTags F) = omega
+    (arith, tags-sum source t (at + 1) (endAt t at) F s o) in
     let y : dataTo t (endAt t at) - dataTo t (at + 1) ≡ length (writeData source F) = omega
     (arith, data-sum source t (at + 1) (endAt t at) F s o) in
     let z : length (oscString (part source (aAt t at) (bAt t at))) ≡ stringLength (bAt t at) = length-string _

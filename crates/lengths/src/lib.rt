@@ -105,6 +105,8 @@ fn element_length(table: &[u8], at: usize) -> usize
 }
 
 // The length of the packet as an element, its size with it. No sum wraps: nothing is added once it is over the limit.
+//
+// Ruled out: a sum that stops below the limit before the last record; one tag for the two brackets of an array.
 pub fn packet_length(table: &[u8], count: usize) -> usize
     requires { ⌜ (count ≤ mostRecords) × (recordSize * count ≤ length (now table)) ⌝ }
     requires { ⌜ ((i : ℕ) → i < count → (i < endAt (now table) i) × (endAt (now table) i ≤ count)) ⌝ }

@@ -20,7 +20,8 @@ use Rattle.arguments.specs.Arguments.{Args, refused, args, readArgs}
 use Rattle.arguments.specs.CodeReadings.{measured}
 use Rattle.arguments.specs.declared.Measured.{Measured}
 use Rattle.arguments.specs.declared.Measured.the-variants as measure
-use Rattle.packet.specs.Packet.{Out, fault, one, Elements, upto, after, messageItem, messageWith, readMessage, bundleItem, bundleWith, filling}
+use Rattle.packet.specs.Packet.{Out, fault, one, Elements, upto, after, messageItem, messageWith, readMessage, bundleItem, bundleWith}
+use Rattle.packet.specs.Packet.{filling}
 use Rattle.packet.specs.Heads.{tagsIn}
 use Rattle.packet.specs.Packet.{readPacket, readElements, readBundle, readElement, usedBy, treesIn}
 use Rattle.packet.specs.Heads.{startOf, sizeOf}
@@ -61,7 +62,8 @@ module _ (base offset n room : ℕ) (l : List ℕ) (p : ℕ) where
   -- the extent of a message is that of its arguments, after the type text
   pub message-exit : {m used : ℕ} {x : Measured} {tags rest : List ℕ} → Found m used ≡ readText l p → tags ≡ tagsIn (take m l)
       → rest ≡ drop used l
-      → x ≡ measured (readArgs base tags rest (p + used)) → messageExtent (p + used) x ≡ extent room p (readMessage base (messageItem offset n) l p)
+      → x ≡ measured (readArgs base tags rest (p + used))
+      → messageExtent (p + used) x ≡ extent room p (readMessage base (messageItem offset n) l p)
   message-exit {m} {used} {x} e t s g =
       let y : x ≡ measured (readArgs base (tagsIn (take m l)) (drop used l) (p + used)) = rw (t, s) at g in
       ap (messageExtent (p + used)) y
@@ -124,7 +126,8 @@ tree-in room p m o w e = subst (ExtentIn p m) (sym e) (extent-in room p m o w)
 -- ---- bundles
 
 extent-bundle : (room p : ℕ) (l : List ℕ) (k : Elements)
-    → extent room p (bundleWith (bundleItem l) k) ≡ cond (leb (depth (treesIn k) + 1) room) (Tree (1 + size (treesIn k)) (p + (8 + usedBy k)))
+    → extent room p (bundleWith (bundleItem l) k) ≡ cond (leb (depth (treesIn k) + 1) room)
+    (Tree (1 + size (treesIn k)) (p + (8 + usedBy k)))
     (Deep (p + (8 + usedBy k)))
 unfolding extent
 extent-bundle room p l (upto f u) = refl
@@ -175,7 +178,8 @@ module _ (base : ℕ) (m : List ℕ) (q room : ℕ) where
       record {
         step = stepped base m q e;
         deep = rw (first-rest base m q e)
-            (ap (λ (x : Forest). leb (depth x) room) (first-trees base m q e) ∙ max-low (level (item .kind) (depth f)) (depth (treesIn g)) room h);
+            (ap (λ (x : Forest). leb (depth x) room) (first-trees base m q e)
+            ∙ max-low (level (item .kind) (depth f)) (depth (treesIn g)) room h);
       }
 
   -- an element that is a tree
@@ -192,14 +196,17 @@ module _ (base : ℕ) (m : List ℕ) (q room : ℕ) where
           g
 
   -- an element that is too deep
-  turned-deep : {next : ℕ} → Deep next ≡ extent room (q + 4) (readElement base m q) → leb (depth (treesIn (readElements base m q))) room ≡ false
+  turned-deep : {next : ℕ} → Deep next ≡ extent room (q + 4) (readElement base m q)
+      → leb (depth (treesIn (readElements base m q))) room ≡ false
   unfolding extent depth
   turned-deep {next} h = by-out (readElement base m q) refl h
     where
-      by-out : (o : Out) → readElement base m q ≡ o → Deep next ≡ extent room (q + 4) o → leb (depth (treesIn (readElements base m q))) room ≡ false
+      by-out : (o : Out) → readElement base m q ≡ o → Deep next ≡ extent room (q + 4) o
+          → leb (depth (treesIn (readElements base m q))) room ≡ false
       by-out (fault k) e g = let z : _≡_ {A = ℕ} 0 1 = cc in absurd (omega arith)
       by-out (one item f n) e g =
-          by-le (λ (x : Extent). Deep next ≡ x → leb (depth (treesIn (readElements base m q))) room ≡ false) (level (item .kind) (depth f)) room
+          by-le (λ (x : Extent). Deep next ≡ x → leb (depth (treesIn (readElements base m q))) room ≡ false)
+          (level (item .kind) (depth f)) room
           (λ s i. let z : _≡_ {A = ℕ} 0 1 = cc in absurd (omega arith))
           (λ s i. lt-leb (depth (treesIn (readElements base m q))) room (omega (arith, ap depth (first-trees base m q e))))
           g

@@ -11,7 +11,8 @@ use Rattle.wire.proofs.Choices.{by-test}
 use Rattle.wire.proofs.Parts.{tail}
 use Rattle.node.specs.Forest.{level, depth}
 use Rattle.node.specs.declared.record.Item.{Item}
-use Rattle.packet.specs.Packet.{Out, fault, one, Elements, upto, after, messageItem, readMessage, bundleWith, filling, readPacket, readElements}
+use Rattle.packet.specs.Packet.{Out, fault, one, Elements, upto, after, messageItem, readMessage, bundleWith, filling, readPacket}
+use Rattle.packet.specs.Packet.{readElements}
 use Rattle.packet.specs.Heads.{startOf, sizeOf}
 use Rattle.packet.specs.Packet.{readBundle, readElement, usedBy}
 use Rattle.measure.specs.CodeMeasure.{extent, skimmed, accepted}
@@ -34,7 +35,8 @@ isTree (Refused k) = false
 extent-tree : (room p : ℕ) (o : Out) → isTree (extent room p o) ≡ accepted o
 unfolding extent
 extent-tree room p (fault k) = refl
-extent-tree room p (one item f u) = by-test (λ (x : Extent). isTree x ≡ true) (leb (level (item .kind) (depth f)) room) (λ _. refl) (λ _. refl)
+extent-tree room p (one item f u) =
+    by-test (λ (x : Extent). isTree x ≡ true) (leb (level (item .kind) (depth f)) room) (λ _. refl) (λ _. refl)
 
 after-accepted : (n : ℕ) (o : Out) → accepted o ≡ accepted (after n o)
 after-accepted n (fault k) = refl
@@ -58,14 +60,16 @@ module _ (base : ℕ) (l : List ℕ) (p : ℕ) where
     is-bundle h =
         let long : 8 ≤ length (drop used l) = omega (arith, length-drop used l) in
         with-accepted _ (readElements base (drop 8 (drop used l)) (p + used + 8))
-        ∙ ap accepted (sym (bundle-long base (drop used l) (p + used) long)) ∙ after-accepted used (readBundle base (drop used l) (p + used))
+        ∙ ap accepted (sym (bundle-long base (drop used l) (p + used) long))
+        ∙ after-accepted used (readBundle base (drop used l) (p + used))
         ∙ ap accepted (sym (starts-bundle base l p e))
 
     -- a bundle without its time tag is refused
     pub is-no-bundle : length l - used < 8 → false ≡ accepted (readPacket base l p)
     is-no-bundle h =
         let short : length (drop used l) < 8 = omega (arith, length-drop used l) in
-        ap accepted (sym (bundle-short base (drop used l) (p + used) short)) ∙ after-accepted used (readBundle base (drop used l) (p + used))
+        ap accepted (sym (bundle-short base (drop used l) (p + used) short))
+        ∙ after-accepted used (readBundle base (drop used l) (p + used))
         ∙ ap accepted (sym (starts-bundle base l p e))
 
   -- a packet that is refused by what it starts with
@@ -94,7 +98,8 @@ module _ (base : ℕ) (l : List ℕ) (p : ℕ) where
   -- the next element is accepted
   pub skim-on : {n : ℕ} → Takes n ≡ skimmed (readElement base l p)
       → (4 + n ≤ length l) ×
-      (p + usedBy (readElements base l p) ≡ p + (4 + n) + usedBy (readElements base (take (length l - (4 + n)) (drop (4 + n) l)) (p + (4 + n))))
+      (p + usedBy (readElements base l p) ≡ p + (4 + n) + usedBy
+      (readElements base (take (length l - (4 + n)) (drop (4 + n) l)) (p + (4 + n))))
   skim-on {n} h = by-out (readElement base l p) refl h
     where
       by-out : (o : Out) → readElement base l p ≡ o → Takes n ≡ skimmed o

@@ -14,7 +14,8 @@ use Rattle.measure.specs.declared.Skimmed.the-variants.{Takes, Fails}
 -- deep, and where it ends
 unfoldable pub extent : ℕ → ℕ → Out → Extent
 extent room p (fault k) = Refused k
-extent room p (one item inside used) = cond (leb (level (item .kind) (depth inside)) room) (Tree (1 + size inside) (p + used)) (Deep (p + used))
+extent room p (one item inside used) =
+    cond (leb (level (item .kind) (depth inside)) room) (Tree (1 + size inside) (p + used)) (Deep (p + used))
 
 -- whether an element is accepted, and its size then
 abbrev pub skimmed : Out → Skimmed

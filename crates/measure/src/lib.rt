@@ -28,6 +28,8 @@ pub enum Skimmed {
 }
 
 // A packet at `pos`; `room` levels of bundles may be opened yet.
+//
+// Ruled out: padding counted from the start of an element; a bundle too deep where there is room for one level.
 pub fn measure_packet(input: &[u8], pos: usize, room: usize) -> Extent
     requires { ⌜ pos + length (now input) ≤ longest ⌝ }
     ensures { λ r. ⌜ ((base : ℕ) → r ≡ extent room pos (readPacket base (now (input .entry)) pos)) ⌝ }
@@ -40,6 +42,8 @@ pub fn measure_packet(input: &[u8], pos: usize, room: usize) -> Extent
 }
 
 // What follows the address of a message: the type text, then the data.
+//
+// Ruled out: a count without the message's own record; an end that leaves out the type text's padding.
 pub fn measure_message(input: &[u8], pos: usize) -> Extent
     requires { ⌜ pos + length (now input) ≤ longest ⌝ }
     ensures { λ r. ⌜ ((base offset n room : ℕ) → r ≡ extent room pos (readMessage base (messageItem offset n) (now (input .entry)) pos)) ⌝ }

@@ -55,7 +55,8 @@ unfolding zerosAt
 zeros-read t i b h =
     let p : number 4 (drop (recordStart i) t) ≡ number 1 (drop (recordStart i) t) * 256 ^ 3 + number 3 (drop (recordStart i + 1) t)
     = number-parts 1 3 t (recordStart i) h in
-    let s : number 3 (drop (recordStart i + 1) t) < 256 ^ 3 = number-small 3 (drop (recordStart i + 1) t) (drop-small (recordStart i + 1) t b) in
+    let s : number 3 (drop (recordStart i + 1) t) < 256 ^ 3
+    = number-small 3 (drop (recordStart i + 1) t) (drop-small (recordStart i + 1) t b) in
     omega arith
 
 -- an item, number by number

@@ -92,7 +92,8 @@ completed-turn T c n j item f g h en e =
     (length-take-le (recordSize * c) T h) (length-records j (node item f nil)))
 
 -- a node's own record, in front of what it contains
-pub completed-node : {T' R : List ℕ} (T : List ℕ) (i : ℕ) (item : Item) (e : ℕ) (f : Forest) → recordSize ≤ length T → R ≡ completed T 1 (i + 1) f
+pub completed-node : {T' R : List ℕ} (T : List ℕ) (i : ℕ) (item : Item) (e : ℕ) (f : Forest)
+    → recordSize ≤ length T → R ≡ completed T 1 (i + 1) f
     → e ≡ i + 1 + size f
     → Wrote (recordOf item e) R T' → T' ≡ stored i (node item f nil) T
 unfolding stored size

@@ -1,3 +1,1 @@
 mod Tests
-mod Numerals
-mod Signs

@@ -1,4 +1,4 @@
--- What a test that fails says. Assumes nothing.
+-- What a test that fails says.
 use mathlib.Core.Path.{_≡_, sym, _∙_}
 use mathlib.Core.Bool.{Bool, true, false, false≢true}
 

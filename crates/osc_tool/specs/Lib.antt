@@ -1,5 +1,3 @@
-pub mod Words
-pub mod Numeral
-pub mod Beside
+pub mod Commands
 pub mod Framings
-pub mod Signed
+pub mod Options

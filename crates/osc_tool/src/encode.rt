@@ -1,31 +1,34 @@
 // The command encode: a table and its source to the bytes of a packet.
-use crate::files;
+use crate::commands;
+use crate::commands::Framed;
+use crate::named;
 use crate::say;
 use crate::space;
-use crate::words;
-use crate::words::Framed;
-use crate::words::Framing;
+use decoder::Framing;
 use encoder::Encoded;
+use node::record::capacity_of;
+use words::line::front;
 ghost use Rattle.encoder.specs.Outcome.{Encodes};
 ghost use Rattle.osc_tool.specs.Framings.{writingOf};
 
-// Calls the encoder of a framing.
-fn encoded(framing: Framing, table: &[u8], count: usize, source: &[u8], out: &mut [u8]) -> Encoded
-    ensures { λ r. ⌜ Encodes (writingOf framing) (now (table .entry)) count (now (source .entry)) (now (out .entry)) (record { answer = r; out = now (out .exit) }) ⌝ }
+// Calls the encoder, with the length before the packet where a stream is to be cut by it.
+fn encoded(has_length: bool, table: &[u8], count: usize, source: &[u8], out: &mut [u8]) -> Encoded
+    ensures { λ r.
+        ⌜ Encodes (writingOf «has_length») (now (table .entry)) count (now (source .entry)) (now (out .entry))
+        (record { answer = r; out = now (out .exit) }) ⌝ }
 {
-    match framing {
-        Framing::Udp => encoder::encode(table, count, source, out),
-        Framing::Tcp => encoder::encode_tcp(table, count, source, out),
-        Framing::TcpVec => encoder::encode_tcp(table, count, source, out),
+    if has_length {
+        return encoder::encode_tcp(table, count, source, out);
     }
+    encoder::encode(table, count, source, out)
 }
 
 // Encodes to the file that word 5 names, and says what was answered.
-fn encode_table(framing: Framing, table: &[u8], source: &[u8]) {
+fn encode_table(has_length: bool, table: &[u8], source: &[u8]) {
     let mut out = io::large_buffer();
-    match encoded(framing, table, table.len() / 16, source, &mut out) {
+    match encoded(has_length, table, capacity_of(table), source, &mut out) {
         Encoded::Written(n) => {
-            if files::write_word(5, files::front(&out, n)) {
+            if named::write_word(5, front(&out, n)) {
                 say::written(n);
             }
         }
@@ -34,40 +37,43 @@ fn encode_table(framing: Framing, table: &[u8], source: &[u8]) {
 }
 
 // Encodes with the texts of the file that word 4 names.
-fn encode_with_source(framing: Framing, table: &[u8]) {
+fn encode_with_source(has_length: bool, table: &[u8]) {
     let mut source = io::large_buffer();
-    let got = files::read_whole(4, &mut source);
+    let got = named::read_whole(4, &mut source);
     if !got.is_read {
         return;
     }
     let n = got.count;
-    encode_table(framing, table, &source[..n]);
+    encode_table(has_length, table, &source[..n]);
 }
 
 // Encodes the table of the file that word 3 names.
-fn encode_file(framing: Framing) {
+fn encode_file(has_length: bool) {
     let mut table = space::table();
-    let got = files::read_table(3, &mut table);
+    let got = named::read_table(3, &mut table);
     if !got.is_read {
         return;
     }
     let n = got.count;
-    encode_with_source(framing, &table[..n]);
+    encode_with_source(has_length, &table[..n]);
+}
+
+// Encodes in a framing, of which one is for reading alone.
+fn encode_framed(framing: Framing) {
+    match framing {
+        Framing::Udp => encode_file(false),
+        Framing::Tcp => encode_file(true),
+        Framing::TcpVec => say::wrong(b"encode writes one packet: udp or tcp, not tcp-vec"),
+    }
 }
 
 pub fn run() {
     if os::arg_count() != 6 {
-        say::trouble(b"encode takes ", b"udp|tcp TABLE SOURCE OUTPUT");
+        say::wrong(b"encode takes udp|tcp TABLE SOURCE OUTPUT");
         return;
     }
-    match words::framing_word() {
-        Framed::As(framing) => match framing {
-            Framing::TcpVec => say::trouble(
-                b"encode writes one packet: udp or tcp, not ",
-                b"tcp-vec",
-            ),
-            _ => encode_file(framing),
-        },
+    match commands::framing_word() {
+        Framed::As(framing) => encode_framed(framing),
         Framed::Unclear => {}
     }
 }

@@ -1,19 +1,45 @@
 // The command look: one record of a table as words.
-use crate::files;
+use crate::named;
+use crate::options;
 use crate::say;
 use crate::space;
 use crate::value;
-use crate::words;
-use crate::words::Numeral;
 use node::record;
+use node::record::END;
 use values::look::Looked;
+use values::value::OscType;
+use words::numeral::Numeral;
+
+// Says which record is looked at, and the letter of its kind.
+fn say_head(index: usize, kind: u8) {
+    say::number(b"record ", index as u64);
+    say::text(&[b':', b' ', kind]);
+}
+
+// Says where a record ends.
+fn say_end(end: u32) {
+    say::number(b", end ", end as u64);
+    say::text(b"\n");
+}
+
+// Says a record.
+fn say_record(index: usize, value: OscType, kind: u8, end: u32) {
+    say_head(index, kind);
+    value::say_value(value);
+    say_end(end);
+}
 
 // Says what record `index` holds.
 fn look_at(table: &[u8], index: usize) {
     match values::look::look(table, index) {
         Looked::Value(found) => {
-            if index < record::capacity(table) {
-                value::say_record(index, found, record::read_record(table, index));
+            if index < record::capacity_of(table) {
+                say_record(
+                    index,
+                    found,
+                    record::kind_at(table, index),
+                    record::field_at(table, index, END),
+                );
             }
         }
         Looked::Refused(refusal) => say::refused(refusal),
@@ -23,7 +49,7 @@ fn look_at(table: &[u8], index: usize) {
 // Looks at a record of the table of the file that word 2 names.
 fn look_in_file(index: usize) {
     let mut table = space::table();
-    let got = files::read_table(2, &mut table);
+    let got = named::read_table(2, &mut table);
     if !got.is_read {
         return;
     }
@@ -33,11 +59,11 @@ fn look_in_file(index: usize) {
 
 pub fn run() {
     if os::arg_count() != 4 {
-        say::trouble(b"look takes ", b"TABLE INDEX");
+        say::wrong(b"look takes TABLE INDEX");
         return;
     }
-    match words::number_word(3) {
-        Numeral::Is(index) => look_in_file(index),
+    match options::number_word(3) {
+        Numeral::Is(index) => look_in_file(index as usize),
         Numeral::Unclear => {}
     }
 }

@@ -1,20 +1,21 @@
 // The codec from a shell: it decodes a file to a table, encodes a table to a file and looks at a record. It says its answer in
 // one line on standard output, and what went wrong with a word or a file in one line on standard error.
-mod words; // words.rt: what the words of a command mean
+mod commands; // commands.rt: what the first words of a command mean
+mod options; // options.rt: the numbers and the options of a command
 mod space; // space.rt: the buffers that are lent
-mod files; // files.rt: whole files, read into a lent buffer, and written beside and then renamed
+mod named; // named.rt: the files that words name
 mod say; // say.rt: the line that is said
 mod value; // value.rt: a record's value as words
 mod decode; // decode.rt: the command decode
 mod encode; // encode.rt: the command encode
 mod look; // look.rt: the command look
 
-use words::Command;
+use commands::Command;
 
 fn main() {
     let mut word = io::buffer();
     let n = os::arg(1, &mut word);
-    match words::command_of(&word[..n]) {
+    match commands::command_of(&word[..n]) {
         Command::Decode => decode::run(),
         Command::Encode => encode::run(),
         Command::Look => look::run(),

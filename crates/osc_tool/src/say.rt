@@ -1,8 +1,15 @@
 // The line that is said: an answer on standard output, trouble on standard error.
 use libc::STDERR_FILENO;
 use libc::STDOUT_FILENO;
-use refusal::Fault;
 use refusal::Refusal;
+use words::line::until;
+ghost use Prim.Native.Nat.{_≤_};
+ghost use lib.ListN.{length};
+
+// Says what is wrong.
+pub fn wrong(what: &[u8]) {
+    trouble(what, b"");
+}
 
 // Says what is wrong, and of which word.
 pub fn trouble(what: &[u8], word: &[u8]) {
@@ -12,9 +19,11 @@ pub fn trouble(what: &[u8], word: &[u8]) {
     io::write_all(STDERR_FILENO, b"\n");
 }
 
-// Says what is wrong with a file, and a number of bytes that goes with it.
-pub fn file_trouble(path: &[u8], what: &[u8], bytes: usize) {
-    io::write_all(STDERR_FILENO, path);
+// Says what is wrong with the file that word `i` names, and a number of bytes that goes with it.
+pub fn file_trouble(i: usize, what: &[u8], bytes: usize) {
+    let mut path = io::buffer();
+    let n = os::arg(i, &mut path);
+    io::write_all(STDERR_FILENO, &path[..n]);
     io::write_all(STDERR_FILENO, what);
     io::print_decimal(STDERR_FILENO, bytes as u64);
     io::write_all(STDERR_FILENO, b" bytes\n");
@@ -50,51 +59,78 @@ pub fn written(bytes: usize) {
     text(b" bytes\n");
 }
 
-// Document 01's words for the refusals 2 to 8.
-fn fault_words(fault: Fault) {
-    match fault {
-        Fault::Empty => text(b"a packet of no bytes"),
-        Fault::RunsOut => text(b"a field, NUL, padding or TCP prefix runs past the bytes there"),
-        Fault::NotUtf8 => text(b"text is not UTF-8"),
-        Fault::BadStart => text(b"first string is neither /-led nor exactly #bundle"),
-        Fault::NotOpen => text(b"] with no array open"),
-        Fault::UnknownTag => text(b"unknown type tag"),
-        Fault::NotScalar => text(b"c is not a scalar number"),
+// Document 01's words for the refusals: line n is for the refusal of number n, and line 0 is empty.
+const REFUSALS: [u8; 523] = *b"
+decode input over 65,535 bytes, or encoded result (prefix included) over it
+a packet of no bytes
+a field, NUL, padding or TCP prefix runs past the bytes there
+text is not UTF-8
+first string is neither /-led nor exactly #bundle
+] with no array open
+unknown type tag
+c is not a scalar number
+bundles nested deeper than the limit
+the result has more records than the capacity
+table not well formed, or a record asked for does not exist
+output slice shorter than the result
+depth limit over 64
+pad of a position over 2^64 - 4
+";
+
+// Where the line after the one at `from` begins.
+fn next_line(s: &[u8], from: usize) -> usize
+    requires { ⌜ from ≤ length (now s) ⌝ }
+    ensures { λ r. ⌜ r ≤ length (now (s .entry)) ⌝ }
+{
+    let end = until(s, from, b'\n');
+    if end < s.len() {
+        return end + 1;
     }
+    end
 }
 
-// Document 01's words for a refusal.
-fn refusal_words(refusal: Refusal) {
-    match refusal {
-        Refusal::TooLong => {
-            text(b"decode input over 65,535 bytes, or encoded result (prefix included) over it")
-        }
-        Refusal::Unreadable(fault) => fault_words(fault),
-        Refusal::TooDeep => text(b"bundles nested deeper than the limit"),
-        Refusal::TableFull => text(b"the result has more records than the capacity"),
-        Refusal::BadTable => text(b"table not well formed, or a record asked for does not exist"),
-        Refusal::OutputShort => text(b"output slice shorter than the result"),
-        Refusal::DepthLimit => text(b"depth limit over 64"),
-        Refusal::PadOverflow => text(b"pad of a position over 2^64 - 4"),
+// Where line `n` begins.
+fn line_start(s: &[u8], n: usize) -> usize
+    ensures { λ r. ⌜ r ≤ length (now (s .entry)) ⌝ }
+{
+    let mut at = 0;
+    let mut left = n;
+    while 0 < left {
+        at = next_line(s, at);
+        left -= 1;
     }
+    at
+}
+
+// Line `n`, without its end.
+fn line(s: &[u8], n: usize) -> &[u8] {
+    let from = line_start(s, n);
+    let to = until(s, from, b'\n');
+    &s[from..to]
 }
 
 // A refusal: its number and its words.
 pub fn refused(refusal: Refusal) {
-    number(b"refused ", refusal::number_of(refusal) as u64);
+    let n = refusal::number_of(refusal) as usize;
+    number(b"refused ", n as u64);
     text(b": ");
-    refusal_words(refusal);
+    text(line(&REFUSALS, n));
     text(b"\n");
 }
 
 // The commands.
+const HELP: [u8; 341] = *b"\
+osc decode udp|tcp|tcp-vec INPUT TABLE [--depth N] [--records N]
+    reads INPUT and writes its records, 16 bytes each, to TABLE
+osc encode udp|tcp TABLE SOURCE OUTPUT
+    writes the packet of TABLE, whose texts stand in SOURCE, to OUTPUT
+osc look TABLE INDEX
+    says what record INDEX of TABLE holds; the first is 0
+osc help
+    says this
+";
+
+// Says what the commands are.
 pub fn help() {
-    text(b"osc decode udp|tcp|tcp-vec INPUT TABLE [--depth N] [--records N]\n");
-    text(b"    reads INPUT and writes its records, 16 bytes each, to TABLE\n");
-    text(b"osc encode udp|tcp TABLE SOURCE OUTPUT\n");
-    text(b"    writes the packet of TABLE, whose texts stand in SOURCE, to OUTPUT\n");
-    text(b"osc look TABLE INDEX\n");
-    text(b"    says what record INDEX of TABLE holds; the first is 0\n");
-    text(b"osc help\n");
-    text(b"    says this\n");
+    text(&HELP);
 }

@@ -10,7 +10,8 @@ use lib.ListN.{length, take, drop, length-drop, length-take}
 use Rattle.refusal.specs.declared.Fault.{Fault}
 use Rattle.refusal.specs.declared.Fault.the-variants.{RunsOut}
 use Rattle.packet.specs.Heads.{startOf, sizeOf}
-use Rattle.packet.specs.Packet.{Out, fault, one, Elements, after, messageItem, readMessage, bundleItem, bundleWith, bundleBy, filling, heldBy, elementBy}
+use Rattle.packet.specs.Packet.{Out, fault, one, Elements, after, messageItem, readMessage, bundleItem, bundleWith, bundleBy}
+use Rattle.packet.specs.Packet.{filling, heldBy, elementBy}
 use Rattle.packet.specs.Packet.{joined, goOn, elementsBy, startedBy, packetBy, packetAt, elementsAt, readPacket, readElements}
 use Rattle.packet.specs.Packet.{readBundle, readElement}
 use Rattle.packet.specs.declared.Start.{Start}
@@ -94,7 +95,8 @@ module _ (base : ℕ) where
   packet-eq (a ∷ l) p = packet-cong _ _ (a ∷ l) p (λ m q h. elements-shorter (length l) m q (omega arith))
 
   -- an element reads a packet
-  pub elements-eq : (l : List ℕ) (p : ℕ) → readElements base l p ≡ elementsBy (λ m q. readPacket base m q) (λ m q. readElements base m q) l p
+  pub elements-eq : (l : List ℕ) (p : ℕ)
+      → readElements base l p ≡ elementsBy (λ m q. readPacket base m q) (λ m q. readElements base m q) l p
   unfolding readElements elementsAt elementsBy elementBy sizeOf
   elements-eq [] p = refl
   elements-eq (a ∷ l) p =

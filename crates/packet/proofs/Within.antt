@@ -16,7 +16,8 @@ use Rattle.arguments.specs.Arguments.{Args, refused, args, readArgs}
 use Rattle.arguments.specs.CodeReadings.{keptOf}
 use Rattle.arguments.proofs.Counts.{kept-few, args-within}
 use Rattle.packet.specs.Heads.{startOf, tagsIn, sizeOf}
-use Rattle.packet.specs.Packet.{Out, fault, one, Elements, upto, after, messageItem, messageWith, typesThen, readMessage, bundleWith, bundleBy}
+use Rattle.packet.specs.Packet.{Out, fault, one, Elements, upto, after, messageItem, messageWith, typesThen, readMessage}
+use Rattle.packet.specs.Packet.{bundleWith, bundleBy}
 use Rattle.packet.specs.Packet.{filling, heldBy, elementBy, joined, goOn, elementsBy, startedBy, packetBy, packetAt, elementsAt}
 use Rattle.packet.specs.Packet.{readPacket, readElements, readElement, usedBy, treesIn}
 use Rattle.packet.specs.declared.Start.{Start}
@@ -41,7 +42,8 @@ after-in n m (fault k) h w = tt
 after-in n m (one item f u) h w = omega arith
 
 -- the arguments, after u bytes of type text
-arguments-in : (item : Item) (t u j m : ℕ) (o : Args) → t < u → u + j ≤ m → size (keptOf o) ≤ t → ((f : Forest) (v : ℕ) → args f v ≡ o → v ≤ j)
+arguments-in : (item : Item) (t u j m : ℕ) (o : Args) → t < u → u + j ≤ m → size (keptOf o) ≤ t
+    → ((f : Forest) (v : ℕ) → args f v ≡ o → v ≤ j)
     → Within m (after u (messageWith item o))
 arguments-in item t u j m (refused k) h g few low = tt
 arguments-in item t u j m (args f v) h g few low = omega (arith, low f v refl)

@@ -116,6 +116,7 @@ unfoldable mutual
   packetAt base zero l p = fault Empty
   packetAt base (suc n) l p = packetBy base (λ m q. elementsAt base n m q) l p
 
+  -- the elements of a bundle, at most n deep
   pub elementsAt : ℕ → ℕ → List ℕ → ℕ → Elements
   elementsAt base zero l p = upto nil 0
   elementsAt base (suc n) l p = elementsBy (λ m q. packetAt base n m q) (λ m q. elementsAt base n m q) l p

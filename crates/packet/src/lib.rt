@@ -59,6 +59,8 @@ fn same(a: &[u8], b: &[u8]) -> bool
 }
 
 // The first text of a packet decides what it is.
+//
+// Ruled out: an empty packet refused for a text that runs out; what follows "#bundle" read from its NUL on.
 pub fn read_start(input: &[u8], pos: usize) -> Start
     requires { ⌜ pos + length (now input) ≤ longest ⌝ }
     ensures { λ r. ⌜ r ≡ startOf (now (input .entry)) pos ⌝ }
@@ -81,6 +83,8 @@ pub fn read_start(input: &[u8], pos: usize) -> Start
 }
 
 // The tags of a type text: its first character is skipped, whatever it is.
+//
+// Ruled out: a type text without a comma rejected; only a byte of a longer first character skipped.
 pub fn tags_in(types: &[u8]) -> &[u8]
     requires { ⌜ utf8 (now types) ≡ true ⌝ }
     ensures { λ r. ⌜ now r ≡ tagsIn (now (types .entry)) ⌝ }
@@ -93,6 +97,8 @@ pub fn tags_in(types: &[u8]) -> &[u8]
 }
 
 // The size of an element, where that many bytes follow it.
+//
+// Ruled out: an element refused that ends where its bundle ends; a size that counts its own four bytes.
 pub fn read_size(input: &[u8]) -> ElementSize
     ensures { λ r. ⌜ r ≡ sizeOf (now (input .entry)) ⌝ }
 {
@@ -107,6 +113,8 @@ pub fn read_size(input: &[u8]) -> ElementSize
 }
 
 // The length of a frame against all of the input, prefix included. It cuts nothing.
+//
+// Ruled out: Waiting by a length that is compared with what follows the prefix; Waiting by a length that is that of the input.
 pub fn read_prefix(input: &[u8]) -> Prefix
     ensures { λ r. ⌜ r ≡ prefixOf (now (input .entry)) ⌝ }
 {
@@ -120,6 +128,8 @@ pub fn read_prefix(input: &[u8]) -> Prefix
 }
 
 // The own numbers of a message whose address of `n` bytes stands at `offset`.
+//
+// Ruled out: the address's length as its offset; the kind of a bundle.
 pub fn message_item(offset: usize, n: usize) -> Item
     requires { ⌜ (offset ≤ longest) × (n ≤ longest) ⌝ }
     ensures { λ r. ⌜ r ≡ messageItem offset n ⌝ }
@@ -132,6 +142,8 @@ pub fn message_item(offset: usize, n: usize) -> Item
 }
 
 // The own numbers of a bundle, whose time tag `input` starts with.
+//
+// Ruled out: the seconds as the fractional part; the kind of a message.
 pub fn bundle_item(input: &[u8]) -> Item
     requires { ⌜ 8 ≤ length (now input) ⌝ }
     ensures { λ r. ⌜ r ≡ bundleItem (now (input .entry)) ⌝ }

@@ -1,4 +1,4 @@
--- What is known of a case once its parts are known. Assumes nothing.
+-- What is known of a case once its parts are known.
 use mathlib.Core.Path.{_≡_, subst}
 use Prim.Native.Nat.{ℕ}
 use mathlib.Core.List.{List}

@@ -1,4 +1,4 @@
--- When an answer is the one that is due. Assumes nothing.
+-- When an answer is the one that is due.
 use mathlib.Core.Path.{_≡_}
 use Prim.Native.Nat.{ℕ}
 use mathlib.Core.List.{List}

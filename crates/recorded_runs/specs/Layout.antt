@@ -1,4 +1,4 @@
--- The layout of a case of `data/answers.bin`. Assumes nothing.
+-- The layout of a case of `data/answers.bin`.
 use mathlib.Core.Path.{_≡_}
 use Prim.Native.Nat.{ℕ, _+_, _≤_, _<_}
 use mathlib.Core.List.{List}

@@ -47,6 +47,8 @@ fn end_of(s: &[u8], at: usize, most: u32) -> End
 }
 
 // The case at the front of a part of the file.
+//
+// Ruled out: a number that is read a byte early; the second slice where the first is.
 pub fn find(s: &[u8]) -> Found
     ensures { λ r. ⌜ CaseIn (now (s .entry)) r ⌝ }
 {

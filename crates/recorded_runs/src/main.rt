@@ -33,9 +33,9 @@ fn add(tally: &mut [u64; 10], at: usize)
 }
 
 // Counts a case that differs, and says in what.
-fn differs(tally: &mut [u64; 10], operation: u8, what: &[u8]) {
+fn differs(tally: &mut [u64; 10], operation: u8, outcome: Outcome) {
     add(tally, DIFFERENCES);
-    tell::difference(tally[ANSWERS], operation, what);
+    tell::difference(tally[ANSWERS], operation, outcome);
 }
 
 // Counts a case, and says whether and in what it differs.
@@ -46,9 +46,7 @@ fn judge(tally: &mut [u64; 10], operation: u8, outcome: Outcome)
     add(tally, ANSWERS);
     match outcome {
         Outcome::Right => {}
-        Outcome::OtherAnswer => differs(tally, operation, b"the answer differs"),
-        Outcome::OtherBytes => differs(tally, operation, b"the bytes written differ"),
-        Outcome::LaterByte => differs(tally, operation, b"a later byte is changed"),
+        _ => differs(tally, operation, outcome),
     }
 }
 
@@ -102,13 +100,12 @@ fn report(file: &[u8]) {
 }
 
 fn main() {
-    let fd = os::open_read(b"answers.bin");
-    if fd < 0 {
-        io::write_all(1, b"answers.bin cannot be opened\n");
+    let mut space = file_space();
+    let got = files::read(b"answers.bin", &mut space);
+    if !got.is_read {
+        io::write_all(1, b"answers.bin cannot be read\n");
         return;
     }
-    let mut space = file_space();
-    let n = io::read_full(fd, &mut space);
-    libc::close(fd);
+    let n = got.count;
     report(&space[..n]);
 }

@@ -1,16 +1,23 @@
 // What is said of the cases, on standard output.
+use crate::replay::Outcome;
+use words::line::word;
 
-// The name of an operation.
+// The names of the operations, in the order of their numbers.
+const NAMES: [u8; 77] =
+    *b"decode_udp decode_tcp decode_tcp_vec encode encode_tcp encode_string pad look";
+
+// Says the name of an operation.
 fn name(operation: u8) {
-    match operation {
-        0 => io::write_all(1, b"decode_udp"),
-        1 => io::write_all(1, b"decode_tcp"),
-        2 => io::write_all(1, b"decode_tcp_vec"),
-        3 => io::write_all(1, b"encode"),
-        4 => io::write_all(1, b"encode_tcp"),
-        5 => io::write_all(1, b"encode_string"),
-        6 => io::write_all(1, b"pad"),
-        _ => io::write_all(1, b"look"),
+    io::write_all(1, word(&NAMES, operation as usize));
+}
+
+// Says in what a case differs, where it does.
+fn what(outcome: Outcome) {
+    match outcome {
+        Outcome::Right => false,
+        Outcome::OtherAnswer => io::write_all(1, b"the answer differs"),
+        Outcome::OtherBytes => io::write_all(1, b"the bytes written differ"),
+        Outcome::LaterByte => io::write_all(1, b"a later byte is changed"),
     }
     ;
 }
@@ -24,13 +31,13 @@ fn count(operation: u8, answers: u64) {
 }
 
 // Says which case differs, and in what.
-pub fn difference(number: u64, operation: u8, what: &[u8]) {
+pub fn difference(number: u64, operation: u8, outcome: Outcome) {
     io::write_all(1, b"case ");
     io::print_decimal(1, number);
     io::write_all(1, b", ");
     name(operation);
     io::write_all(1, b": ");
-    io::write_all(1, what);
+    what(outcome);
     io::write_all(1, b"\n");
 }
 

@@ -1,13 +1,16 @@
-// What the programs that run calls and compare share: a slice filled before a call, what stands in it after, and what is said.
-ghost use mathlib.Core.Bool.{true};
+// What the programs that run calls and compare share: a slice filled before a call, and what stands in it after.
+pub mod spelled; // spelled.rt: the bytes of a case as its line spells them
+
 ghost use mathlib.Core.Path.{_≡_};
 ghost use lib.ListN.{length};
-ghost use Rattle.runs.specs.Kept.{Begins, Kept};
+ghost use Rattle.runs.specs.Kept.{Begins, Holds, Kept, Tells};
 
 // What every byte of a lent slice is before a call.
 pub const FILL: u8 = 0x5A;
 
 // Fills a slice.
+//
+// Ruled out: a slice whose last byte is as before; one in which the first bytes are filled twice and the others not.
 pub fn fill(out: &mut [u8])
     ensures { λ _. ⌜ (length (now (out .exit)) ≡ length (now (out .entry))) × Kept (now (out .exit)) 0 ⌝ }
 {
@@ -19,8 +22,10 @@ pub fn fill(out: &mut [u8])
 }
 
 // Whether each byte from `from` on is as `fill` left it.
+//
+// Ruled out: true where the last byte was changed; false where only a byte before `from` was.
 pub fn is_kept(out: &[u8], from: usize) -> bool
-    ensures { λ r. ⌜ (r ≡ true → Kept (now (out .entry)) from) × (Kept (now (out .entry)) from → r ≡ true) ⌝ }
+    ensures { λ r. ⌜ Tells r (Kept (now (out .entry)) from) ⌝ }
 {
     let mut i = from;
     while i < out.len() {
@@ -33,8 +38,10 @@ pub fn is_kept(out: &[u8], from: usize) -> bool
 }
 
 // Whether a slice begins with the bytes.
+//
+// Ruled out: true for a slice that is shorter than they are; false where other bytes stand after them.
 pub fn begins(out: &[u8], bytes: &[u8]) -> bool
-    ensures { λ r. ⌜ (r ≡ true → Begins (now (bytes .entry)) (now (out .entry))) × (Begins (now (bytes .entry)) (now (out .entry)) → r ≡ true) ⌝ }
+    ensures { λ r. ⌜ Tells r (Begins (now (bytes .entry)) (now (out .entry))) ⌝ }
 {
     let n = bytes.len();
     if out.len() < n {
@@ -44,8 +51,10 @@ pub fn begins(out: &[u8], bytes: &[u8]) -> bool
 }
 
 // Whether a slice begins with the bytes, and the rest of it is as `fill` left it.
+//
+// Ruled out: true where a byte after them was changed; true where the first of them is another.
 pub fn holds(out: &[u8], bytes: &[u8]) -> bool
-    ensures { λ r. ⌜ (r ≡ true → Begins (now (bytes .entry)) (now (out .entry)) × Kept (now (out .entry)) (length (now (bytes .entry)))) ⌝ }
+    ensures { λ r. ⌜ Tells r (Holds (now (bytes .entry)) (now (out .entry))) ⌝ }
 {
     if !begins(out, bytes) {
         return false;
@@ -53,14 +62,8 @@ pub fn holds(out: &[u8], bytes: &[u8]) -> bool
     is_kept(out, bytes.len())
 }
 
-// Says how a group of cases went: 0, or the number of the first case that differs.
-pub fn say(name: &[u8], first: u64) {
-    io::write_all(1, name);
-    if first == 0 {
-        io::write_all(1, b": all as they should be\n");
-    } else {
-        io::write_all(1, b": the first that differs is case ");
-        io::print_decimal(1, first);
-        io::write_all(1, b"\n");
-    }
+// Says a text and a number.
+pub fn say(text: &[u8], x: u64) {
+    io::write_all(1, text);
+    io::print_decimal(1, x);
 }

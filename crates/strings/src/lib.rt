@@ -39,6 +39,8 @@ pub fn write_zeros(n: usize, out: &mut [u8]) -> usize
 }
 
 // Writes a text and its 1 to 4 NULs.
+//
+// Ruled out: a text of a multiple of 4 bytes with no NUL; a fourth NUL that is another byte.
 pub fn encode_string_into(text: &[u8], out: &mut [u8]) -> usize
     requires { ⌜ stringLength (length (now text)) ≤ length (now out) ⌝ }
     ensures { λ r. ⌜ Filled (oscString (now (text .entry))) (now (out .entry)) (now (out .exit)) r ⌝ }
@@ -82,6 +84,8 @@ pub fn encode_pair_into(high: u32, low: u32, out: &mut [u8]) -> usize
 
 // Writes the data of one argument that is no array. An address is written by it too: called from two places, it stays a function of
 // its own, and a level of nested arrays takes no more of the stack than its own frame.
+//
+// Ruled out: four zeros after a blob of a multiple of 4 bytes; the data of a range that the record does not name.
 pub fn encode_leaf_data(class: Class, item: Item, source: &[u8], out: &mut [u8]) -> usize
     requires { ⌜ (hasRange class ≡ true → item .a + item .b ≤ length (now source)) ⌝ }
     requires { ⌜ length (writeArgument class (now source) item) ≤ length (now out) ⌝ }

@@ -70,7 +70,10 @@ module _ (source : List ℕ) (item : Item) (class : Class) (s : sortOf (item .ki
 
   no-packet : isPacket (item .kind) ≡ false
   unfolding sortOf classOf
-  no-packet = rw (ne-eqb (item .kind) bundleKind (not-unknown bundleKind refl), ne-eqb (item .kind) messageKind (not-unknown messageKind refl))
+  no-packet = rw (
+    ne-eqb (item .kind) bundleKind (not-unknown bundleKind refl),
+    ne-eqb (item .kind) messageKind (not-unknown messageKind refl),
+  )
 
   ruled : leafRules class item ≡ true
   ruled = then-only (leafRules class item) (leafRange source class item) o false≢true

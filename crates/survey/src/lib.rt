@@ -89,7 +89,8 @@ fn leaf_ok(class: Class, item: Item, source: &[u8]) -> bool
 
 // The bytes of data of an argument that is no array, or UNSURE.
 fn leaf_content(class: Class, item: Item, source: &[u8]) -> usize
-    ensures { λ r. ⌜ (r ≤ longestElement → (leafOk (now (source .entry)) class item ≡ true) × (r ≡ argumentLength class (item .b))) × (r ≤ 2 ^ 33) ⌝ }
+    ensures { λ r. ⌜ (r ≤ longestElement → (leafOk (now (source .entry)) class item ≡ true) × (r ≡ argumentLength class (item .b)))
+        × (r ≤ 2 ^ 33) ⌝ }
 {
     if !leaf_ok(class, item, source) {
         return UNSURE;
@@ -97,10 +98,11 @@ fn leaf_content(class: Class, item: Item, source: &[u8]) -> usize
     argument_length(class, item.b)
 }
 
-// The extent of one argument and what it contains; arrays in it are nested no deeper than `levels`.
+// The tags and the data of one argument and what it contains; arrays in it are nested no deeper than `levels`.
 fn survey_argument(table: &[u8], at: usize, source: &[u8], levels: usize) -> Tally
     requires { ⌜ InTable (now table) at ⌝ }
-    ensures { λ r. ⌜ (r .content ≤ longestElement → SurveyedArgument (now (table .entry)) (now (source .entry)) at (r .tags) (r .content)) ⌝ }
+    ensures { λ r. ⌜ (r .content ≤ longestElement
+        → SurveyedArgument (now (table .entry)) (now (source .entry)) at (r .tags) (r .content)) ⌝ }
     ensures { λ r. ⌜ (r .tags ≤ 2 * (endAt (now (table .entry)) at - at)) × (r .content ≤ 2 ^ 33) ⌝ }
 {
     let unsure = Tally {
@@ -136,10 +138,11 @@ fn survey_argument(table: &[u8], at: usize, source: &[u8], levels: usize) -> Tal
     }
 }
 
-// The extent of the arguments from record `lo` to record `hi`, in which arrays are nested no deeper than `levels`.
+// The tags and the data of the arguments from record `lo` to record `hi`, in which arrays are nested no deeper than `levels`.
 fn survey_arguments(table: &[u8], lo: usize, hi: usize, source: &[u8], levels: usize) -> Tally
     requires { ⌜ (lo ≤ hi) × (hi ≤ mostRecords) × (recordSize * hi ≤ length (now table)) ⌝ }
-    ensures { λ r. ⌜ (r .content ≤ longestElement → SurveyedArguments (now (table .entry)) (now (source .entry)) lo hi (r .tags) (r .content)) ⌝ }
+    ensures { λ r. ⌜ (r .content ≤ longestElement
+        → SurveyedArguments (now (table .entry)) (now (source .entry)) lo hi (r .tags) (r .content)) ⌝ }
     ensures { λ r. ⌜ (r .tags ≤ 2 * (hi - lo)) × (r .content ≤ longestElement + 1) ⌝ }
 {
     let unsure = Tally {
@@ -202,7 +205,8 @@ fn survey_packet(table: &[u8], at: usize, source: &[u8], levels: usize) -> usize
 // The length of the packets from record `lo` to record `hi` as elements of a bundle, in which bundles are nested no deeper than `levels`.
 fn survey_packets(table: &[u8], lo: usize, hi: usize, source: &[u8], levels: usize) -> usize
     requires { ⌜ (lo ≤ hi) × (hi ≤ mostRecords) × (recordSize * hi ≤ length (now table)) ⌝ }
-    ensures { λ r. ⌜ (r ≤ longestElement → SurveyedPackets (now (table .entry)) (now (source .entry)) lo hi levels r) × (r ≤ longestElement + 1) ⌝ }
+    ensures { λ r. ⌜ (r ≤ longestElement → SurveyedPackets (now (table .entry)) (now (source .entry)) lo hi levels r)
+        × (r ≤ longestElement + 1) ⌝ }
 {
     let mut total: usize = 0;
     let mut at = lo;
@@ -220,6 +224,8 @@ fn survey_packets(table: &[u8], lo: usize, hi: usize, source: &[u8], levels: usi
 }
 
 // The length of the packet of a table as an element, its size counted, or UNSURE.
+//
+// Ruled out: a length for a table whose first record ends before its last; a length that leaves out the comma before the type tags.
 pub fn survey(table: &[u8], count: usize, source: &[u8]) -> usize
     ensures { λ r. ⌜ (r ≤ longestElement → Surveyed (now (table .entry)) count (now (source .entry)) r) ⌝ }
 {

@@ -1,34 +1,56 @@
 -- What a well-formed table is: the records of one tree that obeys document 01's rules, and of no other.
-use mathlib.Core.Path.{_≡_, ap, _∙_}
+use mathlib.Core.Path.{_≡_, refl, ap, _∙_}
 use mathlib.Core.List.{List, _++_}
-use Prim.Native.Nat.{ℕ, _*_, _≤_, _<_}
+use Prim.Native.Nat.{ℕ, _+_, _*_, _≤_, _<_}
 use native.Mathlib.Omega.{arith}
 use lib.ListN.{length, getD, take, length-append}
 use lib.Seq.{take-at}
 use Rattle.node.specs.Forest.{Forest, nil, node, size}
 use Rattle.node.specs.Tags.{bundleKind}
 use Rattle.node.specs.declared.record.Item.{Item}
-use Rattle.node.specs.Records.{recordSize, mostRecords, recordsOf, itemAt}
+use Rattle.node.specs.Records.{recordSize, mostRecords, recordsOf, endAt, itemAt}
 use Rattle.node.proofs.Recorded.{length-records}
-use Rattle.table.specs.Formed.{WellFormed}
+use Rattle.table.specs.Formed.{allowed, WellFormed}
 use Rattle.table.specs.Tree.{Spans, Obeys, IsTree, FieldsFit}
-use Rattle.table.proofs.Spanned.{spans-size, spans-unique}
-use Rattle.table.proofs.Grown.{tree-of, formed-of}
+use Rattle.table.proofs.Spanned.{spans-size}
+use Rattle.table.proofs.Grown.{grow, kept-of}
 use Rattle.table.proofs.Held.{spans-records, records-held}
 
--- a well-formed table is a tree's
+-- a well-formed table has a tree, whose root is the first record; `spans-unique` says that it has no other
 pub formed-tree : (t : List ℕ) (count : ℕ) (source : List ℕ) → WellFormed t count source
     → (inside : Forest) × IsTree t count source (itemAt t 0) inside
-formed-tree t count source w = tree-of t count source w
+unfolding Spans Obeys allowed
+formed-tree t count source w =
+    let k = w .nodes 0 (w .some) in
+    let g = grow t count source (w .nodes) count {lo = 0 + 1} {hi = endAt t 0} (omega (arith, w .whole)) (omega (arith, w .whole))
+    (k .tiles) in (
+      g .forest,
+      record {
+        spans = (refl, g .spans, w .whole);
+        obeys = (k .rules, k .range, w .root, g .obeys, tt);
+        few = w .few;
+        fits = w .fits;
+        zeros = λ i h. w .nodes i h .zeros;
+      },
+    )
 
--- a tree's table is well formed
+-- a table that has a tree is well formed
 pub tree-formed : {t : List ℕ} {count : ℕ} {source : List ℕ} {item : Item} {inside : Forest} → IsTree t count source item inside
     → WellFormed t count source
-tree-formed w = formed-of w
-
--- a row of records is one forest's alone
-pub tree-unique : (t : List ℕ) (lo hi : ℕ) (F G : Forest) → Spans t lo hi F → Spans t lo hi G → F ≡ G
-tree-unique t lo hi F G x y = spans-unique t lo hi F G x y
+unfolding Spans Obeys allowed
+tree-formed {t} {count} {source} {item} {inside} w =
+    let s = w .spans in
+    let o = w .obeys in
+    record {
+      some = omega (arith, spans-size t (0 + 1) (endAt t 0) inside (s .1), s .2);
+      few = w .few;
+      fits = w .fits;
+      root = rw (← s .0) at (o .2);
+      whole = s .2;
+      nodes = λ i h.
+          let q = kept-of t source bundleKind 0 count (node item inside nil) s o i (omega arith) h in
+          record { zeros = w .zeros i h; rules = q .rules; range = q .range; within = q .within; tiles = q .tiles };
+    }
 
 -- the count is the tree's nodes
 pub tree-size : {t : List ℕ} {count : ℕ} {source : List ℕ} {item : Item} {inside : Forest} → IsTree t count source item inside

@@ -37,6 +37,8 @@ fn may_contain(container: u8, kind: u8) -> bool
 }
 
 // Whether a range lies in the source and is UTF-8 there.
+//
+// Ruled out: true for a range that ends past the source; true for bytes that are not UTF-8.
 pub fn text_ok(source: &[u8], offset: u32, count: u32) -> bool
     ensures { λ r. ⌜ r ≡ textOk (now (source .entry)) offset count ⌝ }
 {

@@ -12,5 +12,6 @@ pub look-only : (table : List ℕ) (index : ℕ) (r s : Looked) → r ≡ lookAt
 look-only table index r s = one-outcome
 
 -- no second text satisfies the contract of `text_of`
-pub text-of-only : (value : OscType) (packet label r s : List ℕ) → r ≡ textNamed value packet label → s ≡ textNamed value packet label → r ≡ s
+pub text-of-only : (value : OscType) (packet label r s : List ℕ) → r ≡ textNamed value packet label
+    → s ≡ textNamed value packet label → r ≡ s
 text-of-only value packet label r s = one-outcome

@@ -53,7 +53,8 @@ message-even : (source : List ℕ) (item : Item) (inside : Forest) → length (w
 unfolding writeMessage
 message-even source item inside =
     both-even (oscString (part source (item .a) (item .b))) _ (string-even (part source (item .a) (item .b)))
-    (both-even (oscString (44 ∷ writeTags inside)) (writeData source inside) (string-even (44 ∷ writeTags inside)) (data-even source inside))
+    (both-even (oscString (44 ∷ writeTags inside)) (writeData source inside) (string-even (44 ∷ writeTags inside))
+    (data-even source inside))
 
 bundle-even : (item : Item) (elements : List ℕ) → length elements % 4 ≡ 0 → length (writeBundle item elements) % 4 ≡ 0
 bundle-even item elements h = rw length-bundle (omega arith)

@@ -95,7 +95,8 @@ module _ {source t : List ℕ} {at : ℕ} (o : List ℕ) (y : kindAt t at ≡ me
   -- how long the message is
   abbrev message-length : ℕ
   message-length =
-      length (oscString (part source (item .a) (item .b))) + length (tagText (q .room .forest)) + length (writeData source (q .room .forest))
+      length (oscString (part source (item .a) (item .b)))
+      + length (tagText (q .room .forest)) + length (writeData source (q .room .forest))
 
   message-room : (message-length ≤ length o) × (message-length ≤ longest)
   message-room =

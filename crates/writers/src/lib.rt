@@ -128,6 +128,8 @@ fn encode_bundle(table: &[u8], at: usize, source: &[u8], out: &mut [u8]) -> usiz
 }
 
 // Writes the packet at a record.
+//
+// Ruled out: an element's size that counts its own four bytes; a time tag whose fraction stands before its seconds.
 pub fn encode_packet(table: &[u8], at: usize, source: &[u8], out: &mut [u8]) -> usize
     requires { ⌜ Ready (now source) (now table) at (length (now out)) ⌝ }
     ensures { λ r. ⌜ WritesPacket (now (source .entry)) (now (table .entry)) at (now (out .entry)) (now (out .exit)) r ⌝ }

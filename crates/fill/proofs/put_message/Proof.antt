@@ -24,7 +24,8 @@ returns c =
     let p6 = p2 .before .before .before .before in
     let p11 = p6 .before .before .before .before .before in
     let a = p11 .args in
-    put-stored (a .item) (readArgs (a .base) (a .tags .now) (a .input .now) (a .pos)) (p11 .pre .1 .1) (a .index) (p6 .put-record .ensures) (p2 .read-osc-args .ensures)
+    put-stored (a .item) (readArgs (a .base) (a .tags .now) (a .input .now) (a .pos)) (p11 .pre .1 .1) (a .index)
+    (p6 .put-record .ensures) (p2 .read-osc-args .ensures)
 
 pub put-message-spec : {M : Type 1} → statement M
 put-message-spec =

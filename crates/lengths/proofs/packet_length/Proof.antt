@@ -19,7 +19,8 @@ loop-holds c = (omega arith, sym (sum-none (elementLength (c .before .args .tabl
 
 element-length-requires : tie.Need-element-length-requires Inv-loop μ-loop
 element-length-requires c κs =
-    let q = c .before .before .before .pre .1 (c .before .loop .at) (c .loop-test .taken) in record { on = q .0; low = omega arith; table = omega arith }
+    let q = c .before .before .before .pre .1 (c .before .loop .at) (c .loop-test .taken) in
+    record { on = q .0; low = omega arith; table = omega arith }
 
 add-total : tie.Need-add-total Inv-loop μ-loop
 add-total c = omega (arith, c .element-length .ensures .1)

@@ -11,7 +11,8 @@ use Rattle.measure.proofs.skim_elements.Tie as tie
 
 abbrev Inv-loop : tie.InvT-loop
 Inv-loop input pos rest₀ at₀ rest at =
-    (at + length rest ≡ pos + length input) × ((base : ℕ) → pos + usedBy (readElements base input pos) ≡ at + usedBy (readElements base rest at))
+    (at + length rest ≡ pos + length input) × ((base : ℕ) → pos + usedBy (readElements base input pos)
+    ≡ at + usedBy (readElements base rest at))
 
 abbrev μ-loop : tie.MeasureT-loop
 μ-loop input pos rest₀ at₀ rest at = length rest

@@ -1,5 +1,4 @@
 -- `recorded_runs::file_space` meets its contract. With the level and the type written out, the zeros are not counted one by one.
--- Assumes nothing.
 use mathlib.Core.Path.{sym}
 use Prim.Native.Nat.{ℕ}
 use lib.ListN.{length-replicate}

@@ -1,5 +1,4 @@
 -- `runs::begins` meets its contract. A slice that is shorter than the bytes cannot begin with them.
--- Assumes nothing.
 use mathlib.Core.Path.{ap, sym}
 use native.Mathlib.Omega.{arith}
 use borrow.Author.Needs.{needs}
@@ -14,11 +13,5 @@ returns c = (λ e. (cc), λ e. absurd (omega (arith, simp length-take at (ap len
 slice-aggregate-same : tie.Need-slice-aggregate-same
 slice-aggregate-same c = sym (length-take-le _ _ (c .before .if1 .left))
 
-same-requires : tie.Need-same-requires
-same-requires c κs = search needs
-
-returns-2 : tie.Need-returns-2
-returns-2 c = search needs
-
 pub begins-spec : {M : Type 1} → statement M
-begins-spec = tie.close (tie.spec returns slice-aggregate-same same-requires returns-2)
+begins-spec = tie.close (tie.spec returns slice-aggregate-same (λ c κs. search needs) (λ c. search needs))

@@ -1,5 +1,4 @@
 -- `runs::is_kept` meets its contract. The invariant: each byte from `from` up to `i` is as it was.
--- Assumes nothing.
 use Prim.Native.Nat.{ℕ, _≤_, _<_, _-_}
 use mathlib.Core.Path.{_≡_, refl}
 use native.Mathlib.Omega.{arith}
@@ -18,19 +17,10 @@ abbrev μ-loop : tie.MeasureT-loop
 loop-holds : tie.Need-loop-holds Inv-loop μ-loop
 loop-holds c = (search needs, λ k l h. absurd (omega arith))
 
-shared-slice-read-if1 : tie.Need-shared-slice-read-if1 Inv-loop μ-loop
-shared-slice-read-if1 c = search needs
-
 returns : tie.Need-returns Inv-loop μ-loop
 returns c =
     let i : ℕ = c .before .before .before .loop .i in
     (λ e k l h. (cc), λ kept. absurd (c .if1 .taken (kept i (omega arith) (omega arith))))
-
-add-i : tie.Need-add-i Inv-loop μ-loop
-add-i c = search needs
-
-loop-less : tie.Need-loop-less Inv-loop μ-loop
-loop-less c = search needs
 
 loop-again : tie.Need-loop-again Inv-loop μ-loop
 loop-again c =
@@ -41,4 +31,4 @@ returns-2 c = (λ e k l h. c .before .loop .inv .1 k (omega arith) l, λ kept. r
 
 pub is-kept-spec : {M : Type 1} → statement M
 is-kept-spec =
-    tie.close (tie.spec Inv-loop μ-loop loop-holds shared-slice-read-if1 returns add-i loop-less loop-again returns-2)
+    tie.close (tie.spec Inv-loop μ-loop loop-holds (λ c. search needs) returns (λ c. search needs) (λ c. search needs) loop-again returns-2)

@@ -87,7 +87,8 @@ pub +survey-packet+survey-packets-spec : {M : Type 1} → statement M
     -- returns
     (λ c. ((λ h. absurd (omega (arith, h))), omega arith))
     -- field-at-requires
-    (λ c κs. let p5 = c .before .before .before .before .before in let q = p5 .pre .1 in (omega (arith, q .on, q .table), omega arith))
+    (λ c κs. let p5 = c .before .before .before .before .before in let q = p5 .pre .1 in
+    (omega (arith, q .on, q .table), omega arith))
     -- cast-end
     (λ c. search needs)
     -- add-survey-packets
@@ -107,13 +108,15 @@ pub +survey-packet+survey-packets-spec : {M : Type 1} → statement M
     -- returns-2
     (λ c. (
       (λ h. surveyed-message
-          (sym (c .before .before .kind-at .ensures) ∙ sym (by-keys (λ (k : ℕ). k) messageKind (messageKind ∷ []) (refl, tt) _ (c .before .match .keys1)))
+          (sym (c .before .before .kind-at .ensures)
+          ∙ sym (by-keys (λ (k : ℕ). k) messageKind (messageKind ∷ []) (refl, tt) _ (c .before .match .keys1)))
           (c .survey-message .ensures .0 (omega (arith, h)))),
       omega (arith, c .survey-message .ensures .1),
     ))
     -- returns-3
     (λ c. let p2 = c .before .before in let p3 = p2 .before in let p4 = p3 .before in (
-      (λ h. surveyed-bundle (sym (p4 .kind-at .ensures) ∙ sym (by-keys (λ (k : ℕ). k) bundleKind (bundleKind ∷ []) (refl, tt) _ (p3 .match .keys2)))
+      (λ h. surveyed-bundle
+          (sym (p4 .kind-at .ensures) ∙ sym (by-keys (λ (k : ℕ). k) bundleKind (bundleKind ∷ []) (refl, tt) _ (p3 .match .keys2)))
           (p2 .if1 .left) (rw (c .before .field-at .ensures) at (c .survey-packets .ensures .0 (omega (arith, h))))),
       omega (arith, c .survey-packets .ensures .1),
     ))
@@ -149,7 +152,8 @@ pub +survey-packet+survey-packets-spec : {M : Type 1} → statement M
     -- returns-2
     (λ c. ((λ h. absurd (omega (arith, h))), omega arith))
     -- field-at-requires
-    (λ c κs. let p8 = c .before .before .before .before .before .before .before .before in (omega (arith, p8 .pre .1), omega arith))
+    (λ c κs. let p8 = c .before .before .before .before .before .before .before .before in
+    (omega (arith, p8 .pre .1), omega arith))
     -- cast-at
     (λ c. search needs)
     -- loop-less

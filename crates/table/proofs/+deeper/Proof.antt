@@ -71,27 +71,33 @@ pub +deeper-spec : {M : Type 1} → statement M
           (l .loop-test .taken) (w .1),
     ))
     -- returns-2: a bundle inside is too deep
-    (λ c. let b = c .before .before .before in let k = b .before in let l = k .before .before in λ F s.
+    (λ c. let p2 = c .before .before in let b = p2 .before in let k = b .before in let l = k .before .before in λ F s.
     found-inside (l .before .loop .inv F s) (k .kind-at .ensures) (k .before .field-at .ensures) (l .loop-test .taken)
-    (b .if1 .taken) (c .before .before .if2 .left) (c .before .deeper .ensures) (c .if3 .taken))
+    (b .if1 .taken) (p2 .if2 .left) (c .before .deeper .ensures) (c .if3 .taken))
     -- loop-less
     (λ c.
     let k = c .before .before .before .before in
     let l = k .before .before in
     let w = l .before .before .before .pre .1 in
-    omega
-    (arith, next-on (l .before .loop .inv (w .forest) (w .spans)) (k .kind-at .ensures) (k .before .field-at .ensures) (l .loop-test .taken)))
+    omega (
+      arith,
+      next-on (l .before .loop .inv (w .forest) (w .spans)) (k .kind-at .ensures) (k .before .field-at .ensures)
+          (l .loop-test .taken),
+    ))
     -- loop-again: past a bundle
-    (λ c. let b = c .before .before .before in let k = b .before in let l = k .before .before in λ F s.
+    (λ c. let p2 = c .before .before in let b = p2 .before in let k = b .before in let l = k .before .before in λ F s.
     passed-bundle (l .before .loop .inv F s) (k .kind-at .ensures) (k .before .field-at .ensures) (l .loop-test .taken)
-    (b .if1 .taken) (c .before .before .if2 .left) (c .before .deeper .ensures) (c .if3 .left))
+    (b .if1 .taken) (p2 .if2 .left) (c .before .deeper .ensures) (c .if3 .left))
     -- loop-less-2
     (λ c.
     let k = c .before in
     let l = k .before .before in
     let w = l .before .before .before .pre .1 in
-    omega
-    (arith, next-on (l .before .loop .inv (w .forest) (w .spans)) (k .kind-at .ensures) (k .before .field-at .ensures) (l .loop-test .taken)))
+    omega (
+      arith,
+      next-on (l .before .loop .inv (w .forest) (w .spans)) (k .kind-at .ensures) (k .before .field-at .ensures)
+          (l .loop-test .taken),
+    ))
     -- loop-again-2: past any other node
     (λ c. λ F s.
     let k = c .before in

@@ -19,7 +19,8 @@ returns-2 : tie.Need-returns-2
 unfolding allowed
 returns-2 c =
     let e = ap not (c .is-packet2 .ensures) in
-    by-keys (λ (k : ℕ). allowed k (c .before .before .args .kind)) (not (c .is-packet2 .result)) (messageKind ∷ arrayKind ∷ []) (e, (e, tt)) _
+    by-keys (λ (k : ℕ). allowed k (c .before .before .args .kind)) (not (c .is-packet2 .result)) (messageKind ∷ arrayKind ∷ [])
+    (e, (e, tt)) _
     (c .before .match .keys2)
 
 returns-3 : tie.Need-returns-3

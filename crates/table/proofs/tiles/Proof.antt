@@ -24,7 +24,8 @@ returns c =
 returns-2 : tie.Need-returns-2 Inv-loop μ-loop
 returns-2 c =
     let k = c .before .before .before .before in
-    ends-early (k .before .before .loop .inv) (k .kind-at .ensures) (k .before .loop-test .taken) (c .before .field-at .ensures) (c .if2 .taken)
+    ends-early (k .before .before .loop .inv) (k .kind-at .ensures) (k .before .loop-test .taken) (c .before .field-at .ensures)
+    (c .if2 .taken)
 
 loop-again : tie.Need-loop-again Inv-loop μ-loop
 loop-again c =

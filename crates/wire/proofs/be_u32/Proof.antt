@@ -1,4 +1,4 @@
--- `number::be_u32` meets its contract. By the law of one byte more.
+-- `wire::be_u32` meets its contract. By the law of one byte more.
 use native.Mathlib.Nat.{add-zero}
 use native.Mathlib.Omega.{arith}
 use borrow.Author.Needs.{needs}

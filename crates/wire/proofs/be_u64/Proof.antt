@@ -1,4 +1,4 @@
--- `number::be_u64` meets its contract. By the law of a number's two parts.
+-- `wire::be_u64` meets its contract. By the law of a number's two parts.
 use native.Mathlib.Omega.{arith}
 use borrow.Author.Needs.{needs}
 use Rattle.wire.proofs.Numbers.{number-parts}

@@ -1,4 +1,4 @@
--- `number::byte_at` meets its contract. A byte is below 256.
+-- `wire::byte_at` meets its contract. A byte is below 256.
 use native.Mathlib.Omega.{arith}
 use borrow.Author.Needs.{needs}
 use Rattle.wire.proofs.byte_at.Statement.{statement}

@@ -1,4 +1,4 @@
--- `number::pad` meets its contract, by its one test.
+-- `wire::pad` meets its contract, by its one test.
 use borrow.Author.Needs.{needs}
 use borrow.Author.Tests.{le-leb, lt-leb}
 use Rattle.wire.proofs.pad.Statement.{statement}

@@ -1,4 +1,4 @@
--- `number::put` meets its contract. The invariant: the bytes that are to come, and what stands after them, make the whole.
+-- `wire::put` meets its contract. The invariant: the bytes that are to come, and what stands after them, make the whole.
 use mathlib.Core.Path.{_≡_, refl, _∙_}
 use mathlib.Core.List.{_++_}
 use Prim.Native.Nat.{_≤_, _-_}

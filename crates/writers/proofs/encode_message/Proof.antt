@@ -46,7 +46,8 @@ add-head c =
     let p13 = p9 .before .before .before .before in
     let s = p13 in omega (
       arith,
-      head-room (s .args .out .now) (s .pre .0) (s .pre .1) (p9 .field-at .ensures) (p8 .item-at .ensures) (p6 .encode-leaf-data .ensures) (p2 .encode-type-tags .ensures),
+      head-room (s .args .out .now) (s .pre .0) (s .pre .1) (p9 .field-at .ensures) (p8 .item-at .ensures) (p6 .encode-leaf-data .ensures)
+          (p2 .encode-type-tags .ensures),
     )
 
 add-encode-arg-data : tie.Need-add-encode-arg-data
@@ -63,7 +64,8 @@ sub-encode-arg-data c =
     let p13 = p9 .before .before .before .before in
     let s = p13 in omega (
       arith,
-      head-room (s .args .out .now) (s .pre .0) (s .pre .1) (p9 .field-at .ensures) (p8 .item-at .ensures) (p6 .encode-leaf-data .ensures) (p2 .encode-type-tags .ensures),
+      head-room (s .args .out .now) (s .pre .0) (s .pre .1) (p9 .field-at .ensures) (p8 .item-at .ensures) (p6 .encode-leaf-data .ensures)
+          (p2 .encode-type-tags .ensures),
     )
 
 part-encode-arg-data-start : tie.Need-part-encode-arg-data-start
@@ -75,7 +77,8 @@ part-encode-arg-data-start c =
     let p13 = p9 .before .before .before .before in
     let s = p13 in omega (
       arith,
-      head-room (s .args .out .now) (s .pre .0) (s .pre .1) (p9 .field-at .ensures) (p8 .item-at .ensures) (p6 .encode-leaf-data .ensures) (p2 .encode-type-tags .ensures),
+      head-room (s .args .out .now) (s .pre .0) (s .pre .1) (p9 .field-at .ensures) (p8 .item-at .ensures) (p6 .encode-leaf-data .ensures)
+          (p2 .encode-type-tags .ensures),
     )
 
 encode-arg-data-requires : tie.Need-encode-arg-data-requires
@@ -98,7 +101,8 @@ add-result c =
     let p17 = p13 .before .before .before .before in
     let s = p17 in omega (
       arith,
-      message-end (s .args .out .now) (s .pre .0) (s .pre .1) (p13 .field-at .ensures) (p12 .item-at .ensures) (p10 .encode-leaf-data .ensures) (p6 .encode-type-tags .ensures) (p2 .encode-arg-data .ensures),
+      message-end (s .args .out .now) (s .pre .0) (s .pre .1) (p13 .field-at .ensures) (p12 .item-at .ensures)
+          (p10 .encode-leaf-data .ensures) (p6 .encode-type-tags .ensures) (p2 .encode-arg-data .ensures),
     )
 
 returns : tie.Need-returns
@@ -109,7 +113,8 @@ returns c =
     let p12 = p10 .before .before in
     let p13 = p12 .before in
     let p17 = p13 .before .before .before .before in
-    let s = p17 in message-filled (s .args .out .now) (s .pre .0) (s .pre .1) (p13 .field-at .ensures) (p12 .item-at .ensures) (p10 .encode-leaf-data .ensures) (p6 .encode-type-tags .ensures) (p2 .encode-arg-data .ensures)
+    let s = p17 in message-filled (s .args .out .now) (s .pre .0) (s .pre .1) (p13 .field-at .ensures) (p12 .item-at .ensures)
+    (p10 .encode-leaf-data .ensures) (p6 .encode-type-tags .ensures) (p2 .encode-arg-data .ensures)
 
 pub encode-message-spec : {M : Type 1} → statement M
 encode-message-spec =

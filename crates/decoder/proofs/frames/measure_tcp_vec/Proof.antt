@@ -45,7 +45,8 @@ add-count c =
     let p9 = p8 .before in
     let a = p9 .before .before .before .args in
     let w = totalling-tree (a .depth) (a .msg .now) (p9 .loop .at) (p9 .loop .count) (p9 .loop .deep) (p9 .loop .inv) (p8 .loop-test .taken)
-    (tail (a .msg .now) (p9 .loop .at)) (p6 .measure-frame .ensures (p9 .loop .at)) (p4 .extent .given .1 ∙ ap Packet (p1 .extent2 .given .1)) in
+    (tail (a .msg .now) (p9 .loop .at)) (p6 .measure-frame .ensures (p9 .loop .at))
+    (p4 .extent .given .1 ∙ ap Packet (p1 .extent2 .given .1)) in
     omega (arith, w .0, w .1)
 
 add-at : tie.Need-add-at Inv-loop μ-loop
@@ -57,7 +58,8 @@ add-at c =
     let p9 = p8 .before in
     let a = p9 .before .before .before .args in
     let w = totalling-tree (a .depth) (a .msg .now) (p9 .loop .at) (p9 .loop .count) (p9 .loop .deep) (p9 .loop .inv) (p8 .loop-test .taken)
-    (tail (a .msg .now) (p9 .loop .at)) (p6 .measure-frame .ensures (p9 .loop .at)) (p4 .extent .given .1 ∙ ap Packet (p1 .extent2 .given .1)) in
+    (tail (a .msg .now) (p9 .loop .at)) (p6 .measure-frame .ensures (p9 .loop .at))
+    (p4 .extent .given .1 ∙ ap Packet (p1 .extent2 .given .1)) in
     omega (arith, w .0, w .1)
 
 loop-less : tie.Need-loop-less Inv-loop μ-loop
@@ -69,7 +71,8 @@ loop-less c =
     let p9 = p8 .before in
     let a = p9 .before .before .before .args in
     let w = totalling-tree (a .depth) (a .msg .now) (p9 .loop .at) (p9 .loop .count) (p9 .loop .deep) (p9 .loop .inv) (p8 .loop-test .taken)
-    (tail (a .msg .now) (p9 .loop .at)) (p6 .measure-frame .ensures (p9 .loop .at)) (p4 .extent .given .1 ∙ ap Packet (p1 .extent2 .given .1)) in
+    (tail (a .msg .now) (p9 .loop .at)) (p6 .measure-frame .ensures (p9 .loop .at))
+    (p4 .extent .given .1 ∙ ap Packet (p1 .extent2 .given .1)) in
     omega (arith, w .0, w .1)
 
 loop-again : tie.Need-loop-again Inv-loop μ-loop
@@ -81,7 +84,8 @@ loop-again c =
     let p9 = p8 .before in
     let a = p9 .before .before .before .args in
     totalling-tree (a .depth) (a .msg .now) (p9 .loop .at) (p9 .loop .count) (p9 .loop .deep) (p9 .loop .inv) (p8 .loop-test .taken)
-    (tail (a .msg .now) (p9 .loop .at)) (p6 .measure-frame .ensures (p9 .loop .at)) (p4 .extent .given .1 ∙ ap Packet (p1 .extent2 .given .1)) .1
+    (tail (a .msg .now) (p9 .loop .at)) (p6 .measure-frame .ensures (p9 .loop .at))
+    (p4 .extent .given .1 ∙ ap Packet (p1 .extent2 .given .1)) .1
 
 add-at-2 : tie.Need-add-at-2 Inv-loop μ-loop
 add-at-2 c =
@@ -92,7 +96,8 @@ add-at-2 c =
     let p9 = p8 .before in
     let a = p9 .before .before .before .args in
     let w = totalling-deep (a .depth) (a .msg .now) (p9 .loop .at) (p9 .loop .count) (p9 .loop .deep) (p9 .loop .inv) (p8 .loop-test .taken)
-    (tail (a .msg .now) (p9 .loop .at)) (p6 .measure-frame .ensures (p9 .loop .at)) (p4 .extent .given .1 ∙ ap Packet (p1 .extent3 .given .1)) in
+    (tail (a .msg .now) (p9 .loop .at)) (p6 .measure-frame .ensures (p9 .loop .at))
+    (p4 .extent .given .1 ∙ ap Packet (p1 .extent3 .given .1)) in
     omega (arith, w .0)
 
 loop-less-2 : tie.Need-loop-less-2 Inv-loop μ-loop
@@ -104,7 +109,8 @@ loop-less-2 c =
     let p9 = p8 .before in
     let a = p9 .before .before .before .args in
     let w = totalling-deep (a .depth) (a .msg .now) (p9 .loop .at) (p9 .loop .count) (p9 .loop .deep) (p9 .loop .inv) (p8 .loop-test .taken)
-    (tail (a .msg .now) (p9 .loop .at)) (p6 .measure-frame .ensures (p9 .loop .at)) (p4 .extent .given .1 ∙ ap Packet (p1 .extent3 .given .1)) in
+    (tail (a .msg .now) (p9 .loop .at)) (p6 .measure-frame .ensures (p9 .loop .at))
+    (p4 .extent .given .1 ∙ ap Packet (p1 .extent3 .given .1)) in
     omega (arith, w .0)
 
 loop-again-2 : tie.Need-loop-again-2 Inv-loop μ-loop
@@ -116,7 +122,8 @@ loop-again-2 c =
     let p9 = p8 .before in
     let a = p9 .before .before .before .args in
     totalling-deep (a .depth) (a .msg .now) (p9 .loop .at) (p9 .loop .count) (p9 .loop .deep) (p9 .loop .inv) (p8 .loop-test .taken)
-    (tail (a .msg .now) (p9 .loop .at)) (p6 .measure-frame .ensures (p9 .loop .at)) (p4 .extent .given .1 ∙ ap Packet (p1 .extent3 .given .1)) .1
+    (tail (a .msg .now) (p9 .loop .at)) (p6 .measure-frame .ensures (p9 .loop .at))
+    (p4 .extent .given .1 ∙ ap Packet (p1 .extent3 .given .1)) .1
 
 returns-3 : tie.Need-returns-3 Inv-loop μ-loop
 returns-3 c =
@@ -127,7 +134,8 @@ returns-3 c =
     let p9 = p8 .before in
     let a = p9 .before .before .before .args in
     totalling-refused (a .depth) (a .msg .now) (p9 .loop .at) (p9 .loop .count) (p9 .loop .deep) (p9 .loop .inv) (p8 .loop-test .taken)
-    (tail (a .msg .now) (p9 .loop .at)) (p6 .measure-frame .ensures (p9 .loop .at)) (p4 .extent .given .1 ∙ ap Packet (p1 .extent4 .given .1))
+    (tail (a .msg .now) (p9 .loop .at)) (p6 .measure-frame .ensures (p9 .loop .at))
+    (p4 .extent .given .1 ∙ ap Packet (p1 .extent4 .given .1))
 
 returns-4 : tie.Need-returns-4 Inv-loop μ-loop
 returns-4 c =

@@ -1,4 +1,4 @@
--- `types::record::kind_at` meets its contract.
+-- `node::record::kind_at` meets its contract.
 use mathlib.Core.Path.{refl}
 use borrow.Author.Needs.{needs}
 use Rattle.node.specs.Records.{kindAt}

@@ -1,4 +1,4 @@
--- `types::record::put_kind` meets its contract. Four bytes, one after another.
+-- `node::record::put_kind` meets its contract. Four bytes, one after another.
 use lib.ListN.{length-set}
 use borrow.Author.Needs.{needs}
 use Rattle.node.proofs.Recorded.{kind-written}

@@ -1,4 +1,4 @@
--- `types::record::zeros_at` meets its contract: the three bytes are what the first four leave without the kind.
+-- `node::record::zeros_at` meets its contract: the three bytes are what the first four leave without the kind.
 use mathlib.Core.Path.{ap, _∙_}
 use Prim.Native.Nat.{ℕ, _%_}
 use native.Mathlib.Omega.{arith}

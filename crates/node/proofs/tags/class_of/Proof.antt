@@ -1,4 +1,4 @@
--- `types::tags::class_of` meets its contract. Each arm by its keys, the last by all that were passed by.
+-- `node::tags::class_of` meets its contract. Each arm by its keys, the last by all that were passed by.
 use mathlib.Core.Path.{refl}
 use mathlib.Core.List.{[], _∷_}
 use borrow.Author.Tests.{ne-eqb}

@@ -1,4 +1,4 @@
--- `types::tags::is_scalar` meets its contract. By its tests.
+-- `node::tags::is_scalar` meets its contract. By its tests.
 use borrow.Author.Tests.{lt-ltb, le-ltb, lt-leb, le-leb}
 use Rattle.node.proofs.tags.is_scalar.Statement.{statement}
 use Rattle.node.proofs.tags.is_scalar.Tie as tie

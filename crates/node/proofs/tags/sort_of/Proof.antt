@@ -1,4 +1,4 @@
--- `types::tags::sort_of` meets its contract. Each arm by its key.
+-- `node::tags::sort_of` meets its contract. Each arm by its key.
 use mathlib.Core.Path.{ap}
 use borrow.Author.Tests.{ne-eqb}
 use borrow.Author.Needs.{needs}

@@ -1,5 +1,4 @@
 -- `osc_tool::space::table` meets its contract. A repeat of any length is as long as it says, so nothing counts to a million.
--- Assumes nothing.
 use mathlib.Core.Path.{_≡_, sym}
 use Prim.Native.Nat.{ℕ}
 use lib.ListN.{length, replicate, length-replicate}

@@ -1,4 +1,4 @@
--- `types::value::bare` meets its contract. Each arm by its key.
+-- `values::value::bare` meets its contract. Each arm by its key.
 use borrow.Author.Tests.{ne-eqb}
 use Rattle.values.specs.Value.{bareOf}
 use Rattle.values.proofs.value.bare.Statement.{statement}

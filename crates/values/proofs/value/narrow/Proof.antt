@@ -1,4 +1,4 @@
--- `types::value::narrow` meets its contract. Each arm by its key.
+-- `values::value::narrow` meets its contract. Each arm by its key.
 use mathlib.Core.Path.{_∙_, ap}
 use mir.ValLaws.{toZ-ofZ}
 use mir.Syntax.{w32}

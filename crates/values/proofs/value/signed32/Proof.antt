@@ -1,4 +1,4 @@
--- `types::value::signed32` meets its contract. The complement of the complement is the number.
+-- `values::value::signed32` meets its contract. The complement of the complement is the number.
 use mathlib.Core.Path.{ap}
 use native.Mathlib.Omega.{arith}
 use mir.Val.{toZ}

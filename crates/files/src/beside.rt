@@ -1,0 +1,28 @@
+// The name under which a file is written first: its own name, ".part" and the digits of the process's number.
+use wire::copy;
+ghost use Prim.Native.Nat.{_+_, _≤_};
+ghost use lib.ListN.{length};
+ghost use Rattle.wire.specs.Wrote.{Filled};
+ghost use Rattle.files.specs.Beside.{besideName};
+
+// Puts the name, which `digits` keep apart from those of other processes.
+pub fn put_name(path: &[u8], digits: &[u8; 16], out: &mut [u8]) -> usize
+    requires { ⌜ length (now path) + 21 ≤ length (now out) ⌝ }
+    ensures { λ r. ⌜ Filled (besideName (now (path .entry)) (now (digits .entry))) (now (out .entry)) (now (out .exit)) r ⌝ }
+{
+    let n = path.len();
+    copy(path, out);
+    copy(b".part", &mut out[n..]);
+    let m = n + 5;
+    copy(digits, &mut out[m..]);
+    m + 16
+}
+
+// The process's number.
+pub fn own_number() -> u64 {
+    let pid = libc::getpid();
+    if pid < 0 {
+        return 0;
+    }
+    pid as u64
+}

@@ -1,0 +1,133 @@
+// The numbers that a command is given, and the options of decode.
+use crate::say;
+use words::numeral::Numeral;
+use words::numeral::decimal;
+ghost use mathlib.Core.Path.{_≡_};
+ghost use Prim.Native.Nat.{_≤_, _<_};
+ghost use Rattle.words.specs.Numeral.{numeralOf};
+ghost use Rattle.osc_tool.specs.Options.{nineDigits};
+
+// What the options of decode say, and whether they are understood.
+pub struct Options {
+    pub is_clear: bool,
+    pub depth: usize,
+    pub records: usize,
+}
+
+// The greatest number of nine digits.
+const MOST: u64 = 999_999_999;
+
+// As many records as a table may have.
+const MOST_RECORDS: usize = 65_535;
+
+// As deep as bundles may be nested.
+const DEEPEST: usize = 64;
+
+// The number of a word, where it has at most nine digits. What is wrong with it is said here.
+//
+// Ruled out: a number for 1000000000; none for 999999999.
+fn short_number(word: &[u8]) -> Numeral
+    ensures { λ r. ⌜ r ≡ nineDigits (numeralOf (now (word .entry))) ⌝ }
+{
+    if let Numeral::Is(x) = decimal(word) {
+        if x <= MOST {
+            return Numeral::Is(x);
+        }
+    }
+    say::trouble(b"not a number of at most nine digits: ", word);
+    Numeral::Unclear
+}
+
+// Word `i` as a number.
+pub fn number_word(i: usize) -> Numeral {
+    let mut word = io::buffer();
+    let n = os::arg(i, &mut word);
+    short_number(&word[..n])
+}
+
+// Options that are not understood.
+fn unclear() -> Options
+    ensures { λ r. ⌜ r .records ≤ 65535 ⌝ }
+{
+    Options {
+        is_clear: false,
+        depth: DEEPEST,
+        records: MOST_RECORDS,
+    }
+}
+
+// The options with as many records. What is wrong with that is said here.
+//
+// Ruled out: more records than a table has room for.
+fn with_records(options: Options, x: usize) -> Options
+    ensures { λ r. ⌜ r .records ≤ 65535 ⌝ }
+{
+    if MOST_RECORDS < x {
+        say::wrong(b"more than 65535 for --records");
+        return unclear();
+    }
+    Options {
+        is_clear: options.is_clear,
+        depth: options.depth,
+        records: x,
+    }
+}
+
+// The options with one of them set. What is wrong with it is said here.
+fn chosen(options: Options, name: &[u8], x: usize) -> Options
+    requires { ⌜ options .records ≤ 65535 ⌝ }
+    ensures { λ r. ⌜ r .records ≤ 65535 ⌝ }
+{
+    if check::same(name, b"--records") {
+        return with_records(options, x);
+    }
+    if check::same(name, b"--depth") {
+        return Options {
+            is_clear: options.is_clear,
+            depth: x,
+            records: options.records,
+        };
+    }
+    say::trouble(b"not --depth or --records: ", name);
+    unclear()
+}
+
+// The options with the one whose name is word `i`, and whose number is the word after it.
+fn with_option(options: Options, i: usize) -> Options
+    requires { ⌜ (options .records ≤ 65535) × (i < 16) ⌝ }
+    ensures { λ r. ⌜ r .records ≤ 65535 ⌝ }
+{
+    let mut name = io::buffer();
+    let n = os::arg(i, &mut name);
+    match number_word(i + 1) {
+        Numeral::Is(x) => chosen(options, &name[..n], x as usize),
+        Numeral::Unclear => unclear(),
+    }
+}
+
+// The options of decode: words 5 and 6, then 7 and 8. What is wrong with them is said here.
+pub fn options_words() -> Options
+    ensures { λ r. ⌜ r .records ≤ 65535 ⌝ }
+{
+    let none = Options {
+        is_clear: true,
+        depth: DEEPEST,
+        records: MOST_RECORDS,
+    };
+    let count = os::arg_count();
+    if count == 5 {
+        return none;
+    }
+    if count == 7 {
+        return with_option(none, 5);
+    }
+    if count == 9 {
+        let one = with_option(none, 5);
+        if !one.is_clear {
+            return one;
+        }
+        return with_option(one, 7);
+    }
+    say::wrong(b"decode takes udp|tcp|tcp-vec INPUT TABLE [--depth N] [--records N]");
+    unclear()
+}

@@ -1,0 +1,19 @@
+-- `words::line::start` meets its contract. The invariant: the position is at most the length; the measure is the words
+-- that are left.
+use borrow.Author.Needs.{needs}
+use Prim.Native.Nat.{_≤_}
+use lib.ListN.{length}
+use Rattle.words.proofs.line.start.Statement.{statement}
+use Rattle.words.proofs.line.start.Tie as tie
+
+abbrev Inv-loop : tie.InvT-loop
+Inv-loop s n at₀ left₀ at left = at ≤ length s
+
+abbrev μ-loop : tie.MeasureT-loop
+μ-loop s n at₀ left₀ at left = left
+
+pub start-spec : {M : Type 1} → statement M
+start-spec =
+    tie.close
+    (tie.spec Inv-loop μ-loop (λ c. search needs) (λ c κs. search needs) (λ c. search needs) (λ c. search needs) (λ c. search needs)
+    (λ c. search needs))
