@@ -59,9 +59,9 @@ abbrev Seen : List ℕ → ℕ → Looked → Type 0
 Seen t i (looked.Value v) = (i < capacity t) × (kindOf v ≡ kindAt t i)
 Seen t i (looked.Refused r) = Unit {0}
 
-both-true : (x y : Bool) → x && y ≡ true → y ≡ true
-both-true true y e = e
-both-true false y e = absurd (false≢true e)
+second-true : (x y : Bool) → x && y ≡ true → y ≡ true
+second-true true y e = e
+second-true false y e = absurd (false≢true e)
 
 -- so it does
 seen : (t : List ℕ) (i : ℕ) → Seen t i (lookAt t i)
@@ -69,7 +69,7 @@ unfolding lookAt
 seen t i =
     by-test (Seen t i) (ltb i (capacity t))
     (λ h. by-test (Seen t i) (eqb (zerosAt t i) 0 && ownRules (itemAt t i))
-    (λ e. (ltb-true i (capacity t) h, kind-kept (itemAt t i) (both-true (eqb (zerosAt t i) 0) (ownRules (itemAt t i)) e))) (λ _. tt))
+    (λ e. (ltb-true i (capacity t) h, kind-kept (itemAt t i) (second-true (eqb (zerosAt t i) 0) (ownRules (itemAt t i)) e))) (λ _. tt))
     (λ _. tt)
 
 -- a value is given only where there is such a record
