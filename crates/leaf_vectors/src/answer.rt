@@ -1,4 +1,5 @@
 // What the leaves answer to a question.
+use crate::named::put_named;
 use crate::question;
 use crate::question::Question;
 use crate::value::put_value;
@@ -36,10 +37,7 @@ fn put_refusal(out: &mut Space, refusal: Refusal) -> usize {
 
 // Whether bytes are UTF-8.
 fn utf8_answer(out: &mut Space, bytes: &[u8]) -> usize {
-    if utf8::is_utf8(bytes) {
-        return put(out, 0, b" yes");
-    }
-    put(out, 0, b" no")
+    put_named(out, 0, b"no yes", utf8::is_utf8(bytes) as usize)
 }
 
 // The length of a character, by its first byte.
@@ -95,13 +93,19 @@ fn put_found(out: &mut Space, length: usize, used: usize) -> usize {
     put_number(out, second, used as u64)
 }
 
+// The place of what a text lacks among the names below.
+fn place_of_lack(lack: Lack) -> usize {
+    match lack {
+        Lack::Nul => 0,
+        Lack::Padding => 1,
+        Lack::Utf8 => 2,
+    }
+}
+
 // What a text lacks.
 fn put_lack(out: &mut Space, lack: Lack) -> usize {
-    match lack {
-        Lack::Nul => put(out, 0, b" lacks nul"),
-        Lack::Padding => put(out, 0, b" lacks padding"),
-        Lack::Utf8 => put(out, 0, b" lacks utf8"),
-    }
+    let at = put(out, 0, b" lacks");
+    put_named(out, at, b"nul padding utf8", place_of_lack(lack))
 }
 
 // The text at a position of a call's input, which has at most 65,535 bytes.
@@ -144,7 +148,11 @@ fn put_record(out: &mut Space, item: Item, end: u32) -> usize {
 }
 
 // A record of any four numbers.
-fn record_answer(out: &mut Space, kind: u64, end: u64, a: u64, b: u64) -> usize {
+fn record_answer(out: &mut Space, asked: &[u8]) -> usize {
+    let kind = numeral::number(asked, 1);
+    let end = numeral::number(asked, 2);
+    let a = numeral::number(asked, 3);
+    let b = numeral::number(asked, 4);
     if 255 < kind {
         return put_out_of_range(out);
     }
@@ -182,14 +190,10 @@ fn put_text<'a>(out: &mut Space, value: OscType, packet: &'a [u8], label: &'a [u
 }
 
 // The text that the value of a kind and two fields names.
-fn name_answer<'a>(
-    out: &mut Space,
-    kind: u64,
-    a: u64,
-    b: u64,
-    packet: &'a [u8],
-    label: &'a [u8],
-) -> usize {
+fn name_in<'a>(out: &mut Space, asked: &[u8], packet: &'a [u8], label: &'a [u8]) -> usize {
+    let kind = numeral::number(asked, 1);
+    let a = numeral::number(asked, 2);
+    let b = numeral::number(asked, 3);
     if 255 < kind {
         return put_out_of_range(out);
     }
@@ -211,8 +215,17 @@ fn name_answer<'a>(
     )
 }
 
-// The answer to a question about bytes, before which at most one number stands.
-fn bytes_answer(out: &mut Space, question: Question, x: u64, bytes: &[u8]) -> usize {
+// The same, from the line.
+fn name_answer(out: &mut Space, asked: &[u8]) -> usize {
+    let mut first = [0u8; 256];
+    let mut second = [0u8; 256];
+    let n = hex::bytes(line::word(asked, 4), &mut first);
+    let m = hex::bytes(line::word(asked, 5), &mut second);
+    name_in(out, asked, front(&first, n), front(&second, m))
+}
+
+// The answer to a question about these bytes, before which at most one number stands.
+fn answer_of(out: &mut Space, question: Question, x: u64, bytes: &[u8]) -> usize {
     match question {
         Question::Utf8 => utf8_answer(out, bytes),
         Question::Lead => lead_answer(out, bytes),
@@ -224,20 +237,22 @@ fn bytes_answer(out: &mut Space, question: Question, x: u64, bytes: &[u8]) -> us
     }
 }
 
+// The same, from the line.
+fn bytes_answer(out: &mut Space, question: Question, asked: &[u8]) -> usize {
+    let mut space = [0u8; 256];
+    let n = hex::bytes(
+        line::word(asked, question::numbers(question) + 1),
+        &mut space,
+    );
+    answer_of(out, question, numeral::number(asked, 1), front(&space, n))
+}
+
 // The answer to a question: its numbers stand first, then its bytes.
 pub fn answer(question: Question, asked: &[u8], out: &mut Space) -> usize {
-    let numbers = question::numbers(question);
-    let mut first = [0u8; 256];
-    let mut second = [0u8; 256];
-    let n = hex::bytes(line::word(asked, numbers + 1), &mut first);
-    let m = hex::bytes(line::word(asked, numbers + 2), &mut second);
-    let x = numeral::number(asked, 1);
-    let y = numeral::number(asked, 2);
-    let z = numeral::number(asked, 3);
     match question {
-        Question::Pad => pad_answer(out, x),
-        Question::Record => record_answer(out, x, y, z, numeral::number(asked, 4)),
-        Question::Name => name_answer(out, x, y, z, front(&first, n), front(&second, m)),
-        _ => bytes_answer(out, question, x, front(&first, n)),
+        Question::Pad => pad_answer(out, numeral::number(asked, 1)),
+        Question::Record => record_answer(out, asked),
+        Question::Name => name_answer(out, asked),
+        _ => bytes_answer(out, question, asked),
     }
 }

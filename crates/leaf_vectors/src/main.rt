@@ -1,10 +1,12 @@
 // Runs the leaves on vectors from outside and says which answers differ. Standard input has one vector to a line,
 // `QUESTION = ANSWER`; an empty line, and one that begins with '#', has none.
+mod named; // named.rt: a word of an answer
 mod question; // question.rt: what a line asks
 mod answer; // answer.rt: what the leaves answer
 mod value; // value.rt: a value as text
 
 use question::Question;
+use runs::say;
 use words::line;
 use words::written::filled;
 ghost use Prim.Native.Nat.{_<_};
@@ -39,8 +41,7 @@ fn add(tally: &mut [u64; 20], at: usize)
 
 // Says what differs at a line.
 fn tell(number: u64, expected: &[u8], answered: &[u8]) {
-    io::write_all(1, b"line ");
-    io::print_decimal(1, number);
+    say(b"line ", number);
     io::write_all(1, b": expected");
     io::write_all(1, expected);
     io::write_all(1, b", answered");
@@ -89,10 +90,8 @@ fn run(input: &[u8], tally: &mut [u64; 20]) {
 // Says how many vectors a question has.
 fn total(name: &[u8], seen: u64, differ: u64) {
     io::write_all(1, name);
-    io::write_all(1, b": ");
-    io::print_decimal(1, seen);
-    io::write_all(1, b" vectors, ");
-    io::print_decimal(1, differ);
+    say(b": ", seen);
+    say(b" vectors, ", differ);
     io::write_all(1, b" differ\n");
 }
 

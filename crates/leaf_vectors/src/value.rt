@@ -1,10 +1,10 @@
 // A value as text: the name of its case and what it holds.
+use crate::named::put_named;
 use values::value::OscColor;
 use values::value::OscMidiMessage;
 use values::value::OscTime;
 use values::value::OscType;
 use words::hex::put_bytes;
-use words::line::word;
 use words::written::Space;
 use words::written::put;
 use words::written::put_four;
@@ -17,10 +17,7 @@ use words::written::put_two;
 fn put_float(out: &mut Space, name: &[u8], bits: &[u8], is_nan: bool) -> usize {
     let from = put(out, 0, name);
     let at = put_bytes(out, from, bits);
-    if is_nan {
-        return put(out, at, b" nan");
-    }
-    put(out, at, b" number")
+    put_named(out, at, b"number nan", is_nan as usize)
 }
 
 // A float of 32 bits.
@@ -77,24 +74,20 @@ fn put_time(out: &mut Space, t: OscTime) -> usize {
 
 // A range of the packet: of a message's address, a text or a blob.
 fn put_range(out: &mut Space, name: usize, offset: u32, length: u32) -> usize {
-    let at = put(out, 0, b" ");
-    let end = put(out, at, word(b"message string blob", name));
-    let second = put_number(out, end, offset as u64);
+    let at = put_named(out, 0, b"message string blob", name);
+    let second = put_number(out, at, offset as u64);
     put_number(out, second, length as u64)
 }
 
 // A value that has no data.
 fn put_bare(out: &mut Space, name: usize) -> usize {
-    let at = put(out, 0, b" ");
-    put(out, at, word(b"nil inf array", name))
+    put_named(out, 0, b"nil inf array", name)
 }
 
 // A truth value.
 fn put_bool(out: &mut Space, x: bool) -> usize {
-    if x {
-        return put(out, 0, b" bool true");
-    }
-    put(out, 0, b" bool false")
+    let at = put(out, 0, b" bool");
+    put_named(out, at, b"false true", x as usize)
 }
 
 // Puts a value.

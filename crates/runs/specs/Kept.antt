@@ -18,5 +18,5 @@ abbrev pub Holds : List ℕ → List ℕ → Type 0
 Holds bs l = Begins bs l × Kept l (length bs)
 
 -- a test is true just where P holds
-abbrev pub Tells : Bool → Type 0 → Type 0
-Tells r P = (r ≡ true → P) × (P → r ≡ true)
+abbrev pub TellsWhether : Bool → Type 0 → Type 0
+TellsWhether r P = (r ≡ true → P) × (P → r ≡ true)

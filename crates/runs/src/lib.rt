@@ -3,7 +3,7 @@ pub mod spelled; // spelled.rt: the bytes of a case as its line spells them
 
 ghost use mathlib.Core.Path.{_≡_};
 ghost use lib.ListN.{length};
-ghost use Rattle.runs.specs.Kept.{Begins, Holds, Kept, Tells};
+ghost use Rattle.runs.specs.Kept.{Begins, Holds, Kept, TellsWhether};
 
 // What every byte of a lent slice is before a call.
 pub const FILL: u8 = 0x5A;
@@ -25,7 +25,7 @@ pub fn fill(out: &mut [u8])
 //
 // Ruled out: true where the last byte was changed; false where only a byte before `from` was.
 pub fn is_kept(out: &[u8], from: usize) -> bool
-    ensures { λ r. ⌜ Tells r (Kept (now (out .entry)) from) ⌝ }
+    ensures { λ r. ⌜ TellsWhether r (Kept (now (out .entry)) from) ⌝ }
 {
     let mut i = from;
     while i < out.len() {
@@ -41,7 +41,7 @@ pub fn is_kept(out: &[u8], from: usize) -> bool
 //
 // Ruled out: true for a slice that is shorter than they are; false where other bytes stand after them.
 pub fn begins(out: &[u8], bytes: &[u8]) -> bool
-    ensures { λ r. ⌜ Tells r (Begins (now (bytes .entry)) (now (out .entry))) ⌝ }
+    ensures { λ r. ⌜ TellsWhether r (Begins (now (bytes .entry)) (now (out .entry))) ⌝ }
 {
     let n = bytes.len();
     if out.len() < n {
@@ -54,7 +54,7 @@ pub fn begins(out: &[u8], bytes: &[u8]) -> bool
 //
 // Ruled out: true where a byte after them was changed; true where the first of them is another.
 pub fn holds(out: &[u8], bytes: &[u8]) -> bool
-    ensures { λ r. ⌜ Tells r (Holds (now (bytes .entry)) (now (out .entry))) ⌝ }
+    ensures { λ r. ⌜ TellsWhether r (Holds (now (bytes .entry)) (now (out .entry))) ⌝ }
 {
     if !begins(out, bytes) {
         return false;
