@@ -1,9 +1,12 @@
 // The numbers that a command is given, and the options of decode.
 use crate::say;
+use node::record::MOST_RECORDS;
+use wire::DEEPEST;
 use words::numeral::Numeral;
 use words::numeral::decimal;
 ghost use mathlib.Core.Path.{_≡_};
 ghost use Prim.Native.Nat.{_≤_, _<_};
+ghost use Rattle.node.specs.Records.{mostRecords};
 ghost use Rattle.words.specs.Numeral.{numeralOf};
 ghost use Rattle.osc_tool.specs.Options.{nineDigits};
 
@@ -16,12 +19,6 @@ pub struct Options {
 
 // The greatest number of nine digits.
 const MOST: u64 = 999_999_999;
-
-// As many records as a table may have.
-const MOST_RECORDS: usize = 65_535;
-
-// As deep as bundles may be nested.
-const DEEPEST: usize = 64;
 
 // The number of a word, where it has at most nine digits. What is wrong with it is said here.
 //
@@ -47,7 +44,7 @@ pub fn number_word(i: usize) -> Numeral {
 
 // Options that are not understood.
 fn unclear() -> Options
-    ensures { λ r. ⌜ r .records ≤ 65535 ⌝ }
+    ensures { λ r. ⌜ r .records ≤ mostRecords ⌝ }
 {
     Options {
         is_clear: false,
@@ -60,7 +57,7 @@ fn unclear() -> Options
 //
 // Ruled out: more records than a table has room for.
 fn with_records(options: Options, x: usize) -> Options
-    ensures { λ r. ⌜ r .records ≤ 65535 ⌝ }
+    ensures { λ r. ⌜ r .records ≤ mostRecords ⌝ }
 {
     if MOST_RECORDS < x {
         say::wrong(b"more than 65535 for --records");
@@ -75,8 +72,8 @@ fn with_records(options: Options, x: usize) -> Options
 
 // The options with one of them set. What is wrong with it is said here.
 fn chosen(options: Options, name: &[u8], x: usize) -> Options
-    requires { ⌜ options .records ≤ 65535 ⌝ }
-    ensures { λ r. ⌜ r .records ≤ 65535 ⌝ }
+    requires { ⌜ options .records ≤ mostRecords ⌝ }
+    ensures { λ r. ⌜ r .records ≤ mostRecords ⌝ }
 {
     if check::same(name, b"--records") {
         return with_records(options, x);
@@ -94,8 +91,8 @@ fn chosen(options: Options, name: &[u8], x: usize) -> Options
 
 // The options with the one whose name is word `i`, and whose number is the word after it.
 fn with_option(options: Options, i: usize) -> Options
-    requires { ⌜ (options .records ≤ 65535) × (i < 16) ⌝ }
-    ensures { λ r. ⌜ r .records ≤ 65535 ⌝ }
+    requires { ⌜ (options .records ≤ mostRecords) × (i < 16) ⌝ }
+    ensures { λ r. ⌜ r .records ≤ mostRecords ⌝ }
 {
     let mut name = io::buffer();
     let n = os::arg(i, &mut name);
@@ -107,7 +104,7 @@ fn with_option(options: Options, i: usize) -> Options
 
 // The options of decode: words 5 and 6, then 7 and 8. What is wrong with them is said here.
 pub fn options_words() -> Options
-    ensures { λ r. ⌜ r .records ≤ 65535 ⌝ }
+    ensures { λ r. ⌜ r .records ≤ mostRecords ⌝ }
 {
     let none = Options {
         is_clear: true,
