@@ -1,31 +1,19 @@
 // The command decode: the bytes of a file to a table.
-use crate::commands;
-use crate::commands::Framed;
+use crate::asked;
 use crate::named;
 use crate::options;
 use crate::options::Options;
 use crate::say;
 use crate::space;
+use commands::Framed;
+use commands::records_of;
 use decoder::Decoded;
 use decoder::Framing;
 use decoder::decode;
 use node::record::RECORD_SIZE;
-use node::record::capacity_of;
-use words::line::front;
-ghost use mathlib.Core.Path.{_≡_};
 ghost use Prim.Native.Nat.{_*_, _≤_};
-ghost use lib.ListN.{length, take};
+ghost use lib.ListN.{length};
 ghost use Rattle.node.specs.Records.{recordSize, mostRecords};
-
-// The first `count` records of a table.
-fn records_of(table: &[u8], count: usize) -> &[u8]
-    ensures { λ r. ⌜ now r ≡ take (count * recordSize) (now (table .entry)) ⌝ }
-{
-    if count <= capacity_of(table) {
-        return front(table, count * RECORD_SIZE);
-    }
-    table
-}
 
 // Writes the table to the file that word 4 names, and says what was answered.
 fn keep(table: &[u8], count: usize, left: usize) {
@@ -65,7 +53,7 @@ pub fn run() {
     if !options.is_clear {
         return;
     }
-    match commands::framing_word() {
+    match asked::framing_word() {
         Framed::As(framing) => decode_file(framing, options),
         Framed::Unclear => {}
     }

@@ -1,27 +1,14 @@
 // The command encode: a table and its source to the bytes of a packet.
-use crate::commands;
-use crate::commands::Framed;
+use crate::asked;
 use crate::named;
 use crate::say;
 use crate::space;
+use commands::Framed;
+use commands::encoded;
 use decoder::Framing;
 use encoder::Encoded;
 use node::record::capacity_of;
 use words::line::front;
-ghost use Rattle.encoder.specs.Outcome.{Encodes};
-ghost use Rattle.osc_tool.specs.Framings.{writingOf};
-
-// Calls the encoder, with the length before the packet where a stream is to be cut by it.
-fn encoded(has_length: bool, table: &[u8], count: usize, source: &[u8], out: &mut [u8]) -> Encoded
-    ensures { λ r.
-        ⌜ Encodes (writingOf «has_length») (now (table .entry)) count (now (source .entry)) (now (out .entry))
-        (record { answer = r; out = now (out .exit) }) ⌝ }
-{
-    if has_length {
-        return encoder::encode_tcp(table, count, source, out);
-    }
-    encoder::encode(table, count, source, out)
-}
 
 // Encodes to the file that word 5 names, and says what was answered.
 fn encode_table(has_length: bool, table: &[u8], source: &[u8]) {
@@ -72,7 +59,7 @@ pub fn run() {
         say::wrong(b"encode takes udp|tcp TABLE SOURCE OUTPUT");
         return;
     }
-    match commands::framing_word() {
+    match asked::framing_word() {
         Framed::As(framing) => encode_framed(framing),
         Framed::Unclear => {}
     }

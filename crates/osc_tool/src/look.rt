@@ -1,6 +1,6 @@
 // The command look: one record of a table as words.
+use crate::asked;
 use crate::named;
-use crate::options;
 use crate::say;
 use crate::space;
 use crate::value;
@@ -62,7 +62,7 @@ pub fn run() {
         say::wrong(b"look takes TABLE INDEX");
         return;
     }
-    match options::number_word(3) {
+    match asked::number_word(3) {
         Numeral::Is(index) => look_in_file(index as usize),
         Numeral::Unclear => {}
     }

@@ -1,7 +1,7 @@
 // The codec from a shell: it decodes a file to a table, encodes a table to a file and looks at a record. It says its answer in
 // one line on standard output, and what went wrong with a word or a file in one line on standard error.
-mod commands; // commands.rt: what the first words of a command mean
-mod options; // options.rt: the numbers and the options of a command
+mod asked; // asked.rt: words of a command as they are asked for
+mod options; // options.rt: the options of decode
 mod space; // space.rt: the buffers that are lent
 mod named; // named.rt: the files that words name
 mod say; // say.rt: the line that is said

@@ -1,45 +1,17 @@
 // The numbers that a command is given, and the options of decode.
+use crate::asked::number_word;
 use crate::say;
 use node::record::MOST_RECORDS;
 use wire::DEEPEST;
 use words::numeral::Numeral;
-use words::numeral::decimal;
-ghost use mathlib.Core.Path.{_≡_};
 ghost use Prim.Native.Nat.{_≤_, _<_};
 ghost use Rattle.node.specs.Records.{mostRecords};
-ghost use Rattle.words.specs.Numeral.{numeralOf};
-ghost use Rattle.osc_tool.specs.Options.{nineDigits};
 
 // What the options of decode say, and whether they are understood.
 pub struct Options {
     pub is_clear: bool,
     pub depth: usize,
     pub records: usize,
-}
-
-// The greatest number of nine digits.
-const MOST: u64 = 999_999_999;
-
-// The number of a word, where it has at most nine digits. What is wrong with it is said here.
-//
-// Ruled out: a number for 1000000000; none for 999999999.
-fn short_number(word: &[u8]) -> Numeral
-    ensures { λ r. ⌜ r ≡ nineDigits (numeralOf (now (word .entry))) ⌝ }
-{
-    if let Numeral::Is(x) = decimal(word) {
-        if x <= MOST {
-            return Numeral::Is(x);
-        }
-    }
-    say::trouble(b"not a number of at most nine digits: ", word);
-    Numeral::Unclear
-}
-
-// Word `i` as a number.
-pub fn number_word(i: usize) -> Numeral {
-    let mut word = io::buffer();
-    let n = os::arg(i, &mut word);
-    short_number(&word[..n])
 }
 
 // Options that are not understood.
