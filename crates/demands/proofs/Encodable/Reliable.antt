@@ -33,8 +33,11 @@ module _ (source : List ℕ) (item : Item) where
       let P : ℕ → Type 0 = λ k. rangeOk source (record { kind = k; a = item .a; b = item .b }) ≡ true → item .a + item .b ≤ length source in
       record {
         lies = λ k.
-            omega (arith, of-among P (item .kind) (messageKind ∷ 98 ∷ 115 ∷ [])
-            ((λ e. in-source (text-tests e .0)), ((λ e. in-source e), ((λ e. in-source (text-tests e .0)), tt))) k range);
+            omega (
+              arith,
+              of-among P (item .kind) (messageKind ∷ 98 ∷ 115 ∷ [])
+                  ((λ e. in-source (text-tests e .0)), ((λ e. in-source e), ((λ e. in-source (text-tests e .0)), tt))) k range,
+            );
         valid = λ k. octets (bytesNamed source item) .sound (text-tests (rw k at range) .1);
         scalar = λ k. both-true (eqb (item .b) 0) (isScalar (item .a)) (rw k at rules) .1;
       }
