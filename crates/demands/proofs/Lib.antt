@@ -6,7 +6,7 @@
 --     Trip        demand 2: the round trip
 --     Room        demand 3: more room; n records hold what n bytes decode to
 --     Longer      demand 3: more bytes
---     Encodable   what is decoded can be encoded
+--     Encodable   what is decoded can be read without testing it again, and encoded
 pub mod Placed
 pub mod Answered
 pub mod Calls

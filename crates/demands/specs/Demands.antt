@@ -1,24 +1,24 @@
 -- The order's demands 2 and 3, over the definitions that the contracts cite.
 use mathlib.Core.Path.{_≡_}
 use mathlib.Core.List.{List, _++_}
-use Prim.Native.Nat.{ℕ, _-_, _*_, _%_, _≤_}
+use Prim.Native.Nat.{ℕ, _-_, _*_, _%_, _≤_, _<_}
 use lib.ListN.{length, take, drop}
 use Rattle.wire.specs.Limits.{longest, deepest}
 use Rattle.refusal.specs.declared.Refusal.the-variants.{TableFull}
 use Rattle.node.specs.Forest.{Forest, nil, node, size, depth}
-use Rattle.node.specs.Tags.{messageKind}
-use Rattle.node.specs.Records.{recordSize, kindAt, itemAt, capacity}
+use Rattle.node.specs.Tags.{messageKind, bundleKind}
+use Rattle.node.specs.Records.{recordSize, mostRecords, kindAt, zerosAt, itemAt, capacity}
 use Rattle.node.specs.declared.record.Item.{Item}
 use Rattle.decoder.specs.Framing.{Whole, trees, udp}
 use Rattle.decoder.specs.Limits.{decoded, forestOf, tabled}
 use Rattle.decoder.specs.declared.Decoded.{Decoded}
 use Rattle.decoder.specs.declared.Decoded.the-variants.{Packets, Refused}
 use Rattle.table.specs.Formed.{WellFormed}
-use Rattle.table.specs.Tree.{IsTree}
+use Rattle.table.specs.Tree.{Spans, Obeys, IsTree}
 use Rattle.writers.specs.Osc.{writePacket}
 use Rattle.encoder.specs.Outcome.{Outcome, Encodes, unframed}
 use Rattle.encoder.specs.declared.Encoded.the-variants.{Written}
-use Rattle.demands.specs.Words.{Bytes, Clean, SameTable, Continues, NotFull, Unlimited}
+use Rattle.demands.specs.Words.{Bytes, Clean, Reliable, SameTable, Continues, NotFull, Unlimited}
 
 -- the table after a decoder's call, by its rule, limit and message
 abbrev pub tableAfter : (List ℕ → Whole) → ℕ → List ℕ → List ℕ → List ℕ
@@ -58,17 +58,18 @@ RoundTrip =
 
 -- ---- demand 3: more room
 
--- with a higher depth limit (at most 64) or capacity, an answer other than 9 or 10 is unchanged, and so are the table's records
+-- with another depth limit and another table, a call's answer is the same, and so are the table's records
 pub record Unchanged (rule : List ℕ → Whole) (msg : List ℕ) (limit limit' : ℕ) (table table' : List ℕ) : Type 0 where
   pub answers : answerTo rule limit' msg table' ≡ answerTo rule limit msg table
   pub records : (count left : ℕ) → answerTo rule limit msg table ≡ Packets count left
       → take (recordSize * count) (tableAfter rule limit' msg table') ≡ take (recordSize * count) (tableAfter rule limit msg table)
 
--- for any rule, so for each of the three calls
+-- no answer but 9 and 10 is taken back, for any rule, so for each of the three calls; a limit of at most 64 stays so, since above it
+-- the answer is 13
 abbrev pub MoreRoom : Type 0
 MoreRoom =
     (rule : List ℕ → Whole) (msg : List ℕ) (limit limit' : ℕ) (table table' : List ℕ)
-    → limit ≤ limit' → limit' ≤ deepest → capacity table ≤ capacity table'
+    → limit ≤ limit' → (limit ≤ deepest → limit' ≤ deepest) → capacity table ≤ capacity table'
     → NotFull (answerTo rule limit msg table) → Unchanged rule msg limit limit' table table'
 
 -- ---- demand 3: more bytes
@@ -101,6 +102,24 @@ MoreBytes rule =
 abbrev pub RecordsHold : (List ℕ → Whole) → Type 0
 RecordsHold rule =
     (msg : List ℕ) (limit room : ℕ) → length msg ≤ room → decoded rule room limit msg ≡ Refused TableFull → ⊥
+
+-- ---- what is decoded can be read without testing it again: the records of any number of packets
+
+-- the table's records are those of trees, each of which may stand in a bundle, and every record can be relied on
+pub record AreTrees (t : List ℕ) (count : ℕ) (source : List ℕ) (f : Forest) : Type 0 where
+  pub spans : Spans t 0 count f
+  pub obeys : Obeys source bundleKind f
+  pub few : count ≤ mostRecords
+  pub fits : recordSize * count ≤ length t
+  pub zeros : (i : ℕ) → i < count → zerosAt t i ≡ 0
+  pub reliable : (i : ℕ) → i < count → Reliable source (itemAt t i)
+
+-- every answer with packets, one or a list of any length, leaves such records over the call's input
+abbrev pub GivesTrees : (List ℕ → Whole) → Type 0
+GivesTrees rule =
+    (msg : List ℕ) → Bytes msg → (limit : ℕ) (table : List ℕ) (count left : ℕ)
+    → answerTo rule limit msg table ≡ Packets count left
+    → AreTrees (tableAfter rule limit msg table) count msg (forestOf (rule msg))
 
 -- ---- what is decoded can be encoded: a table answered for one packet is well formed over the call's input
 abbrev pub Encodable : (List ℕ → Whole) → Type 0

@@ -1,13 +1,14 @@
 -- The words in which the order's demands speak of trees and tables.
 use mathlib.Core.Path.{_≡_}
-use mathlib.Core.Bool.{Bool, cond}
+use mathlib.Core.Bool.{Bool, true, cond}
 use mathlib.Core.List.{List, [], _∷_}
-use Prim.Native.Nat.{ℕ, _<_}
+use Prim.Native.Nat.{ℕ, _+_, _≤_, _<_}
 use lib.Dec.{eqb}
-use lib.ListN.{getD}
+use lib.ListN.{length, getD}
 use Rattle.refusal.specs.declared.Refusal.the-variants.{TooLong, TooDeep, TableFull, DepthLimit}
 use Rattle.wire.specs.Part.{part}
-use Rattle.node.specs.Tags.{messageKind, bundleKind, among}
+use Rattle.utf8.specs.Utf8.{Octets}
+use Rattle.node.specs.Tags.{messageKind, bundleKind, among, isScalar}
 use Rattle.node.specs.Forest.{Forest, nil, node}
 use Rattle.node.specs.Records.{endAt, itemAt}
 use Rattle.node.specs.declared.record.Item.{Item}
@@ -45,6 +46,13 @@ Clean source (node item inside rest) = CleanNode source item × Clean source ins
 -- a kind whose two numbers are a range: address, blob, text
 abbrev pub rangedKind : ℕ → Bool
 rangedKind kind = among kind (messageKind ∷ 98 ∷ 115 ∷ [])
+
+-- what a node's reader need not test: an address, text or blob lies in the source, the first two are UTF-8 by RFC 3629's grammar, and c
+-- holds a scalar number
+pub record Reliable (source : List ℕ) (item : Item) : Type 0 where
+  pub lies : rangedKind (item .kind) ≡ true → item .a + item .b ≤ length source
+  pub valid : among (item .kind) (messageKind ∷ 115 ∷ []) ≡ true → Octets (bytesNamed source item)
+  pub scalar : item .kind ≡ 99 → isScalar (item .a) ≡ true
 
 -- a node over one source and over another: kind and numbers are equal, and a range is equal as bytes ("only their offsets may
 -- differ")

@@ -5,8 +5,11 @@ ghost use Rattle.demands.specs.There.{Returns};
 
 // Writes the packet of a table and reads it back from what was written, at depth 64, as playback does.
 //
+// No public call: it is here for what its contract says of `encode` and `decode_udp` together. The contract speaks of `Playable` tables
+// with room alone. For one whose address has no '/', the answer is 5 after `out` was overwritten, and demand 1 allows no public call that.
+//
 // Ruled out: a packet that comes back with bytes left over; a text that comes back as other bytes.
-pub fn there_and_back(
+fn there_and_back(
     table: &[u8],
     count: usize,
     source: &[u8],

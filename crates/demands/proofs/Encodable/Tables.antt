@@ -1,16 +1,17 @@
--- What is decoded can be encoded: a table that was answered for one packet is well formed over the call's input.
-use mathlib.Core.Path.{_≡_, refl, sym, ap, subst, _∙_}
+-- What is decoded can be read without testing it again, and encoded: the records of an answer are trees over the call's input, and a
+-- table that was answered for one packet is well formed.
+use mathlib.Core.Path.{_≡_, refl, sym, ap, subst}
 use mathlib.Core.Logic.{⊎-elim}
 use mathlib.Core.List.{List, _++_}
 use Prim.Native.Nat.{ℕ, zero, suc, _+_, _*_, _^_, _≤_, _<_}
 use native.Mathlib.Omega.{arith}
 use borrow.Author.Tests.{le-leb, lt-leb}
-use lib.ListN.{length, drop}
+use lib.ListN.{length, drop, length-append}
 use Rattle.wire.specs.Limits.{longest, deepest}
 use Rattle.refusal.specs.declared.Refusal.the-variants.{TableFull}
 use Rattle.node.specs.Forest.{Forest, nil, node, size, depth}
 use Rattle.node.specs.Tags.{bundleKind}
-use Rattle.node.specs.Records.{recordSize, recordsOf, capacity}
+use Rattle.node.specs.Records.{recordSize, recordsOf, itemAt, capacity}
 use Rattle.node.specs.declared.record.Item.{Item}
 use Rattle.packet.specs.Heads.{prefixOf}
 use Rattle.packet.specs.Packet.{Out, fault, one, readPacket}
@@ -24,10 +25,13 @@ use Rattle.decoder.specs.Limits.{decoded, forestOf}
 use Rattle.decoder.specs.declared.Decoded.{Decoded}
 use Rattle.decoder.specs.declared.Decoded.the-variants.{Packets, Refused}
 use Rattle.demands.specs.Words.{Bytes}
-use Rattle.demands.specs.Demands.{tableAfter, RecordsHold, Encodable}
+use Rattle.demands.specs.Demands.{tableAfter, RecordsHold, AreTrees, GivesTrees, Encodable}
 use Rattle.wire.proofs.Choices.{by-le, lt-or-le}
 use Rattle.packet.proofs.Heads.{prefix-in}
-use Rattle.table.proofs.Theorem.{tree-formed, bytes-tree}
+use Rattle.node.proofs.Recorded.{length-records}
+use Rattle.table.proofs.Grown.{kept-of}
+use Rattle.table.proofs.Held.{records-held}
+use Rattle.table.proofs.Theorem.{tree-formed}
 use Rattle.demands.proofs.Placed.{At, at-all, at-drop}
 use Rattle.decoder.proofs.Chosen.{by-decoded, by-trees}
 use Rattle.decoder.proofs.Answers.{no-packets}
@@ -35,6 +39,7 @@ use Rattle.demands.proofs.Answered.{accepted, after-is}
 use Rattle.demands.proofs.Room.RecordsHold.{records-hold}
 use Rattle.demands.proofs.Encodable.Arguments.{Sound, NodeSound, sound-nil, sound-node}
 use Rattle.demands.proofs.Encodable.Packets.{OutSound, after-sound, packet-sound}
+use Rattle.demands.proofs.Encodable.Reliable.{node-reliable}
 
 -- every tree that a call gives obeys the rules over the call's input
 abbrev WholeSound : List ℕ → Whole → Type 0
@@ -137,17 +142,35 @@ module _ (rule : List ℕ → Whole) (limit : ℕ) (msg : List ℕ) (F : Forest)
 
 -- ---- the table
 
+-- the records that a decoder answers with are trees that obey the rules over the call's input, however many packets they are
+pub gives-trees : (framing : Framing) → GivesTrees (ruleOf framing)
+gives-trees framing msg small limit table count left q =
+    let rule = ruleOf framing in
+    let F = forestOf (rule msg) in
+    let t = tableAfter rule limit msg table in
+    let more = drop (recordSize * size F) table in
+    let a = accepted rule (capacity table) limit msg q in
+    let w = within rule limit msg F left (a .read) (capacity table) q in
+    let n = few rule limit msg F left (a .read) (records-hold framing) w in
+    let s : Sound msg bundleKind F = subst (WholeSound msg) (a .read) (whole-sound msg small (omega (arith, w .short)) framing) in
+    let is : t ≡ recordsOf 0 F ++ more = after-is rule limit msg table q in
+    let h = records-held t more 0 count F (s .fits) (omega (arith, a .counts)) (omega (arith, w .short, a .counts)) is in
+    record {
+      spans = h .spans;
+      obeys = s .obeys;
+      few = omega (arith, w .short, a .counts);
+      fits = omega (arith, ap length is, length-append (recordsOf 0 F) more, length-records 0 F, a .counts);
+      zeros = λ i l. h .zeros i (omega arith) (omega arith);
+      reliable = λ i l.
+          let k = kept-of t msg bundleKind 0 count F (h .spans) (s .obeys) i (omega arith) (omega arith) in
+          node-reliable msg (itemAt t i) (k .rules) (k .range);
+    }
+
 -- a table that a decoder answers for one packet is well formed over the call's input
 pub encodable : (framing : Framing) → Encodable (ruleOf framing)
 encodable framing msg small limit table item inside left count e q =
-    let rule = ruleOf framing in
-    let F = node item inside nil in
-    let w = within rule limit msg F left e (capacity table) q in
-    let n = few rule limit msg F left e (records-hold framing) w in
-    let s : Sound msg bundleKind F = subst (WholeSound msg) e (whole-sound msg small (omega (arith, w .short)) framing) in
-    let is : tableAfter rule limit msg table ≡ recordsOf 0 F ++ drop (recordSize * size F) table
-    = after-is rule limit msg table q ∙ ap (λ (w : Whole). recordsOf 0 (forestOf w) ++ drop (recordSize * size (forestOf w)) table) e in
-    let c : size F ≡ count = rw e at (accepted rule (capacity table) limit msg q .counts) in
-    rw (← c) (tree-formed
-    (bytes-tree (tableAfter rule limit msg table) (drop (recordSize * size F) table) msg item inside is (s .fits) (omega (arith, w .short))
-    (s .obeys)))
+    let t = tableAfter (ruleOf framing) limit msg table in
+    let w : AreTrees t count msg (node item inside nil)
+    = subst (λ (f : Forest). AreTrees t count msg f) (ap forestOf e) (gives-trees framing msg small limit table count left q) in
+    tree-formed {item = item} {inside = inside}
+    (record { spans = w .spans; obeys = w .obeys; few = w .few; fits = w .fits; zeros = w .zeros })

@@ -40,11 +40,12 @@ no-way : {A : Type 0} → false ≡ true → A
 no-way e = absurd (false≢true e)
 
 -- both of two tests
-both-true : (t u : Bool) → t && u ≡ true → (t ≡ true) × (u ≡ true)
+pub both-true : (t u : Bool) → t && u ≡ true → (t ≡ true) × (u ≡ true)
 both-true true u e = (refl, e)
 both-true false u e = no-way e
 
-then-true : (t u : Bool) → cond t u false ≡ true → (t ≡ true) × (u ≡ true)
+-- both a test and what it then chooses
+pub then-true : (t u : Bool) → cond t u false ≡ true → (t ≡ true) × (u ≡ true)
 then-true true u e = (refl, e)
 then-true false u e = no-way e
 

@@ -1,10 +1,11 @@
--- Examples, computed: calls that meet the hypotheses of `more-room` and of the records' bound, and one that is refused with 10.
+-- Examples, computed: calls that meet the hypotheses of `more-room` and of the records' bound, and some that are refused with 10 and
+-- 13.
 use mathlib.Core.Path.{_≡_, refl}
 use mathlib.Core.List.{List, [], _∷_, _++_}
 use Prim.Native.Nat.{ℕ, _*_}
 use native.Mathlib.Omega.{arith}
 use lib.ListN.{replicate}
-use Rattle.refusal.specs.declared.Refusal.the-variants.{TableFull}
+use Rattle.refusal.specs.declared.Refusal.the-variants.{TableFull, DepthLimit}
 use Rattle.wire.specs.Number.{number}
 use Rattle.node.specs.Forest.{size, depth, snoc}
 use Rattle.node.specs.Tags.{classOf, sortOf}
@@ -47,7 +48,26 @@ not-full e = record { not-9 = λ p. let z : _≡_ {A = ℕ} 0 1 = cc in omega ar
 
 -- a higher limit and a larger table
 higher : Unchanged udp (empty ++ element) 1 64 (blank 2) (blank 9)
-higher = more-room udp (empty ++ element) 1 64 (blank 2) (blank 9) (omega arith) (omega arith) (omega arith) (not-full one-element)
+higher = more-room udp (empty ++ element) 1 64 (blank 2) (blank 9) (omega arith) (λ _. omega arith) (omega arith) (not-full one-element)
+
+-- a limit of 65 is refused with 13, in a table that has too few records
+over : answerTo udp 65 (empty ++ element) (blank 1) ≡ Refused DepthLimit
+unfolding decoded
+over = refl
+
+-- 13 is neither 9 nor 10
+limit-not-full : {r : Decoded} → r ≡ Refused DepthLimit → NotFull r
+limit-not-full e =
+    record { not-9 = λ p. let z : _≡_ {A = ℕ} 0 1 = cc in omega arith; not-10 = λ p. let z : _≡_ {A = ℕ} 0 1 = cc in omega arith }
+
+-- a larger table does not take it back, nor does a limit of 70
+still-over : Unchanged udp (empty ++ element) 65 65 (blank 1) (blank 9)
+still-over =
+    more-room udp (empty ++ element) 65 65 (blank 1) (blank 9) (omega arith) (λ g. g) (omega arith) (limit-not-full over)
+
+over-by-more : Unchanged udp (empty ++ element) 65 70 (blank 1) (blank 9)
+over-by-more =
+    more-room udp (empty ++ element) 65 70 (blank 1) (blank 9) (omega arith) (λ g. omega arith) (omega arith) (limit-not-full over)
 
 -- one record is not enough, so the bound says something
 full : decoded udp 1 64 (empty ++ element) ≡ Refused TableFull
