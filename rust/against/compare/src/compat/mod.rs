@@ -132,6 +132,8 @@ fn encode(asked: &Asked) -> Result<Outcome, String> {
     let bytes = if tcp { rosc::encoder::encode_tcp(&packet) } else { rosc::encoder::encode(&packet) };
     let bytes = bytes.expect("the crate encodes every packet");
     let ours = if tcp { compat::encoder::encode_tcp(&our_packet) } else { compat::encoder::encode(&our_packet) };
+    // Outputs have no place for a limit: they get the crate's bytes in any case.
+    encode_into(&our_packet, tcp, &bytes)?;
     if oracle::depth(&packet) as u64 > DEEPEST {
         return limited(9, ours.map(|_| ()));
     }
@@ -141,7 +143,6 @@ fn encode(asked: &Asked) -> Result<Outcome, String> {
     if !ours.is_ok_and(|ours| ours == bytes) {
         return Err("compat: other bytes".to_string());
     }
-    encode_into(&our_packet, tcp, &bytes)?;
     match helpers::differs(&packet) {
         Some(name) => Err(format!("compat: {name}")),
         None => Ok(Outcome::Same),
