@@ -20,6 +20,7 @@ static void say_argument(const osc::ReceivedMessageArgument &x) {
     case 'i': say_word(kind, (uint32_t)x.AsInt32()); break;
     case 'f': f = x.AsFloat(), memcpy(&word, &f, 4), say_word(kind, word); break;
     case 's': say_bytes(kind, x.AsString(), strlen(x.AsString())); break;
+    case 'S': say_bytes(kind, x.AsSymbol(), strlen(x.AsSymbol())); break;
     case 'b': x.AsBlob(data, size), say_bytes(kind, data, size); break;
     case 't': say_long(kind, x.AsTimeTag()); break;
     case 'h': say_long(kind, (uint64_t)x.AsInt64()); break;
