@@ -20,12 +20,12 @@ static void put_word(uint8_t *p, uint32_t x) {
     for (int i = 0; i < 4; i++) p[i] = (uint8_t)(x >> (24 - 8 * i));
 }
 
-/* Reads the next packet; 0 at the end of the input. */
+/* Reads the next packet, of at most one byte more than the codec takes; 0 at the end of the input. */
 static int get_packet(uint8_t *packet, size_t *length) {
     uint8_t size[4];
     if (fread(size, 1, 4, stdin) != 4) return 0;
     *length = word_at(size);
-    if (*length > LONGEST || fread(packet, 1, *length, stdin) != *length) exit(3);
+    if (*length > LONGEST + 1 || fread(packet, 1, *length, stdin) != *length) exit(3);
     return 1;
 }
 
