@@ -3,7 +3,8 @@
  *     codec read         packets, each from a UDP packet, to trees; what is refused to `refused N`, bytes left over to `left N`
  *     codec write        trees to packets
  *     codec write-tcp    trees to what goes over a stream
- *     codec stream       one stream, in a single packet, to trees by the list call, and `left N`; `waiting` where it has none */
+ *     codec stream       one stream, in a single packet, to trees by the list call, and `left N`; `waiting N` where it has none
+ *     codec first        the same by the call for the first packet */
 #define _GNU_SOURCE
 #include "../../include/osc.h"
 #include "tree.h"
@@ -51,10 +52,11 @@ static void read_all(void) {
     }
 }
 
-static void read_stream(void) {
+static void read_stream(int list) {
     size_t length;
     if (!get_packet(packet, &length)) exit(3);
-    uint64_t answer = osc_decode_tcp_vec(packet, length, table, sizeof table, OSC_DEEPEST);
+    uint64_t answer = list ? osc_decode_tcp_vec(packet, length, table, sizeof table, OSC_DEEPEST)
+                           : osc_decode_tcp(packet, length, table, sizeof table, OSC_DEEPEST);
     if (osc_refusal(answer)) {
         printf("refused %u\n", osc_refusal(answer));
         return;
@@ -101,7 +103,8 @@ static void write_all(int tcp) {
 int main(int many, char **words) {
     const char *what = many == 2 ? words[1] : "";
     if (!strcmp(what, "read")) read_all();
-    else if (!strcmp(what, "stream")) read_stream();
+    else if (!strcmp(what, "stream")) read_stream(1);
+    else if (!strcmp(what, "first")) read_stream(0);
     else if (!strcmp(what, "write")) write_all(0);
     else if (!strcmp(what, "write-tcp")) write_all(1);
     else return 2;
