@@ -24,6 +24,10 @@
 //! - No call panics, memory apart. Where rosc does: a time tag before 1970 is printed, and converted into the `SystemTime`
 //!   before that year; [`encoder::pad`] of a position over 2^64 − 4 is 0, as in a release build of rosc.
 //! - [`encoder::encode_into`] writes a packet to its output in one piece.
+//!
+//! As in rosc, a tree is dropped, cloned, compared and printed by functions that call themselves for an array in an array, and a
+//! packet can hold 32,763 of them: a thread with 2 MiB of stack drops some 32,000 levels in a release build and 8,000 in a debug
+//! build, and encodes some 16,000.
 
 // Types, signatures and their documentation are from rosc 0.11.4, copyright (c) 2016 Andreas Linz, under MIT or Apache-2.0:
 // see NOTICE.
