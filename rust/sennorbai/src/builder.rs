@@ -170,7 +170,7 @@ impl fmt::Debug for Builder<'_> {
 }
 
 /// A value as a record has it: kind, the two numbers, and in place of a range its bytes.
-fn fields(value: Value<'_>) -> (u8, [u32; 2], Option<&[u8]>) {
+pub(crate) fn fields(value: Value<'_>) -> (u8, [u32; 2], Option<&[u8]>) {
     let halves = |x: u64| [(x >> 32) as u32, x as u32];
     let four = |x: [u8; 4]| [u32::from_be_bytes(x), 0];
     let (kind, numbers) = match value {

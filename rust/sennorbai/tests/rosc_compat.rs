@@ -116,10 +116,61 @@ fn limits_are_an_error_of_their_own() {
     assert_eq!(encoder::encode_string("a".repeat(70_000)).len(), 70_004);
 }
 
+/// Both outputs get the same bytes, whose number is answered.
+fn written(packet: &OscPacket) -> [Vec<u8>; 2] {
+    let (mut bytes, mut frame) = (vec![7], WriteOutput(Cursor::new(Vec::new())));
+    let length = encoder::encode_into(packet, &mut bytes).unwrap();
+    assert_eq!(length, bytes.len() - 1);
+    let framed = encoder::encode_into_tcp(packet, &mut frame).unwrap();
+    let frame = frame.0.into_inner();
+    assert_eq!(framed, frame.len());
+    [bytes.split_off(1), frame]
+}
+
+fn size(bytes: &[u8]) -> [u8; 4] {
+    (bytes.len() as u32).to_be_bytes()
+}
+
 #[test]
-#[should_panic(expected = "9: bundles nested deeper than the limit")]
-fn an_output_has_no_place_for_a_limit() {
-    let _ = encoder::encode_into(&deep(65), &mut Vec::new());
+fn outputs_have_no_limits() {
+    // A long blob.
+    let blob = vec![7; 99_999];
+    let bytes = [b"/a\0\0,b\0\0", &size(&blob)[..], &blob, b"\0"].concat();
+    let frame = [&size(&bytes)[..], &bytes].concat();
+    let packet = message("/a", vec![OscType::Blob(blob)]);
+    assert!(matches!(encoder::encode(&packet), Err(OscError::Limit(Refusal::TooLong))));
+    assert_eq!(written(&packet), [bytes, frame]);
+
+    // One record more than a table may have.
+    let bytes = [b"/a\0\0,", &[b'N'; 65_535][..], b"\0\0\0\0"].concat();
+    assert_eq!(written(&message("/a", vec![OscType::Nil; 65_535]))[0], bytes);
+
+    // Bundles that are nested too deep: without the outer one the library encodes them.
+    let inner = encoder::encode(&deep(64)).unwrap();
+    let bytes = [b"#bundle\0\0\0\0\x07\0\0\0\x09", &size(&inner)[..], &inner].concat();
+    assert_eq!(written(&deep(65)), [bytes.clone(), bytes]);
+
+    // Every type, as the library writes it, beside a text that makes the bundle too long.
+    let (message, long) = (message("/a", every_type()), message("/b", vec!["a".repeat(65_535).into()]));
+    let element = encoder::encode(&message).unwrap();
+    let elements = [&size(&element)[..], &element].concat();
+    let text = [b"/b\0\0,s\0\0", &[b'a'; 65_535][..], b"\0"].concat();
+    let bytes = [b"#bundle\0\0\0\0\x07\0\0\0\x09", &elements[..], &size(&text), &text, &elements].concat();
+    assert_eq!(written(&bundle(vec![message.clone(), long, message])), [bytes.clone(), bytes]);
+}
+
+#[test]
+fn nothing_panics_where_rosc_does() {
+    assert_eq!((encoder::pad(u64::MAX - 3), encoder::pad(u64::MAX - 2), encoder::pad(u64::MAX)), (u64::MAX - 3, 0, 0));
+    let before = SystemTime::from(OscTime { seconds: 2_208_988_799, fractional: 1 << 31 });
+    assert_eq!(UNIX_EPOCH.duration_since(before).unwrap(), Duration::from_millis(500));
+    let first = UNIX_EPOCH.duration_since(OscTime { seconds: 0, fractional: 0 }.into()).unwrap();
+    assert_eq!(first, Duration::from_secs(2_208_988_800));
+    let mut bytes = vec![1, 2];
+    for (mark, data) in [((1, 3), &b"ab"[..]), ((2, 1), b""), ((0, 1), b"ab")] {
+        encoder::Output::place(&mut bytes, mark, data).unwrap();
+    }
+    assert_eq!(bytes, [1, 2]);
 }
 
 #[test]

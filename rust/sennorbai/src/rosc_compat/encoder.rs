@@ -2,6 +2,7 @@
 // Apache-2.0: see NOTICE.
 //! Encodes an `OscPacket` to a byte vector.
 
+use super::plain;
 use super::scratch::lend;
 use super::walk::{Step, Walk};
 use super::OscPacket;
@@ -42,9 +43,8 @@ pub fn encode_tcp(packet: &OscPacket) -> super::Result<Vec<u8>> {
 /// error will be returned. Note that in that case, the
 /// output may have been partially written!
 ///
-/// # Panics
-///
-/// Where [encode()] gives [`OscError::Limit`](super::OscError::Limit): the output's error has no place for it.
+/// Where [encode()] gives [`OscError::Limit`](super::OscError::Limit), for which the output's error has no place, the bytes are
+/// those that rosc writes, by plain Rust that is not proved.
 ///
 /// # Example
 ///
@@ -62,23 +62,15 @@ pub fn encode_tcp(packet: &OscPacket) -> super::Result<Vec<u8>> {
 /// assert!(encoder::encode_into(&packet, &mut bytes).is_ok())
 /// ```
 pub fn encode_into<O: Output>(packet: &OscPacket, out: &mut O) -> Result<usize, O::Err> {
-    match write(packet, crate::encode) {
-        Ok(bytes) => out.write(&bytes),
-        Err(refusal) => panic!("{refusal}"),
-    }
+    let bytes = write(packet, crate::encode).unwrap_or_else(|_| plain::encode(packet));
+    out.write(&bytes)
 }
 
 /// Works exactly the same as [encode_into()]. Except that it prepends the length of the message into
 /// the first 4 bytes of the provided [Output], as per the OSC 1.0 specification.
-///
-/// # Panics
-///
-/// Where [encode_tcp()] gives [`OscError::Limit`](super::OscError::Limit).
 pub fn encode_into_tcp<O: Output>(packet: &OscPacket, out: &mut O) -> Result<usize, O::Err> {
-    match write(packet, crate::encode_tcp) {
-        Ok(bytes) => out.write(&bytes),
-        Err(refusal) => panic!("{refusal}"),
-    }
+    let bytes = write(packet, crate::encode_tcp).unwrap_or_else(|_| plain::encode_tcp(packet));
+    out.write(&bytes)
 }
 
 /// Null terminates the byte representation of string `s` and
@@ -105,7 +97,8 @@ pub fn encode_string_into<S: AsRef<str>, O: Output>(s: S, out: &mut O) -> Result
 
 /// Returns the position padded to 4 bytes.
 ///
-/// A position over 2^64 − 4, which the library refuses, overflows as in rosc: a panic where overflow is checked, 0 elsewhere.
+/// A position over 2^64 − 4, which the library refuses, gives 0, as a release build of rosc does; where overflow is checked, rosc
+/// panics.
 ///
 /// # Example
 ///
@@ -117,7 +110,7 @@ pub fn encode_string_into<S: AsRef<str>, O: Output>(s: S, out: &mut O) -> Result
 /// assert_eq!(12u64, encoder::pad(pos))
 /// ```
 pub fn pad(pos: u64) -> u64 {
-    crate::pad(pos).unwrap_or_else(|_| pos + (4 - pos % 4))
+    crate::pad(pos).unwrap_or(0)
 }
 
 /// One of the library's encoders.
@@ -186,8 +179,8 @@ pub trait Output {
 
     /// Consumes a previously-generated Mark and fills it in with data.
     ///
-    /// This may result in a panic or in invalid data being written if `mark` came from a different
-    /// `Output`, or if the length of `data` does not match the size passed to `mark`.
+    /// This may result in invalid data being written if `mark` came from a different `Output`, or if the
+    /// length of `data` does not match the size passed to `mark`; a `Vec<u8>` is then unchanged.
     fn place(&mut self, mark: Self::Mark, data: &[u8]) -> Result<(), Self::Err>;
 }
 
@@ -206,7 +199,9 @@ impl Output for Vec<u8> {
 
     #[inline]
     fn place(&mut self, (start, end): Self::Mark, data: &[u8]) -> Result<(), Self::Err> {
-        self[start..end].copy_from_slice(data);
+        if let Some(marked) = self.get_mut(start..end).filter(|marked| marked.len() == data.len()) {
+            marked.copy_from_slice(data);
+        }
         Ok(())
     }
 

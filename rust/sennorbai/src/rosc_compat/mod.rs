@@ -14,18 +14,26 @@
 //! Where it differs from rosc:
 //!
 //! - Inputs and results over 65,535 bytes and bundles nested deeper than 64 are refused, by the variant
-//!   [`OscError::Limit`], which rosc does not have. The functions whose signature has no place for a refusal say what they do.
+//!   [`OscError::Limit`], which rosc does not have; a match on every variant of `OscError` needs an arm for it.
+//!   [`encoder::encode_into`], [`encoder::encode_into_tcp`] and [`encoder::encode_string`] have no place for a refusal and write
+//!   what rosc writes, past the limits by plain Rust that is not proved.
 //! - The library tells a refusal's number and no more. So [`OscError::ReadError`] always holds [`ErrorKind::Eof`], where nom's
 //!   kind is `Eof` or `Tag`; the words of an unknown type tag do not name the tag; and [`OscError::StringError`] holds the error
 //!   of a text that stands for the one in the packet.
 //! - `OscError` does not implement the traits of nom, and the module `address` is not here.
-//! - A time tag before 1970 is printed, where rosc panics.
+//! - No call panics, memory apart. Where rosc does: a time tag before 1970 is printed, and converted into the `SystemTime`
+//!   before that year; [`encoder::pad`] of a position over 2^64 − 4 is 0, as in a release build of rosc.
 //! - [`encoder::encode_into`] writes a packet to its output in one piece.
+//!
+//! As in rosc, a tree is dropped, cloned, compared and printed by functions that call themselves for an array in an array, and a
+//! packet can hold 32,763 of them: a thread with 2 MiB of stack drops some 32,000 levels in a release build and 8,000 in a debug
+//! build, and encodes some 16,000.
 
 // Types, signatures and their documentation are from rosc 0.11.4, copyright (c) 2016 Andreas Linz, under MIT or Apache-2.0:
 // see NOTICE.
 
 mod errors;
+mod plain;
 mod scratch;
 mod types;
 mod walk;

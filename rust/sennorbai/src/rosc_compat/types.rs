@@ -82,14 +82,15 @@ impl TryFrom<SystemTime> for OscTime {
 }
 
 impl From<OscTime> for SystemTime {
-    /// # Panics
-    ///
-    /// As in rosc, where the time is before the unix epoch.
+    /// A time before the unix epoch, where rosc panics, is given too; if the system has none so early, it is that epoch.
     fn from(time: OscTime) -> SystemTime {
         let nanos = (time.fractional as f64) * OscTime::ONE_OVER_TWO_POW_32 * OscTime::NANOS_PER_SECOND;
         let duration_since_osc_epoch = Duration::new(time.seconds as u64, nanos.round() as u32);
-        let duration_since_unix_epoch = duration_since_osc_epoch - Duration::new(OscTime::UNIX_OFFSET, 0);
-        UNIX_EPOCH + duration_since_unix_epoch
+        let unix_epoch = Duration::new(OscTime::UNIX_OFFSET, 0);
+        match duration_since_osc_epoch.checked_sub(unix_epoch) {
+            Some(duration_since_unix_epoch) => UNIX_EPOCH + duration_since_unix_epoch,
+            None => UNIX_EPOCH.checked_sub(unix_epoch - duration_since_osc_epoch).unwrap_or(UNIX_EPOCH),
+        }
     }
 }
 

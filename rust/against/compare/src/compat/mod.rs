@@ -10,7 +10,7 @@ use crate::judge::{DEEPEST, LONGEST};
 use crate::table::Reader;
 use crate::{oracle, rules};
 use convert::{to_compat, to_rosc};
-use rosc::OscPacket;
+use rosc::{OscBundle, OscPacket, OscTime};
 use same::same_packets;
 use sennorbai::rosc_compat as compat;
 use std::io::Cursor;
@@ -132,6 +132,11 @@ fn encode(asked: &Asked) -> Result<Outcome, String> {
     let bytes = if tcp { rosc::encoder::encode_tcp(&packet) } else { rosc::encoder::encode(&packet) };
     let bytes = bytes.expect("the crate encodes every packet");
     let ours = if tcp { compat::encoder::encode_tcp(&our_packet) } else { compat::encoder::encode(&our_packet) };
+    // Outputs have no place for a limit: they get the crate's bytes in any case.
+    encode_into(&our_packet, tcp, &bytes)?;
+    let deep = nested(packet.clone());
+    let deep_bytes = rosc::encoder::encode(&deep).expect("the crate encodes every packet");
+    encode_into(&to_compat::packet(&deep), tcp, &deep_bytes)?;
     if oracle::depth(&packet) as u64 > DEEPEST {
         return limited(9, ours.map(|_| ()));
     }
@@ -141,11 +146,16 @@ fn encode(asked: &Asked) -> Result<Outcome, String> {
     if !ours.is_ok_and(|ours| ours == bytes) {
         return Err("compat: other bytes".to_string());
     }
-    encode_into(&our_packet, tcp, &bytes)?;
     match helpers::differs(&packet) {
         Some(name) => Err(format!("compat: {name}")),
         None => Ok(Outcome::Same),
     }
+}
+
+/// A packet in so many bundles that the library refuses it, and what stands in its place has to write it.
+fn nested(packet: OscPacket) -> OscPacket {
+    let timetag = OscTime { seconds: 7, fractional: 9 };
+    (0..=DEEPEST).fold(packet, |inner, _| OscPacket::Bundle(OscBundle { timetag, content: vec![inner] }))
 }
 
 /// Both outputs: bytes that are there already stay, and the count is that of the bytes written.

@@ -26,7 +26,7 @@ fn colour(side: Side) -> Option<&'static str> {
 
 /// Draws the chart and answers where it is.
 pub fn draw(timed: &[(Task, Vec<Row>)]) -> Result<&'static str, String> {
-    let root = Path::new(env!("CARGO_MANIFEST_DIR")).join("../..");
+    let root = Path::new(env!("CARGO_MANIFEST_DIR")).join("../../..");
     std::fs::write(root.join(PLACE), svg(timed)).map_err(|error| error.to_string())?;
     Ok(PLACE)
 }

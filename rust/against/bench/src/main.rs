@@ -1,8 +1,9 @@
-//! Times the port against rosc, liblo, oscpack and memcpy on the same inputs, counts instructions and draws a chart.
+//! Times the port against rosc, liblo, oscpack and memcpy on the same inputs, and counts instructions.
 //!
 //!     cargo run --release --offline -p bench
 //!
-//! `--count` prints the counts only, `--time` the times only. Which functions the instructions go to:
+//! `--count` prints the counts only, `--time` the times only; `--chart` prints the times and draws them anew in docs/benchmark.svg.
+//! Which functions the instructions go to:
 //!
 //!     valgrind --tool=callgrind --toggle-collect=counted target/release/bench --one decode port "60 KB bundle"
 //!     callgrind_annotate callgrind.out.*
@@ -18,8 +19,9 @@ mod spent;
 mod trees;
 mod work;
 
+use clock::Row;
 use inputs::Input;
-use work::TASKS;
+use work::{Task, TASKS};
 
 /// rosc and oscpack recurse: as deep as the hostile inputs go.
 const STACK: usize = 1 << 30;
@@ -39,38 +41,48 @@ const COUNT_NOTES: &str = "\
 Counted by valgrind's callgrind: one call after one to warm up, with some 20 instructions of the benchmark's own. A long memcpy
 is one repeated instruction, which counts once for each byte. Counts don't show what waits for memory or for a step before.";
 
+const USAGE: &str = "usage: bench [--time | --count | --chart], or bench --one TASK SIDE INPUT";
+
 fn main() {
-    std::thread::Builder::new().stack_size(STACK).spawn(run).expect("a thread").join().expect("the benchmark ends");
+    let thread = std::thread::Builder::new().stack_size(STACK).spawn(run).expect("a thread");
+    if !thread.join().expect("the benchmark ends") {
+        eprintln!("{USAGE}");
+        std::process::exit(2);
+    }
 }
 
-fn run() {
+/// Does what the words of the command ask for; false where they are not known.
+fn run() -> bool {
     let inputs = inputs::all();
     let words: Vec<String> = std::env::args().skip(1).collect();
-    let chosen = words.first().map_or("", String::as_str);
-    match chosen {
-        count::CHILD => return count::child(&inputs),
-        "--one" => return count::one(&inputs, &words[1..]),
-        _ => {}
+    match words.iter().map(String::as_str).collect::<Vec<_>>()[..] {
+        [] => {
+            times(&inputs);
+            counts(&inputs);
+        }
+        ["--time"] => drop(times(&inputs)),
+        ["--count"] => counts(&inputs),
+        ["--chart"] => match chart::draw(&times(&inputs)) {
+            Ok(place) => println!("\nchart: {place}"),
+            Err(error) => println!("\nno chart: {error}"),
+        },
+        ["--one", task, side, input] => return count::one(&inputs, task, side, input),
+        [count::CHILD] => count::child(&inputs),
+        _ => return false,
     }
-    if chosen != "--count" {
-        times(&inputs);
-    }
-    if chosen != "--time" {
-        counts(&inputs);
-    }
+    true
 }
 
-fn times(inputs: &[Input]) {
+/// The times of each task, which are printed.
+fn times(inputs: &[Input]) -> Vec<(Task, Vec<Row>)> {
     println!("release build; processor time, median of {} rounds in which the sides take turns", clock::ROUNDS);
-    let timed = TASKS.map(|task| (task, inputs.iter().map(|input| clock::time(task, input)).collect::<Vec<_>>()));
+    let timed: Vec<(Task, Vec<Row>)> =
+        TASKS.map(|task| (task, inputs.iter().map(|input| clock::time(task, input)).collect())).into();
     for (task, rows) in &timed {
         report::print(*task, "ns", rows);
     }
     println!("\n{NOTES}");
-    match chart::draw(&timed) {
-        Ok(place) => println!("\nchart: {place}"),
-        Err(error) => println!("\nno chart: {error}"),
-    }
+    timed
 }
 
 fn counts(inputs: &[Input]) {

@@ -28,22 +28,22 @@ mod short;
 mod spoil;
 mod table;
 mod walk;
+mod words;
 
-fn argument(name: &str, other: u64) -> u64 {
-    let words: Vec<String> = std::env::args().collect();
-    let at = words.iter().position(|w| w == name);
-    at.and_then(|i| words.get(i + 1)).and_then(|w| w.parse().ok()).unwrap_or(other)
-}
+use words::Wanted;
 
 fn main() {
-    let (cases, seed) = (argument("--cases", 100_000), argument("--seed", 1));
-    let record = std::env::args().nth(1).is_some_and(|word| word == "record");
-    let done = if record { run::alone(move || record::record(seed)) } else { run::run(cases, seed) };
+    let words: Vec<String> = std::env::args().skip(1).collect();
+    let done = match words::wanted(&words) {
+        Some(Wanted::Compare { cases, seed }) => run::run(cases, seed),
+        Some(Wanted::Record { seed }) => run::alone(move || record::record(seed)),
+        None => Err(words::USAGE.to_string()),
+    };
     match done {
         Ok(true) => {}
         Ok(false) => std::process::exit(1),
         Err(words) => {
-            println!("{words}");
+            eprintln!("{words}");
             std::process::exit(2);
         }
     }

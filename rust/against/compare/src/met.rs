@@ -214,14 +214,14 @@ impl Met {
         self.lines().into_iter().filter(|(_, _, times)| *times > 0).map(|(name, _, times)| (name, times)).collect()
     }
 
-    /// Prints the counts, and says whether each was met often enough. What begins with the name of a library that is not
-    /// installed is let off.
-    pub fn report(&self, cases: u64, not_installed: &[&str]) -> bool {
+    /// Prints the counts, and says whether each was met often enough. What begins with the name of a library that is left out
+    /// is let off.
+    pub fn report(&self, cases: u64, left_out: &[&str]) -> bool {
         let mut enough = true;
         for (name, seldom, times) in self.lines() {
             let least = 1 + cases / 20_000 / seldom;
-            if not_installed.iter().any(|library| name.starts_with(library)) {
-                println!("{times:>10} {name}: not installed");
+            if left_out.iter().any(|library| name.starts_with(library)) {
+                println!("{times:>10} {name}: left out");
             } else if times < least {
                 enough = false;
                 println!("{times:>10} {name}: NOT OFTEN ENOUGH, at least {least}");

@@ -161,7 +161,7 @@ fn choose(seed: u64) -> Sample {
 
 /// Writes the sample, and the note that says how it was made, under crates/recorded_runs.
 pub fn record(seed: u64) -> Result<bool, String> {
-    let folder = Path::new(env!("CARGO_MANIFEST_DIR")).join("../../crates/recorded_runs");
+    let folder = Path::new(env!("CARGO_MANIFEST_DIR")).join("../../../crates/recorded_runs");
     let sample = choose(seed);
     let written = fs::create_dir_all(folder.join("data"))
         .and_then(|()| fs::write(folder.join("data/answers.bin"), &sample.bytes))
@@ -182,7 +182,7 @@ fn note(sample: &Sample, seed: u64) -> String {
         sample.most_room
     );
     let mut note = format!(
-        "{HEAD}\nMade in rust/ by\n\n{made}\n\nwhich writes this file too. The same seed gives the same bytes:\n{sizes}.\n"
+        "{HEAD}\nMade in rust/against/ by\n\n{made}\n\nwhich writes this file too. The same seed gives the same bytes:\n{sizes}.\n"
     );
     note += FORMAT;
     for (name, times) in sample.met.counts() {

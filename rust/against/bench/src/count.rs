@@ -27,16 +27,15 @@ pub fn child(inputs: &[Input]) {
     }
 }
 
-/// Under callgrind by hand: the work of one side on one input, to see which functions the instructions go to.
-pub fn one(inputs: &[Input], wanted: &[String]) {
-    for input in inputs {
-        for (task, side) in TASKS.iter().flat_map(|&task| SIDES.map(|side| (task, side))) {
-            if wanted == [task.name(), side.name(), input.name] {
-                return work(side, task, input).into_iter().for_each(once);
-            }
-        }
-    }
-    eprintln!("a task, a side and an input are wanted, by their names in the tables");
+/// Under callgrind by hand: the work of one side on one input, to see which functions the instructions go to; false where there is
+/// none of these names, which are those of the tables.
+pub fn one(inputs: &[Input], task: &str, side: &str, input: &str) -> bool {
+    let input = inputs.iter().find(|one| one.name == input);
+    let task = TASKS.into_iter().find(|one| one.name() == task);
+    let side = SIDES.into_iter().find(|one| one.name() == side);
+    let (Some(input), Some(task), Some(side)) = (input, task, side) else { return false };
+    work(side, task, input).into_iter().for_each(once);
+    true
 }
 
 /// Does the work once to warm up and once to be counted.
