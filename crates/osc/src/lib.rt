@@ -63,7 +63,7 @@ pub extern "C" fn osc_decode_udp(msg: &[u8], table: &mut [u8], depth: u64) -> u6
     decode(Framing::Udp, msg, table, depth)
 }
 
-// `decode_tcp`, told in the same way; Waiting is count 0 with the whole input left.
+// `decode_tcp`, told in the same way; Waiting is count 0 with the whole input left, since no other answer of it has 0 records.
 //
 // Ruled out: Waiting told as 0 bytes left; as many left as the table has bytes.
 #[no_mangle]
@@ -73,7 +73,7 @@ pub extern "C" fn osc_decode_tcp(msg: &[u8], table: &mut [u8], depth: u64) -> u6
     decode(Framing::Tcp, msg, table, depth)
 }
 
-// `decode_tcp_vec`, told in the same way.
+// `decode_tcp_vec`, told in the same way; it never waits, and count 0 with the whole input left is a list of no packets.
 //
 // Ruled out: the first packet of the list alone; the depth limit cut to 32 bits, so that 2^32 passes for 0.
 #[no_mangle]
@@ -126,7 +126,7 @@ pub extern "C" fn osc_pad(pos: u64) -> u64
     }
 }
 
-// `look`: the kind in the low byte, or the refusal's number in bits 56 to 63.
+// `look`: the kind in the low byte and nothing above, or the refusal's number in bits 56 to 63.
 //
 // Ruled out: 0 for a record whose own rules do not hold; one kind for both truth values.
 #[no_mangle]

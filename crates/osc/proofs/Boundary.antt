@@ -1,0 +1,143 @@
+-- Demand 1 at the C boundary, and which answers a decoder gives there.
+use mathlib.Core.Path.{_≡_, refl, sym, subst}
+use mathlib.Core.Bool.{true, false, _&&_, false≢true}
+use mathlib.Core.List.{List, []}
+use mathlib.Core.Logic.{⊎-elim}
+use Prim.Native.Nat.{ℕ, zero, suc, _*_, _≤_, _<_}
+use native.Mathlib.Omega.{arith}
+use borrow.Author.Tests.{ne-eqb}
+use lib.Dec.{eqb, ltb}
+use lib.ListN.{length}
+use Rattle.refusal.specs.Refusal.{numberOf}
+use Rattle.refusal.specs.declared.Fault.{Fault}
+use Rattle.refusal.specs.declared.Fault.the-variants.{Empty, RunsOut, NotUtf8, BadStart, NotOpen, UnknownTag, NotScalar}
+use Rattle.refusal.specs.declared.Refusal.the-variants.{Unreadable}
+use Rattle.wire.specs.Limits.{longest}
+use Rattle.wire.specs.Pad.{padOf}
+use Rattle.wire.specs.declared.Padded.{Padded}
+use Rattle.wire.proofs.Choices.{by-test, by-le, is-or}
+use Rattle.node.specs.Rules.{ownRules}
+use Rattle.node.specs.Records.{zerosAt, itemAt, capacity}
+use Rattle.values.specs.Value.{valueOf}
+use Rattle.values.specs.Look.{lookAt}
+use Rattle.values.specs.declared.value.OscType.{OscType}
+use Rattle.values.specs.declared.value.OscType.the-variants as value
+use Rattle.values.specs.declared.look.Looked.{Looked}
+use Rattle.decoder.specs.Framing.{Whole, trees, waiting, refusal, ruleOf}
+use Rattle.decoder.specs.Limits.{limited, decoded, forestOf, tabled}
+use Rattle.decoder.specs.declared.Framing.{Framing}
+use Rattle.decoder.specs.declared.Decoded.{Decoded}
+use Rattle.decoder.specs.declared.Decoded.the-variants as decodes
+use Rattle.decoder.proofs.Chosen.{by-decoded, by-trees}
+use Rattle.encoder.specs.declared.Encoded.{Encoded}
+use Rattle.encoder.specs.declared.Encoded.the-variants as encodes
+use Rattle.osc.specs.Answers.{decodedNumber, Fits, encodedNumber, paddedNumber, kindOf, lookedNumber}
+use Rattle.osc.specs.Boundary.{CCall, osc-decode, osc-encode, osc-encode-string, osc-pad, osc-look, cLent, cRefusals, cRefused}
+use Rattle.osc.specs.Boundary.{CAnswered, CEnds, told-answer, told-refusal, EndsListed, ToldApart}
+use Rattle.osc.proofs.Ended.{Ended, encodes-ended, string-ended}
+use Rattle.osc.proofs.Fits.{fits}
+
+-- a number that is told and bytes that are left, by what they are
+ends-as : {c : CCall} {told told′ : ℕ} {after after′ : List ℕ} → told ≡ told′ → after ≡ after′ → CEnds c told′ after′ → CEnds c told after
+ends-as {c} {told} {told′} {after} {after′} p q e =
+    subst (λ (n : ℕ). CEnds c n after) (sym p) (subst (λ (l : List ℕ). CEnds c told′ l) (sym q) e)
+
+-- ---- decoders
+
+module _ (framing : Framing) (msg table : List ℕ) (limit : ℕ) where
+  -- how the call ends where this is the answer
+  abbrev Decoding : Decoded → Type 0
+  Decoding d =
+      Fits (length msg) d
+      → CEnds (osc-decode framing msg table limit) (decodedNumber (length msg) d) (tabled d (forestOf (ruleOf framing msg)) table)
+
+  fault-ends : (k : Fault) → Decoding (decodes.Refused (Unreadable k))
+  fault-ends Empty h = told-refusal 2 refl refl refl
+  fault-ends RunsOut h = told-refusal 3 refl refl refl
+  fault-ends NotUtf8 h = told-refusal 4 refl refl refl
+  fault-ends BadStart h = told-refusal 5 refl refl refl
+  fault-ends NotOpen h = told-refusal 6 refl refl refl
+  fault-ends UnknownTag h = told-refusal 7 refl refl refl
+  fault-ends NotScalar h = told-refusal 8 refl refl refl
+
+  limited-ends : (w : Whole) → Decoding (limited (capacity table) limit w)
+  limited-ends (trees f left) =
+      by-trees Decoding (capacity table) limit f left (λ _ h. told-refusal 9 refl refl refl) (λ _ h. told-refusal 10 refl refl refl)
+      (λ _ _ h. told-answer (omega arith))
+  limited-ends waiting = λ h. told-answer (omega arith)
+  limited-ends (refusal k) = fault-ends k
+
+  decoded-ends : Decoding (decoded (ruleOf framing) (capacity table) limit msg)
+  decoded-ends =
+      by-decoded Decoding (ruleOf framing) (capacity table) limit msg (λ _ h. told-refusal 13 refl refl refl)
+      (λ _ h. told-refusal 1 refl refl refl) (λ _ _. limited-ends (ruleOf framing msg))
+
+-- ---- encoders
+
+encoded-ends : (c : CCall) → ((n : ℕ) → n ≤ longest → CAnswered c n) → ((n : ℕ) → n * 0x100_0000_0000_0000 ≡ cRefused c n)
+    → (answer : Encoded) (after : List ℕ) → Ended (cRefusals c) (cLent c) answer after → CEnds c (encodedNumber answer) after
+encoded-ends c f g (encodes.Written n) after h = told-answer (f n h)
+encoded-ends c f g (encodes.Refused r) after h = told-refusal (numberOf r) (h .0) (g (numberOf r)) (h .1)
+
+-- ---- `osc_pad` and `osc_look`
+
+pad-ends : (pos : ℕ) → CEnds (osc-pad pos) (paddedNumber (padOf pos)) []
+pad-ends pos =
+    by-le (λ (p : Padded). CEnds (osc-pad pos) (paddedNumber p) []) pos 0xffff_ffff_ffff_fffc
+    (λ h. told-answer (omega arith)) (λ h. told-refusal 14 refl refl refl)
+
+kind-low : (v : OscType) → kindOf v < 256
+kind-low (value.Message offset n) = omega arith
+kind-low (value.Bundle t) = omega arith
+kind-low (value.Int n) = omega arith
+kind-low (value.Float x v) = omega arith
+kind-low (value.String offset n) = omega arith
+kind-low (value.Blob offset n) = omega arith
+kind-low (value.Time t) = omega arith
+kind-low (value.Long n) = omega arith
+kind-low (value.Double x v) = omega arith
+kind-low (value.Char x) = omega arith
+kind-low (value.Color x) = omega arith
+kind-low (value.Midi x) = omega arith
+kind-low (value.Bool true) = omega arith
+kind-low (value.Bool false) = omega arith
+kind-low value.Nil = omega arith
+kind-low value.Inf = omega arith
+kind-low value.Array = omega arith
+
+look-ends : (t : List ℕ) (i : ℕ) → CEnds (osc-look t i) (lookedNumber (lookAt t i)) []
+unfolding lookAt
+look-ends t i =
+    let P : Looked → Type 0 = λ r. CEnds (osc-look t i) (lookedNumber r) [] in
+    by-test P (ltb i (capacity t))
+    (λ _. by-test P (eqb (zerosAt t i) 0 && ownRules (itemAt t i)) (λ _. told-answer (kind-low (valueOf (itemAt t i))))
+    (λ _. told-refusal 11 refl refl refl))
+    (λ _. told-refusal 11 refl refl refl)
+
+-- ---- every function
+
+-- each function tells an answer, or a refusal that is listed for it, and then every lent byte is as before
+pub ends-listed : EndsListed
+ends-listed (osc-decode framing msg table limit) told after t =
+    ends-as (t .number) (t .left) (decoded-ends framing msg table limit (fits (capacity table) limit framing msg refl))
+ends-listed (osc-encode frame table count source out) told after t =
+    ends-as (t .number) refl
+    (encoded-ends (osc-encode frame table count source out) (λ n h. h) (λ n. refl) (t .answer) after
+    (encodes-ended frame table count source out _ (t .outcome)))
+ends-listed (osc-encode-string text out) told after t =
+    ends-as (t .number) refl
+    (encoded-ends (osc-encode-string text out) (λ n h. h) (λ n. refl) (t .answer) after (string-ended text out _ (t .outcome)))
+ends-listed (osc-pad pos) told after t = ends-as (t .0) (t .1) (pad-ends pos)
+ends-listed (osc-look table index) told after t = ends-as (t .0) (t .1) (look-ends table index)
+
+-- no refusal is told as an answer: its bits are those that no answer has, and 14 is no multiple of 4
+pub refusals-apart : ToldApart
+refusals-apart (osc-decode framing msg table limit) zero e h = absurd (false≢true e)
+refusals-apart (osc-decode framing msg table limit) (suc n) e h = omega arith
+refusals-apart (osc-encode frame table count source out) zero e h = absurd (false≢true e)
+refusals-apart (osc-encode frame table count source out) (suc n) e h = omega arith
+refusals-apart (osc-encode-string text out) zero e h = absurd (false≢true e)
+refusals-apart (osc-encode-string text out) (suc n) e h = omega arith
+refusals-apart (osc-pad pos) n e h = ⊎-elim (λ p. omega arith) (λ p. absurd (false≢true (rw (ne-eqb n 14 p) at e))) (is-or n 14)
+refusals-apart (osc-look table index) zero e h = absurd (false≢true e)
+refusals-apart (osc-look table index) (suc n) e h = omega arith

@@ -1,0 +1,123 @@
+-- Examples, computed: what meets the contracts of the boundary and the hypotheses of its theorems.
+use mathlib.Core.Path.{_≡_, refl}
+use mathlib.Core.List.{List, [], _∷_, _++_}
+use Prim.Native.Nat.{ℕ}
+use native.Mathlib.Omega.{arith}
+use lib.ListN.{replicate}
+use Rattle.refusal.specs.declared.Fault.the-variants.{NotUtf8}
+use Rattle.refusal.specs.declared.Refusal.the-variants.{Unreadable, BadTable}
+use Rattle.wire.specs.Number.{number, bytes}
+use Rattle.wire.specs.Pad.{padOf}
+use Rattle.node.specs.Forest.{size, depth}
+use Rattle.node.specs.Records.{recordOf, recordsOf, stored, kindAt, zerosAt, fieldAt, capacity}
+use Rattle.node.specs.Rules.{ownRules}
+use Rattle.node.specs.Tags.{classOf, sortOf}
+use Rattle.values.specs.Value.{bareOf, narrowOf, valueBy}
+use Rattle.values.specs.Look.{lookAt}
+use Rattle.text.specs.Text.{readText}
+use Rattle.arguments.specs.Arguments.{readTags}
+use Rattle.packet.specs.Packet.{readMessage, packetBy, packetAt, readPacket}
+use Rattle.packet.specs.Heads.{startOf, prefixOf}
+use Rattle.decoder.specs.Framing.{udp, readFrame, tcp, framesAt, readFrames, tcpVec}
+use Rattle.decoder.specs.Limits.{decoded}
+use Rattle.decoder.specs.declared.Framing.the-variants.{Udp, Tcp, TcpVec}
+use Rattle.decoder.specs.declared.Decoded.the-variants as decodes
+use Rattle.strings.specs.Atomic.{oscString}
+use Rattle.writers.specs.Osc as osc
+use Rattle.encoder.specs.Outcome.{unframed, prefixed, bytesOutcome, treeOutcome, malformed, formed, stringOutcome}
+use Rattle.encoder.specs.declared.Encoded.{Encoded}
+use Rattle.encoder.specs.declared.Encoded.the-variants as encodes
+use Rattle.table.proofs.Examples as p3
+use Rattle.osc.specs.Answers.{Fits}
+use Rattle.osc.specs.Boundary.{osc-decode, osc-encode, osc-encode-string, osc-pad, osc-look, CMeets}
+use Rattle.osc.proofs.Apart.{Parts, decoded-apart, EncodedParts, told-apart}
+use Rattle.osc.proofs.Once.{decoded-once, WaitingTold, tcp-none-waits, encoded-once, pad-once}
+
+-- a lent buffer of n bytes
+abbrev nines : ℕ → List ℕ
+nines n = replicate n 9
+
+-- ---- decoders
+
+-- P1: refusal 2, and any table is as it was
+p1 : (table : List ℕ) → CMeets (osc-decode Udp [] table 64) 0x200_0000_0000_0000 table
+unfolding packetAt readPacket udp decoded
+p1 table = record { number = refl; left = refl }
+
+-- P14's bytes, a frame that is not all there
+abbrev unready : List ℕ
+unready = 0 ∷ 0 ∷ 0 ∷ 9 ∷ 0x2F ∷ 0x61 ∷ 0 ∷ 0 ∷ []
+
+-- `osc_decode_tcp` waits: 8, and any table is as it was
+p14 : (table : List ℕ) → CMeets (osc-decode Tcp unready table 64) 8 table
+unfolding number prefixOf readFrame tcp decoded
+p14 table = record { number = refl; left = refl }
+
+-- `osc_decode_tcp_vec` tells 8 too, which are no packets there
+no-packets : (CMeets (osc-decode TcpVec unready (nines 17) 64) 8 (nines 17))
+    × (decoded tcpVec (capacity (nines 17)) 64 unready ≡ decodes.Packets 0 8)
+unfolding size depth number prefixOf readFrame tcpVec readFrames framesAt decoded stored recordsOf
+no-packets = (record { number = refl; left = refl }, refl)
+
+-- a message of one record, after a length that cuts nothing
+message : CMeets (osc-decode Tcp (0 ∷ 0 ∷ 0 ∷ 0 ∷ 0x2F ∷ 0x61 ∷ 0 ∷ 0 ∷ 0 ∷ 0 ∷ 0 ∷ 0 ∷ []) (nines 17) 64) 0x1_0000_0000
+    (0x2F ∷ 0 ∷ 0 ∷ 0 ∷ 0 ∷ 0 ∷ 0 ∷ 1 ∷ 0 ∷ 0 ∷ 0 ∷ 4 ∷ 0 ∷ 0 ∷ 0 ∷ 2 ∷ 9 ∷ [])
+unfolding size depth number bytes readText readTags startOf prefixOf readMessage packetBy packetAt readPacket readFrame tcp decoded
+    stored recordsOf recordOf
+message = record { number = refl; left = refl }
+
+-- the hypotheses of `tcp-none-waits`, `decoded-once` and `decoded-apart`
+waits : (table : List ℕ) → WaitingTold unready table 64 8 table
+waits table = tcp-none-waits unready table 64 8 table (p14 table) refl refl
+
+once : decoded tcp 0 64 unready ≡ decoded tcp 1 64 unready
+once = decoded-once Tcp unready unready [] (nines 17) 64 64 8 [] (nines 17) refl (p14 []) (p14 (nines 17))
+
+apart : Parts 12 (decodes.Packets 2 4) 0x2_0000_0004
+apart = let f : Fits 12 (decodes.Packets 2 4) = (omega arith, omega arith) in decoded-apart 12 (decodes.Packets 2 4) f
+
+-- ---- encoders
+
+-- a table with a wrong end: refusal 11, and any output is as it was
+wrong-end : (out : List ℕ) → CMeets (osc-encode unframed (p3.table 2 3) 2 p3.packet out) 0xB00_0000_0000_0000 out
+wrong-end out = record { answer = encodes.Refused BadTable; outcome = malformed p3.wrong-end refl; number = refl }
+
+-- P3's table in a stream: 16 bytes
+stream : CMeets (osc-encode prefixed (p3.table 2 2) 2 p3.packet (nines 17)) 16 ((0 ∷ 0 ∷ 0 ∷ 12 ∷ []) ++ (p3.packet ++ (9 ∷ [])))
+unfolding bytes depth classOf sortOf oscString osc.writeData osc.writeTags osc.writeMessage osc.writePacket bytesOutcome treeOutcome
+stream = record { answer = encodes.Written 16; outcome = formed p3.message p3.five p3.p3-tree refl; number = refl }
+
+-- a text that is not UTF-8: refusal 4, and any output is as it was
+not-utf8 : (out : List ℕ) → CMeets (osc-encode-string (0xFF ∷ []) out) 0x400_0000_0000_0000 out
+unfolding stringOutcome
+not-utf8 out = record { answer = encodes.Refused (Unreadable NotUtf8); outcome = refl; number = refl }
+
+-- the hypotheses of `told-apart` and `encoded-once`
+taken-apart : EncodedParts (encodes.Written 16) 16
+unfolding stream
+taken-apart = told-apart prefixed (p3.table 2 2) 2 p3.packet (nines 17) 16 _ stream
+
+sixteen : (a : Encoded) → EncodedParts a 16 → a ≡ encodes.Written 16
+sixteen a p = encoded-once 16 a (encodes.Written 16) p taken-apart
+
+-- ---- `osc_pad` and `osc_look`
+
+-- the next multiple of 4; none after the last
+next : CMeets (osc-pad 5) 8 []
+next = (refl, refl)
+
+last : CMeets (osc-pad 0xffff_ffff_ffff_ffff) 14 []
+last = (refl, refl)
+
+-- 5 and 6 have one multiple, as `pad-once` asks
+five-six : padOf 5 ≡ padOf 6
+five-six = pad-once 5 6 refl
+
+-- the kind of P3's second record; none of an empty table
+kind : CMeets (osc-look (p3.table 2 2) 1) 105 []
+unfolding number kindAt zerosAt fieldAt ownRules classOf sortOf bareOf narrowOf valueBy lookAt
+kind = (refl, refl)
+
+no-record : CMeets (osc-look [] 0) 0xB00_0000_0000_0000 []
+unfolding lookAt
+no-record = (refl, refl)

@@ -1,0 +1,189 @@
+-- A number that is told tells one answer. `decode_udp` and `decode_tcp` give no answer of 0 records and `decode_tcp` alone waits, so
+-- that count 0 with the whole input left is Waiting there, and no packets where `decode_tcp_vec` tells it.
+use mathlib.Core.Path.{_≡_, refl, ap, ap₂, sym, subst, _∙_}
+use mathlib.Core.List.{List}
+use Prim.Native.Nat.{ℕ, zero, suc, _+_, _≤_}
+use native.Mathlib.Omega.{arith}
+use lib.ListN.{length, drop}
+use Rattle.refusal.specs.Refusal.{numberOf, faultNumber}
+use Rattle.refusal.specs.declared.Fault.{Fault}
+use Rattle.refusal.specs.declared.Fault.the-variants.{Empty, RunsOut, NotUtf8, BadStart, NotOpen, UnknownTag, NotScalar}
+use Rattle.refusal.specs.declared.Refusal.{Refusal}
+use Rattle.refusal.specs.declared.Refusal.the-variants.{TooLong, Unreadable, TooDeep, TableFull, BadTable, OutputShort, DepthLimit}
+use Rattle.refusal.specs.declared.Refusal.the-variants.{PadOverflow}
+use Rattle.refusal.proofs.Only.{number-tells}
+use Rattle.wire.specs.Pad.{padded, padOf}
+use Rattle.wire.specs.declared.Padded.{Padded}
+use Rattle.wire.specs.declared.Padded.the-variants as padding
+use Rattle.wire.proofs.Choices.{by-le}
+use Rattle.node.specs.Forest.{Forest, size}
+use Rattle.node.specs.Records.{capacity}
+use Rattle.node.specs.declared.record.Item.{Item}
+use Rattle.packet.specs.Packet.{Out, fault, one, readPacket}
+use Rattle.decoder.specs.Framing.{Whole, trees, waiting, refusal, single, udp, Frame, wait, read, readFrame, first, tcp, before}
+use Rattle.decoder.specs.Framing.{afterFrame, framesAt, readFrames, tcpVec, ruleOf}
+use Rattle.decoder.specs.Limits.{limited, decoded, forestOf, tabled}
+use Rattle.decoder.specs.declared.Framing.{Framing}
+use Rattle.decoder.specs.declared.Framing.the-variants.{Udp, Tcp, TcpVec}
+use Rattle.decoder.specs.declared.Decoded.{Decoded}
+use Rattle.decoder.specs.declared.Decoded.the-variants as decodes
+use Rattle.decoder.proofs.Chosen.{by-decoded, by-trees}
+use Rattle.encoder.specs.declared.Encoded.{Encoded}
+use Rattle.encoder.specs.declared.Encoded.the-variants as encodes
+use Rattle.osc.specs.Answers.{decodedNumber, TellsDecoded, paddedNumber}
+use Rattle.osc.specs.Boundary.{fewest, Waits, Answerable, ToldOnce}
+use Rattle.osc.proofs.Apart.{refusalIn, countIn, Parts, decoded-apart, EncodedParts}
+use Rattle.osc.proofs.Fits.{fits}
+
+-- ---- which answers a decoder gives
+
+-- what an input is read as gives such answers
+abbrev Shaped : Framing → Whole → Type 0
+Shaped framing (trees f left) = fewest framing ≤ size f
+Shaped framing waiting = Waits framing
+Shaped framing (refusal k) = Unit {0}
+
+single-shaped : (framing : Framing) → fewest framing ≤ 1 → (n : ℕ) (o : Out) → Shaped framing (single n o)
+unfolding size
+single-shaped framing h n (fault k) = tt
+single-shaped framing h n (one item f used) = omega arith
+
+first-shaped : (n : ℕ) (x : Frame) → Shaped Tcp (first n x)
+first-shaped n wait = tt
+first-shaped n (read o) = single-shaped Tcp (omega arith) n o
+
+before-shaped : (item : Item) (f : Forest) (w : Whole) → Shaped TcpVec w → Shaped TcpVec (before item f w)
+unfolding size
+before-shaped item f (trees g left) h = omega arith
+before-shaped item f waiting h = h
+before-shaped item f (refusal k) h = tt
+
+after-shaped : (go : ℕ → List ℕ → Whole) (base : ℕ) (l : List ℕ) (x : Frame) → ((q : ℕ) (m : List ℕ) → Shaped TcpVec (go q m))
+    → Shaped TcpVec (afterFrame go base l x)
+unfolding size
+after-shaped go base l wait h = omega arith
+after-shaped go base l (read (fault k)) h = tt
+after-shaped go base l (read (one item f used)) h =
+    by-le (Shaped TcpVec) (length l) used (λ _. omega arith)
+    (λ _. before-shaped item f (go (base + used) (drop used l)) (h (base + used) (drop used l)))
+
+frames-shaped : (n base : ℕ) (l : List ℕ) → Shaped TcpVec (framesAt n base l)
+unfolding framesAt
+frames-shaped zero base l = tt
+frames-shaped (suc n) base l = after-shaped _ base l (readFrame base l) (λ q m. frames-shaped n q m)
+
+shaped : (framing : Framing) (msg : List ℕ) → Shaped framing (ruleOf framing msg)
+unfolding udp tcp tcpVec readFrames
+shaped Udp msg = single-shaped Udp (omega arith) (length msg) (readPacket 0 msg 0)
+shaped Tcp msg = first-shaped (length msg) (readFrame 0 msg)
+shaped TcpVec msg = frames-shaped (suc (length msg)) 0 msg
+
+limited-answerable : (framing : Framing) (capacity limit : ℕ) (w : Whole) → Shaped framing w → Answerable framing (limited capacity limit w)
+limited-answerable framing capacity limit (trees f left) h =
+    by-trees (Answerable framing) capacity limit f left (λ _. tt) (λ _. tt) (λ _ _. h)
+limited-answerable framing capacity limit waiting h = h
+limited-answerable framing capacity limit (refusal k) h = tt
+
+-- `decode_udp` and `decode_tcp` answer no 0 records, and `decode_tcp` alone answers Waiting
+pub answerable : (framing : Framing) (capacity limit : ℕ) (msg : List ℕ)
+    → Answerable framing (decoded (ruleOf framing) capacity limit msg)
+answerable framing capacity limit msg =
+    by-decoded (Answerable framing) (ruleOf framing) capacity limit msg (λ _. tt) (λ _. tt)
+    (λ _ _. limited-answerable framing capacity limit (ruleOf framing msg) (shaped framing msg))
+
+-- ---- the answer that a number tells
+
+fault-some : (k : Fault) → 1 ≤ faultNumber k
+fault-some Empty = omega arith
+fault-some RunsOut = omega arith
+fault-some NotUtf8 = omega arith
+fault-some BadStart = omega arith
+fault-some NotOpen = omega arith
+fault-some UnknownTag = omega arith
+fault-some NotScalar = omega arith
+
+-- no refusal has the number 0, which `osc_refusal` gives where there is an answer
+pub number-some : (r : Refusal) → 1 ≤ numberOf r
+number-some TooLong = omega arith
+number-some (Unreadable k) = fault-some k
+number-some TooDeep = omega arith
+number-some TableFull = omega arith
+number-some BadTable = omega arith
+number-some OutputShort = omega arith
+number-some DepthLimit = omega arith
+number-some PadOverflow = omega arith
+
+-- where a decoder waits, it gives no 0 records
+waits-some : (framing : Framing) → Waits framing → 1 ≤ fewest framing
+waits-some Udp w = absurd w
+waits-some Tcp w = omega arith
+waits-some TcpVec w = absurd w
+
+-- two answers of a decoder to n bytes that have the parts of one number
+parts-once : (framing : Framing) (n x : ℕ) (d e : Decoded) → Answerable framing d → Answerable framing e → Parts n d x → Parts n e x → d ≡ e
+parts-once framing n x (decodes.Packets c l) (decodes.Packets c′ l′) a b p q =
+    ap₂ (λ (i j : ℕ). decodes.Packets i j) (omega arith) (omega arith)
+parts-once framing n x (decodes.Packets c l) decodes.Waiting a b p q = absurd (omega (arith, waits-some framing b))
+parts-once framing n x (decodes.Packets c l) (decodes.Refused r) a b p q = absurd (omega (arith, number-some r))
+parts-once framing n x decodes.Waiting (decodes.Packets c l) a b p q = absurd (omega (arith, waits-some framing a))
+parts-once framing n x decodes.Waiting decodes.Waiting a b p q = refl
+parts-once framing n x decodes.Waiting (decodes.Refused r) a b p q = absurd (omega (arith, number-some r))
+parts-once framing n x (decodes.Refused r) (decodes.Packets c l) a b p q = absurd (omega (arith, number-some r))
+parts-once framing n x (decodes.Refused r) decodes.Waiting a b p q = absurd (omega (arith, number-some r))
+parts-once framing n x (decodes.Refused r) (decodes.Refused s) a b p q =
+    ap (λ (i : Refusal). decodes.Refused i) (number-tells r s (omega arith))
+
+-- the parts of what a decoder tells
+told-parts : (framing : Framing) (msg table : List ℕ) (limit told : ℕ) (after : List ℕ)
+    → TellsDecoded (ruleOf framing) msg table limit told after
+    → Parts (length msg) (decoded (ruleOf framing) (capacity table) limit msg) told
+told-parts framing msg table limit told after t =
+    let d = decoded (ruleOf framing) (capacity table) limit msg in
+    subst (Parts (length msg) d) (sym (t .number)) (decoded-apart (length msg) d (fits (capacity table) limit framing msg refl))
+
+-- a decoder does not tell two answers to as many bytes by one number
+pub decoded-once : ToldOnce
+decoded-once framing msg msg′ table table′ limit limit′ told after after′ e t u =
+    parts-once framing (length msg) told _ _ (answerable framing (capacity table) limit msg)
+    (answerable framing (capacity table′) limit′ msg′) (told-parts framing msg table limit told after t)
+    (subst (λ (n : ℕ). Parts n (decoded (ruleOf framing) (capacity table′) limit′ msg′) told) (sym e)
+    (told-parts framing msg′ table′ limit′ told after′ u))
+
+-- what it is that `osc_decode_tcp` answered Waiting: the whole input is left, and the table is as it was
+pub record WaitingTold (msg table : List ℕ) (limit told : ℕ) (after : List ℕ) : Type 0 where
+  pub answer : decoded tcp (capacity table) limit msg ≡ decodes.Waiting
+  pub whole : told ≡ length msg
+  pub left : after ≡ table
+
+none-waits : (n x : ℕ) (d : Decoded) → Answerable Tcp d → Parts n d x → refusalIn x ≡ 0 → countIn x ≡ 0 → d ≡ decodes.Waiting
+none-waits n x (decodes.Packets c l) a p h k = absurd (omega arith)
+none-waits n x decodes.Waiting a p h k = refl
+none-waits n x (decodes.Refused r) a p h k = absurd (omega (arith, number-some r))
+
+-- count 0 without a refusal is Waiting, where `osc_decode_tcp` tells it
+pub tcp-none-waits : (msg table : List ℕ) (limit told : ℕ) (after : List ℕ) → TellsDecoded tcp msg table limit told after
+    → refusalIn told ≡ 0 → countIn told ≡ 0 → WaitingTold msg table limit told after
+tcp-none-waits msg table limit told after t h k =
+    let e = none-waits (length msg) told _ (answerable Tcp (capacity table) limit msg) (told-parts Tcp msg table limit told after t) h k in
+    record {
+      answer = e;
+      whole = t .number ∙ ap (decodedNumber (length msg)) e;
+      left = t .left ∙ ap (λ (d : Decoded). tabled d (forestOf (tcp msg)) table) e;
+    }
+
+-- two answers of an encoder that have the parts of one number are one
+pub encoded-once : (x : ℕ) (a b : Encoded) → EncodedParts a x → EncodedParts b x → a ≡ b
+encoded-once x (encodes.Written n) (encodes.Written m) p q = ap (λ (i : ℕ). encodes.Written i) (omega arith)
+encoded-once x (encodes.Written n) (encodes.Refused r) p q = absurd (omega (arith, number-some r))
+encoded-once x (encodes.Refused r) (encodes.Written n) p q = absurd (omega (arith, number-some r))
+encoded-once x (encodes.Refused r) (encodes.Refused s) p q =
+    ap (λ (i : Refusal). encodes.Refused i) (number-tells r s (omega arith))
+
+-- `osc_pad` does not tell two answers by one number: 14 is no multiple of 4
+pub pad-once : (x y : ℕ) → paddedNumber (padOf x) ≡ paddedNumber (padOf y) → padOf x ≡ padOf y
+pad-once x y =
+    by-le (λ (p : Padded). paddedNumber p ≡ paddedNumber (padOf y) → p ≡ padOf y) x 0xffff_ffff_ffff_fffc
+    (λ _. by-le (λ (q : Padded). padded x ≡ paddedNumber q → padding.At (padded x) ≡ q) y 0xffff_ffff_ffff_fffc
+    (λ _ e. ap (λ (i : ℕ). padding.At i) e) (λ _ e. absurd (omega arith)))
+    (λ _. by-le (λ (q : Padded). 14 ≡ paddedNumber q → padding.Refused PadOverflow ≡ q) y 0xffff_ffff_ffff_fffc
+    (λ _ e. absurd (omega arith)) (λ _ e. refl))

@@ -1,0 +1,109 @@
+-- Demand 1 at the C boundary: what the eight functions of include/osc.h tell, and what they leave of the bytes that they are lent.
+use mathlib.Core.Path.{_≡_}
+use mathlib.Core.Bool.{true}
+use mathlib.Core.List.{List, [], _∷_}
+use Prim.Native.Nat.{ℕ, _*_, _%_, _≤_, _<_}
+use lib.ListN.{length}
+use Rattle.wire.specs.Limits.{longest}
+use Rattle.wire.specs.Pad.{padOf}
+use Rattle.node.specs.Tags.{among}
+use Rattle.node.specs.Records.{capacity}
+use Rattle.values.specs.Look.{lookAt}
+use Rattle.decoder.specs.Framing.{ruleOf}
+use Rattle.decoder.specs.Limits.{decoded}
+use Rattle.decoder.specs.declared.Framing.{Framing}
+use Rattle.decoder.specs.declared.Framing.the-variants.{Udp, Tcp, TcpVec}
+use Rattle.decoder.specs.declared.Decoded.{Decoded}
+use Rattle.decoder.specs.declared.Decoded.the-variants as decodes
+use Rattle.encoder.specs.Outcome.{Encodes, stringOutcome}
+use Rattle.osc.specs.Answers.{TellsDecoded, Tells, paddedNumber, lookedNumber}
+
+-- a call from C and what it is handed: the three decoders by their framing, the two encoders of packets by their frame
+pub data CCall : Type 0 where
+  osc-decode : (framing : Framing) (msg table : List ℕ) (depth : ℕ) → CCall
+  osc-encode : (frame : ℕ → List ℕ → List ℕ) (table : List ℕ) (count : ℕ) (source out : List ℕ) → CCall
+  osc-encode-string : (text out : List ℕ) → CCall
+  osc-pad : (pos : ℕ) → CCall
+  osc-look : (table : List ℕ) (index : ℕ) → CCall
+
+-- the bytes that it is lent by `&mut`, before the call; `osc_pad` and `osc_look` are lent none
+abbrev pub cLent : CCall → List ℕ
+cLent (osc-decode framing msg table depth) = table
+cLent (osc-encode frame table count source out) = out
+cLent (osc-encode-string text out) = out
+cLent (osc-pad pos) = []
+cLent (osc-look table index) = []
+
+-- the contract of the function in src/lib.rt: the number that is told, and the lent bytes afterwards
+abbrev pub CMeets : CCall → ℕ → List ℕ → Type 0
+CMeets (osc-decode framing msg table depth) told after = TellsDecoded (ruleOf framing) msg table depth told after
+CMeets (osc-encode frame table count source out) told after = Tells (Encodes frame table count source out) told after
+CMeets (osc-encode-string text out) told after = Tells (λ o. o ≡ stringOutcome text out) told after
+CMeets (osc-pad pos) told after = (told ≡ paddedNumber (padOf pos)) × (after ≡ [])
+CMeets (osc-look table index) told after = (told ≡ lookedNumber (lookAt table index)) × (after ≡ [])
+
+-- the refusals that document 01 has for the call, in the order in which they are given
+abbrev pub cRefusals : CCall → List ℕ
+cRefusals (osc-decode framing msg table depth) = 13 ∷ 1 ∷ 2 ∷ 3 ∷ 4 ∷ 5 ∷ 6 ∷ 7 ∷ 8 ∷ 9 ∷ 10 ∷ []
+cRefusals (osc-encode frame table count source out) = 11 ∷ 9 ∷ 1 ∷ 12 ∷ []
+cRefusals (osc-encode-string text out) = 4 ∷ 1 ∷ 12 ∷ []
+cRefusals (osc-pad pos) = 14 ∷ []
+cRefusals (osc-look table index) = 11 ∷ []
+
+-- how the refusal with number n is told: in bits 56 to 63, and nothing below; by `osc_pad` as it is, since a position may have those bits
+abbrev pub cRefused : CCall → ℕ → ℕ
+cRefused (osc-decode framing msg table depth) n = n * 0x100_0000_0000_0000
+cRefused (osc-encode frame table count source out) n = n * 0x100_0000_0000_0000
+cRefused (osc-encode-string text out) n = n * 0x100_0000_0000_0000
+cRefused (osc-pad pos) n = n
+cRefused (osc-look table index) n = n * 0x100_0000_0000_0000
+
+-- how an answer is told: below bit 56; by an encoder up to 65,535; by `osc_pad` as a multiple of 4; by `osc_look` in the low byte
+abbrev pub CAnswered : CCall → ℕ → Type 0
+CAnswered (osc-decode framing msg table depth) told = told < 0x100_0000_0000_0000
+CAnswered (osc-encode frame table count source out) told = told ≤ longest
+CAnswered (osc-encode-string text out) told = told ≤ longest
+CAnswered (osc-pad pos) told = told % 4 ≡ 0
+CAnswered (osc-look table index) told = told < 256
+
+-- how a call ends: an answer is told; or a refusal that document 01 lists for the call, and every lent byte is as before
+pub data CEnds (c : CCall) (told : ℕ) (after : List ℕ) : Type 0 where
+  told-answer : CAnswered c told → CEnds c told after
+  told-refusal : (n : ℕ) → among n (cRefusals c) ≡ true → told ≡ cRefused c n → after ≡ cLent c → CEnds c told after
+
+-- demand 1 for the eight functions: whatever meets the contract ends so
+abbrev pub EndsListed : Type 0
+EndsListed = (c : CCall) (told : ℕ) (after : List ℕ) → CMeets c told after → CEnds c told after
+
+-- and no refusal of a call is told as an answer of it is
+abbrev pub ToldApart : Type 0
+ToldApart = (c : CCall) (n : ℕ) → among n (cRefusals c) ≡ true → CAnswered c (cRefused c n) → ⊥
+
+-- ---- which answer a decoder's number tells
+
+-- the fewest records of an answer: a packet has one at least, and a list may have no packet (rule 7: "no records if Waiting comes first")
+abbrev pub fewest : Framing → ℕ
+fewest Udp = 1
+fewest Tcp = 1
+fewest TcpVec = 0
+
+-- `decode_tcp` alone may answer Waiting
+abbrev pub Waits : Framing → Type 0
+Waits Udp = ⊥
+Waits Tcp = Unit {0}
+Waits TcpVec = ⊥
+
+-- the answers that a decoder may give
+abbrev pub Answerable : Framing → Decoded → Type 0
+Answerable framing (decodes.Packets count left) = fewest framing ≤ count
+Answerable framing decodes.Waiting = Waits framing
+Answerable framing (decodes.Refused r) = Unit {0}
+
+-- a decoder does not tell two answers to as many bytes by one number
+abbrev pub ToldOnce : Type 0
+ToldOnce =
+    (framing : Framing) (msg msg′ table table′ : List ℕ) (depth depth′ told : ℕ) (after after′ : List ℕ)
+    → length msg ≡ length msg′
+    → TellsDecoded (ruleOf framing) msg table depth told after
+    → TellsDecoded (ruleOf framing) msg′ table′ depth′ told after′
+    → decoded (ruleOf framing) (capacity table) depth msg ≡ decoded (ruleOf framing) (capacity table′) depth′ msg′
