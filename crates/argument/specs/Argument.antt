@@ -17,26 +17,29 @@ use Rattle.text.specs.declared.Text.the-variants.{Found, Lacks}
 use Rattle.argument.specs.declared.Arg.{Arg}
 use Rattle.argument.specs.declared.Arg.the-variants.{Given, Refused}
 
--- an argument's own numbers: its kind is its tag
-abbrev pub argItem : ℕ → ℕ → ℕ → Item
-argItem tag a b = record { kind = tag; a = a; b = b }
+-- the own numbers of an argument whose data begins at `start`: its kind is its tag
+abbrev pub argItem : ℕ → ℕ → ℕ → ℕ → Item
+argItem tag start a b = record { kind = tag; a = a; b = b; start = start }
 
 -- n bytes are there, or the field runs past them (refusal 3)
 abbrev pub having : ℕ → List ℕ → Arg → Arg
 having n l x = cond (leb n (length l)) x (Refused RunsOut)
 
--- a text is a range: its offset and its length
+-- a text is a range: its offset, where it begins too, and its length
 abbrev pub textArg : ℕ → ℕ → Text → Arg
-textArg tag offset (Found n used) = Given (argItem tag offset n) used
+textArg tag offset (Found n used) = Given (argItem tag offset offset n) used
 textArg tag offset (Lacks lack) = Refused (faultOf lack)
 
--- the data of one argument, one class to a line ("Data: big-endian. b is a 4-byte size, the bytes, then padding as for text")
+-- the data of one argument, one class to a line ("Data: big-endian. b is a 4-byte size, the bytes, then padding as for text"); it begins
+-- at offset base + p, a blob's with its size, and without data that is the position reached (Ticket 10)
 unfoldable pub readArg : ℕ → Class → ℕ → List ℕ → ℕ → Arg
-readArg tag Four base l p = having 4 l (Given (argItem tag (number 4 l) 0) 4)
-readArg tag Eight base l p = having 8 l (Given (argItem tag (number 4 l) (number 4 (drop 4 l))) 8)
-readArg tag Bare base l p = Given (argItem tag 0 0) 0
+readArg tag Four base l p = having 4 l (Given (argItem tag (base + p) (number 4 l) 0) 4)
+readArg tag Eight base l p = having 8 l (Given (argItem tag (base + p) (number 4 l) (number 4 (drop 4 l))) 8)
+readArg tag Bare base l p = Given (argItem tag (base + p) 0 0) 0
 readArg tag String base l p = textArg tag (base + p) (readText l p)
 readArg tag Blob base l p =
-    having 4 l (having (reach p (4 + number 4 l)) l (Given (argItem tag (base + (p + 4)) (number 4 l)) (reach p (4 + number 4 l))))
-readArg tag Scalar base l p = having 4 l (cond (isScalar (number 4 l)) (Given (argItem tag (number 4 l) 0) 4) (Refused NotScalar))
+    having 4 l
+    (having (reach p (4 + number 4 l)) l (Given (argItem tag (base + p) (base + (p + 4)) (number 4 l)) (reach p (4 + number 4 l))))
+readArg tag Scalar base l p =
+    having 4 l (cond (isScalar (number 4 l)) (Given (argItem tag (base + p) (number 4 l) 0) 4) (Refused NotScalar))
 readArg tag Unknown base l p = Refused UnknownTag

@@ -5,7 +5,7 @@ use refusal::Fault;
 use text::Text;
 use wire::be_u32;
 ghost use mathlib.Core.Path.{_≡_};
-ghost use Prim.Native.Nat.{ℕ, _+_, _≤_};
+ghost use Prim.Native.Nat.{_+_, _≤_};
 ghost use lib.ListN.{length};
 ghost use Rattle.wire.specs.Limits.{longest};
 ghost use Rattle.node.specs.declared.tags.Class.the-variants as class;
@@ -28,13 +28,14 @@ pub fn read_osc_arg(tag: u8, class: Class, input: &[u8], base: usize, pos: usize
     ensures { λ r. ⌜ r ≡ readArg tag class base (now (input .entry)) pos ⌝ }
 {
     match class {
-        Class::Four => read_four(tag, input),
-        Class::Eight => read_eight(tag, input),
+        Class::Four => read_four(tag, input, base, pos),
+        Class::Eight => read_eight(tag, input, base, pos),
         Class::Bare => Arg::Given {
             item: Item {
                 kind: tag,
                 a: 0,
                 b: 0,
+                start: (base + pos) as u32,
             },
             used: 0,
         },
@@ -45,7 +46,7 @@ pub fn read_osc_arg(tag: u8, class: Class, input: &[u8], base: usize, pos: usize
 // The same for the classes that are left, whose data is more than bytes as they are. Apart, so that the common classes are short
 // enough to be compiled into the loops that read arguments: with one function for all, a decode of numbers took twice the time.
 //
-// Ruled out: the offset of a blob's size, in place of its bytes; a surrogate as a 'c'.
+// Ruled out: the offset of a blob's size, in place of its bytes, or of its bytes as its start; a surrogate as a 'c'.
 pub fn read_checked(tag: u8, class: Class, input: &[u8], base: usize, pos: usize) -> Arg
     requires { ⌜ base + pos + length (now input) ≤ longest ⌝ }
     requires { ⌜ Checked class ⌝ }
@@ -54,14 +55,15 @@ pub fn read_checked(tag: u8, class: Class, input: &[u8], base: usize, pos: usize
     match class {
         Class::Text => read_text(tag, input, base, pos),
         Class::Blob => read_blob(tag, input, base, pos),
-        Class::Scalar => read_char(tag, input),
+        Class::Scalar => read_char(tag, input, base, pos),
         _ => Arg::Refused(Fault::UnknownTag),
     }
 }
 
-// 4 bytes as they are ('i', 'f', 'r', 'm'), wherever they stand.
-fn read_four(tag: u8, input: &[u8]) -> Arg
-    ensures { λ r. ⌜ ((base pos : ℕ) → r ≡ readArg tag class.Four base (now (input .entry)) pos) ⌝ }
+// 4 bytes as they are ('i', 'f', 'r', 'm').
+fn read_four(tag: u8, input: &[u8], base: usize, pos: usize) -> Arg
+    requires { ⌜ base + pos + length (now input) ≤ longest ⌝ }
+    ensures { λ r. ⌜ r ≡ readArg tag class.Four base (now (input .entry)) pos ⌝ }
 {
     if input.len() < 4 {
         return Arg::Refused(Fault::RunsOut);
@@ -71,14 +73,16 @@ fn read_four(tag: u8, input: &[u8]) -> Arg
             kind: tag,
             a: be_u32(input, 0),
             b: 0,
+            start: (base + pos) as u32,
         },
         used: 4,
     }
 }
 
-// 8 bytes as they are ('h', 'd', 't'), wherever they stand.
-fn read_eight(tag: u8, input: &[u8]) -> Arg
-    ensures { λ r. ⌜ ((base pos : ℕ) → r ≡ readArg tag class.Eight base (now (input .entry)) pos) ⌝ }
+// 8 bytes as they are ('h', 'd', 't').
+fn read_eight(tag: u8, input: &[u8], base: usize, pos: usize) -> Arg
+    requires { ⌜ base + pos + length (now input) ≤ longest ⌝ }
+    ensures { λ r. ⌜ r ≡ readArg tag class.Eight base (now (input .entry)) pos ⌝ }
 {
     if input.len() < 8 {
         return Arg::Refused(Fault::RunsOut);
@@ -88,14 +92,16 @@ fn read_eight(tag: u8, input: &[u8]) -> Arg
             kind: tag,
             a: be_u32(input, 0),
             b: be_u32(input, 4),
+            start: (base + pos) as u32,
         },
         used: 8,
     }
 }
 
-// A scalar number ('c'), wherever it stands.
-fn read_char(tag: u8, input: &[u8]) -> Arg
-    ensures { λ r. ⌜ ((base pos : ℕ) → r ≡ readArg tag class.Scalar base (now (input .entry)) pos) ⌝ }
+// A scalar number ('c').
+fn read_char(tag: u8, input: &[u8], base: usize, pos: usize) -> Arg
+    requires { ⌜ base + pos + length (now input) ≤ longest ⌝ }
+    ensures { λ r. ⌜ r ≡ readArg tag class.Scalar base (now (input .entry)) pos ⌝ }
 {
     if input.len() < 4 {
         return Arg::Refused(Fault::RunsOut);
@@ -107,6 +113,7 @@ fn read_char(tag: u8, input: &[u8]) -> Arg
                 kind: tag,
                 a: scalar,
                 b: 0,
+                start: (base + pos) as u32,
             },
             used: 4,
         };
@@ -125,6 +132,7 @@ fn read_text(tag: u8, input: &[u8], base: usize, pos: usize) -> Arg
                 kind: tag,
                 a: (base + pos) as u32,
                 b: length as u32,
+                start: (base + pos) as u32,
             },
             used,
         },
@@ -132,7 +140,7 @@ fn read_text(tag: u8, input: &[u8], base: usize, pos: usize) -> Arg
     }
 }
 
-// A size and so many bytes ('b'): the range of the bytes. A size is below 2^32, so no sum of 64 bits wraps.
+// A size, where the data begins, and so many bytes ('b'): the range of the bytes. A size is below 2^32, so no sum of 64 bits wraps.
 fn read_blob(tag: u8, input: &[u8], base: usize, pos: usize) -> Arg
     requires { ⌜ base + pos + length (now input) ≤ longest ⌝ }
     ensures { λ r. ⌜ r ≡ readArg tag class.Blob base (now (input .entry)) pos ⌝ }
@@ -150,6 +158,7 @@ fn read_blob(tag: u8, input: &[u8], base: usize, pos: usize) -> Arg
             kind: tag,
             a: (base + pos + 4) as u32,
             b: size,
+            start: (base + pos) as u32,
         },
         used,
     }

@@ -29,9 +29,9 @@ abbrev pub argTaken : (List ℕ → ℕ → Forest → Args) → List ℕ → �
 argTaken go l p frame (arg.Refused fault) = refused fault
 argTaken go l p frame (arg.Given item used) = later used (go (drop used l) (p + used) (snoc frame item nil))
 
--- an array's own numbers: both fields are 0 ("The node table")
-abbrev pub arrayItem : Item
-arrayItem = argItem arrayKind 0 0
+-- the own numbers of an array whose [ stands where the data has reached `start`: both fields are 0 ("The node table")
+abbrev pub arrayItem : ℕ → Item
+arrayItem start = argItem arrayKind start 0 0
 
 -- an array that is open: the frame that waits for it, and its own numbers
 pub data Open : Type 0 where
@@ -40,7 +40,7 @@ pub data Open : Type 0 where
 -- what one tag does: [ lets the frame wait and opens a new one, ] puts the frame as an array at the end of the one below, any
 -- other is an argument
 abbrev pub act : Sort → (List ℕ → ℕ → Forest → List Open → Args) → ℕ → ℕ → List ℕ → ℕ → Forest → List Open → Args
-act Opens go base tag l p frame below = go l p nil (waits frame arrayItem ∷ below)
+act Opens go base tag l p frame below = go l p nil (waits frame (arrayItem (base + p)) ∷ below)
 act Closes go base tag l p frame [] = refused NotOpen
 act Closes go base tag l p frame (waits outer item ∷ below) = go l p (snoc outer item frame) below
 act (Leaf class) go base tag l p frame below = argTaken (λ m q f. go m q f below) l p frame (readArg tag class base l p)

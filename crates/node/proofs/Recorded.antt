@@ -7,7 +7,7 @@ use lib.ListN.{length, getD, set, drop, length-append}
 use borrow.Rule.Slice.PartMut.{midOf, putMid}
 use Rattle.wire.specs.Number.{number, bytes}
 use Rattle.wire.specs.Wrote.{Wrote}
-use Rattle.node.specs.Records.{recordSize, recordOf, recordsOf, kindAt, zerosAt, aAt, bAt, recordStart, itemAt}
+use Rattle.node.specs.Records.{recordSize, recordOf, recordsOf, kindAt, zerosAt, aAt, bAt, startAt, recordStart, itemAt}
 use Rattle.node.specs.declared.record.Item.{Item}
 use Rattle.node.specs.Forest.{Forest, nil, node, size}
 use Rattle.wire.proofs.Numbers.{length-bytes, number-parts, number-small}
@@ -30,23 +30,28 @@ pub length-record : (item : Item) (end : ℕ) → length (recordOf item end) ≡
 unfolding recordOf
 length-record item end = simp (length-append, length-bytes)
 
--- the four steps of a record are its bytes
+-- the five steps of a record are its bytes
 record-joined : (item : Item) (end : ℕ)
-    → (((item .kind ∷ 0 ∷ 0 ∷ 0 ∷ []) ++ bytes 4 end) ++ bytes 4 (item .a)) ++ bytes 4 (item .b) ≡ recordOf item end
+    → ((((item .kind ∷ 0 ∷ 0 ∷ 0 ∷ []) ++ bytes 4 end) ++ bytes 4 (item .a)) ++ bytes 4 (item .b)) ++ bytes 4 (item .start)
+    ≡ recordOf item end
 unfolding recordOf
 record-joined item end = simp append-assoc
 
--- a record is written in four steps, each after the one before
-pub record-written : (item : Item) (end : ℕ) {o₀ o₁ p₁ p₂ p₃ : List ℕ}
+-- a record is written in five steps, each after the one before
+pub record-written : (item : Item) (end : ℕ) {o₀ o₁ p₁ p₂ p₃ p₄ : List ℕ}
     → (let o₂ = putMid 4 (length o₁ - 4) o₁ p₁ in let o₃ = putMid 8 (length o₂ - 8) o₂ p₂ in
+    let o₄ = putMid 12 (length o₃ - 12) o₃ p₃ in
     Wrote (item .kind ∷ 0 ∷ 0 ∷ 0 ∷ []) o₀ o₁
     → Wrote (bytes 4 end) (midOf 4 (length o₁ - 4) o₁) p₁
     → Wrote (bytes 4 (item .a)) (midOf 8 (length o₂ - 8) o₂) p₂
     → Wrote (bytes 4 (item .b)) (midOf 12 (length o₃ - 12) o₃) p₃
-    → Wrote (recordOf item end) o₀ (putMid 12 (length o₃ - 12) o₃ p₃))
-record-written item end w₁ w₂ w₃ w₄ =
+    → Wrote (bytes 4 (item .start)) (midOf 16 (length o₄ - 16) o₄) p₄
+    → Wrote (recordOf item end) o₀ (putMid 16 (length o₄ - 16) o₄ p₄))
+record-written item end w₁ w₂ w₃ w₄ w₅ =
     rw (← record-joined item end)
+    (wrote-lent 16
     (wrote-lent 12 (wrote-lent 8 (wrote-lent 4 w₁ refl w₂) (simp length-bytes) w₃) (simp (length-append, length-bytes)) w₄)
+    (simp (length-append, length-bytes)) w₅)
 
 -- the three bytes after a byte, from the number of all four
 pub zeros-read : (t : List ℕ) (i : ℕ) → ((j : ℕ) → getD t j 0 < 256) → recordStart i + 4 ≤ length t
@@ -60,9 +65,9 @@ zeros-read t i b h =
     omega arith
 
 -- an item, number by number
-pub item-read : (t : List ℕ) (i : ℕ) {k a b : ℕ} → k ≡ kindAt t i → a ≡ aAt t i → b ≡ bAt t i
-    → _≡_ {A = Item} (record { kind = k; a = a; b = b }) (itemAt t i)
-item-read t i o p q = rw (o, p, q)
+pub item-read : (t : List ℕ) (i : ℕ) {k a b s : ℕ} → k ≡ kindAt t i → a ≡ aAt t i → b ≡ bAt t i → s ≡ startAt t i
+    → _≡_ {A = Item} (record { kind = k; a = a; b = b; start = s }) (itemAt t i)
+item-read t i o p q r = rw (o, p, q, r)
 
 -- how many bytes the records of a forest take
 pub length-records : (i : ℕ) (f : Forest) → length (recordsOf i f) ≡ recordSize * size f

@@ -6,17 +6,18 @@ use Rattle.wire.specs.Number.{number, bytes}
 use Rattle.node.specs.Forest.{Forest, nil, node, size}
 use Rattle.node.specs.declared.record.Item.{Item}
 
--- "Records of 16 bytes"
+-- the bytes of a record (Ticket 10: "every node record grows to 20 bytes")
 abbrev pub recordSize : ℕ
-recordSize = 16
+recordSize = 20
 
 -- the most records of a table that is encoded ("1 ≤ count ≤ 65,535")
 abbrev pub mostRecords : ℕ
 mostRecords = 65535
 
--- one record: kind (1 byte), three zero bytes, end (4), a (4), b (4)
+-- one record: kind (1 byte), three zero bytes, end (4), a (4), b (4), start (4)
 unfoldable pub recordOf : Item → ℕ → List ℕ
-recordOf item end = (item .kind ∷ 0 ∷ 0 ∷ 0 ∷ []) ++ (bytes 4 end ++ (bytes 4 (item .a) ++ bytes 4 (item .b)))
+recordOf item end =
+    (item .kind ∷ 0 ∷ 0 ∷ 0 ∷ []) ++ (bytes 4 end ++ (bytes 4 (item .a) ++ (bytes 4 (item .b) ++ bytes 4 (item .start))))
 
 -- the records of a forest in preorder, the first of which has index i: a node's end is the index after all that it contains
 unfoldable pub recordsOf : ℕ → Forest → List ℕ
@@ -52,11 +53,15 @@ aAt t i = fieldAt t i 8
 abbrev pub bAt : List ℕ → ℕ → ℕ
 bAt t i = fieldAt t i 12
 
+-- the fifth number of record i: the offset where its item's data begins
+abbrev pub startAt : List ℕ → ℕ → ℕ
+startAt t i = fieldAt t i 16
+
 -- what record i says of its node
 abbrev pub itemAt : List ℕ → ℕ → Item
-itemAt t i = record { kind = kindAt t i; a = aAt t i; b = bAt t i }
+itemAt t i = record { kind = kindAt t i; a = aAt t i; b = bAt t i; start = startAt t i }
 
--- "Capacity is the table's length divided by 16, rounded down"
+-- "Capacity is now the length divided by 20", rounded down
 abbrev pub capacity : List ℕ → ℕ
 capacity table = length table / recordSize
 

@@ -1,4 +1,4 @@
-// One record of the node table: kind (1 byte), three zero bytes, end (4), a (4), b (4), big-endian.
+// One record of the node table: kind (1 byte), three zero bytes, end (4), a (4), b (4), start (4), big-endian.
 use wire::be_u32;
 use wire::put_u32;
 ghost use mathlib.Core.Path.{_≡_};
@@ -9,7 +9,7 @@ ghost use Rattle.wire.specs.Wrote.{Wrote};
 ghost use Rattle.node.specs.Records.{recordSize, recordOf, kindAt, zerosAt, fieldAt, itemAt, capacity};
 
 // The bytes of a record.
-pub const RECORD_SIZE: usize = 16;
+pub const RECORD_SIZE: usize = 20;
 
 // The most records of a table that is encoded.
 pub const MOST_RECORDS: usize = 65_535;
@@ -21,11 +21,15 @@ pub const A: usize = 8;
 
 pub const B: usize = 12;
 
+pub const START: usize = 16;
+
 // A node's own numbers: all that its record says but its end, which what it contains decides.
 pub struct Item {
     pub kind: u8,
     pub a: u32,
     pub b: u32,
+    // The offset, from the call's first byte, where the item's data begins.
+    pub start: u32,
 }
 
 // How many records a slice has room for.
@@ -55,6 +59,7 @@ pub fn put_record(table: &mut [u8], item: Item, end: u32)
     put_u32(&mut table[END..], end);
     put_u32(&mut table[A..], item.a);
     put_u32(&mut table[B..], item.b);
+    put_u32(&mut table[START..], item.start);
 }
 
 // The kind of record `index`.
@@ -75,7 +80,7 @@ pub fn zeros_at(table: &[u8], index: usize) -> u32
     be_u32(table, RECORD_SIZE * index) % 0x100_0000
 }
 
-// The number that stands at place `k` of record `index`: END, A or B.
+// The number that stands at place `k` of record `index`: END, A, B or START.
 pub fn field_at(table: &[u8], index: usize, k: usize) -> u32
     requires { ⌜ (index < capacity (now table)) × (k + 4 ≤ recordSize) ⌝ }
     ensures { λ r. ⌜ r ≡ fieldAt (now (table .entry)) index k ⌝ }
@@ -92,5 +97,6 @@ pub fn item_at(table: &[u8], index: usize) -> Item
         kind: kind_at(table, index),
         a: field_at(table, index, A),
         b: field_at(table, index, B),
+        start: field_at(table, index, START),
     }
 }

@@ -38,9 +38,9 @@ after n (one item inside used) = one item inside (n + used)
 
 -- ---- messages (rule 2)
 
--- the own numbers of a message whose address of n bytes stands at `offset`
+-- the own numbers of a message whose address of n bytes stands at `offset`, where the message begins (Ticket 10)
 abbrev pub messageItem : ℕ → ℕ → Item
-messageItem offset n = record { kind = messageKind; a = offset; b = n }
+messageItem offset n = record { kind = messageKind; a = offset; b = n; start = offset }
 
 -- the message with these own numbers and arguments
 abbrev pub messageWith : Item → Args → Out
@@ -58,17 +58,18 @@ readMessage base item l p = typesThen base item l p (readText l p)
 
 -- ---- bundles (rule 5)
 
--- the own numbers of a bundle whose time tag stands at the front of l: seconds and fractional
-abbrev pub bundleItem : List ℕ → Item
-bundleItem l = record { kind = bundleKind; a = number 4 l; b = number 4 (drop 4 l) }
+-- the own numbers of a bundle whose "#bundle" stands at offset `start` (Ticket 10) and whose time tag stands at the front of l: seconds
+-- and fractional
+abbrev pub bundleItem : ℕ → List ℕ → Item
+bundleItem start l = record { kind = bundleKind; a = number 4 l; b = number 4 (drop 4 l); start = start }
 
 -- the bundle with these own numbers and elements
 abbrev pub bundleWith : Item → Elements → Out
 bundleWith item (upto inside used) = one item inside (8 + used)
 
--- what follows "#bundle": an 8-byte time tag, then elements
-unfoldable pub bundleBy : (List ℕ → ℕ → Elements) → List ℕ → ℕ → Out
-bundleBy elements l p = cond (leb 8 (length l)) (bundleWith (bundleItem l) (elements (drop 8 l) (p + 8))) (fault RunsOut)
+-- what follows the "#bundle" at offset `start`: an 8-byte time tag, then elements
+unfoldable pub bundleBy : ℕ → (List ℕ → ℕ → Elements) → List ℕ → ℕ → Out
+bundleBy start elements l p = cond (leb 8 (length l)) (bundleWith (bundleItem start l) (elements (drop 8 l) (p + 8))) (fault RunsOut)
 
 -- an element's packet: it takes the whole element, and bytes left inside are dropped
 abbrev pub filling : ℕ → Out → Out
@@ -102,7 +103,7 @@ elementsBy packet elements l p = goOn elements l p (elementBy packet l p)
 -- the packet that starts so
 abbrev pub startedBy : ℕ → (List ℕ → ℕ → Elements) → List ℕ → ℕ → Start → Out
 startedBy base elements l p (start.Message n used) = after used (readMessage base (messageItem (base + p) n) (drop used l) (p + used))
-startedBy base elements l p (start.Bundle used) = after used (bundleBy elements (drop used l) (p + used))
+startedBy base elements l p (start.Bundle used) = after used (bundleBy (base + p) elements (drop used l) (p + used))
 startedBy base elements l p (start.Refused k) = fault k
 
 -- a packet
@@ -129,9 +130,9 @@ readPacket base l p = packetAt base (length l) l p
 unfoldable pub readElements : ℕ → List ℕ → ℕ → Elements
 readElements base l p = elementsAt base (length l) l p
 
--- a bundle after its "#bundle"
-unfoldable pub readBundle : ℕ → List ℕ → ℕ → Out
-readBundle base l p = bundleBy (λ m q. readElements base m q) l p
+-- a bundle after its "#bundle", which stands at offset `start`
+unfoldable pub readBundle : ℕ → ℕ → List ℕ → ℕ → Out
+readBundle base start l p = bundleBy start (λ m q. readElements base m q) l p
 
 -- an element of a bundle
 unfoldable pub readElement : ℕ → List ℕ → ℕ → Out

@@ -7,8 +7,9 @@ use Rattle.node.proofs.record.item_at.Tie as tie
 returns : tie.Need-returns
 returns c =
     let p2 = c .before .before in
-    let p4 = p2 .before .before in
-    item-read (p4 .args .table .now) _ (p2 .kind-at .ensures) (c .before .field-at .ensures) (c .field-at2 .ensures)
+    let p5 = p2 .before .before .before in
+    item-read (p5 .args .table .now) _ (p2 .before .kind-at .ensures) (p2 .field-at .ensures) (c .before .field-at2 .ensures)
+    (c .field-at3 .ensures)
 
 pub item-at-spec : {M : Type 1} → statement M
-item-at-spec = tie.close (tie.spec (λ c κs. search needs) (λ c κs. search needs) (λ c κs. search needs) returns)
+item-at-spec = tie.close (tie.spec (λ c κs. search needs) (λ c κs. search needs) (λ c κs. search needs) (λ c κs. search needs) returns)
