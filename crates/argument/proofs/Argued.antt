@@ -38,23 +38,23 @@ module _ (l : List ℕ) where
     -- fewer than 4 bytes are refused
     pub four-short : length l < 4 → Refused RunsOut ≡ readArg tag Four base l p
     unfolding readArg
-    four-short h = rw (lacking 4 (Given (argItem tag (number 4 l) 0) 4) h)
+    four-short h = rw (lacking 4 (Given (argItem tag (base + p) (number 4 l) 0) 4) h)
 
     -- 4 bytes are the first field
-    pub four-given : {x : ℕ} → 4 ≤ length l → x ≡ number 4 l → Given (argItem tag x 0) 4 ≡ readArg tag Four base l p
+    pub four-given : {x : ℕ} → 4 ≤ length l → x ≡ number 4 l → Given (argItem tag (base + p) x 0) 4 ≡ readArg tag Four base l p
     unfolding readArg
-    four-given h e = rw (e, there 4 (Given (argItem tag (number 4 l) 0) 4) h)
+    four-given h e = rw (e, there 4 (Given (argItem tag (base + p) (number 4 l) 0) 4) h)
 
     -- fewer than 8 bytes are refused
     pub eight-short : length l < 8 → Refused RunsOut ≡ readArg tag Eight base l p
     unfolding readArg
-    eight-short h = rw (lacking 8 (Given (argItem tag (number 4 l) (number 4 (drop 4 l))) 8) h)
+    eight-short h = rw (lacking 8 (Given (argItem tag (base + p) (number 4 l) (number 4 (drop 4 l))) 8) h)
 
     -- of 8 bytes the first field is the high half, the second the low half
     pub eight-given : {x y : ℕ} → 8 ≤ length l → x ≡ number 4 l → y ≡ number 4 (drop 4 l)
-        → Given (argItem tag x y) 8 ≡ readArg tag Eight base l p
+        → Given (argItem tag (base + p) x y) 8 ≡ readArg tag Eight base l p
     unfolding readArg
-    eight-given h e f = rw (e, f, there 8 (Given (argItem tag (number 4 l) (number 4 (drop 4 l))) 8) h)
+    eight-given h e f = rw (e, f, there 8 (Given (argItem tag (base + p) (number 4 l) (number 4 (drop 4 l))) 8) h)
 
     -- fewer than 4 bytes are no scalar number either
     pub scalar-short : length l < 4 → Refused RunsOut ≡ readArg tag Scalar base l p
@@ -62,7 +62,8 @@ module _ (l : List ℕ) where
     scalar-short h = rw (lt-leb 4 (length l) h)
 
     -- 4 bytes that are a scalar number are the first field
-    pub scalar-given : {x : ℕ} → 4 ≤ length l → x ≡ number 4 l → isScalar x ≡ true → Given (argItem tag x 0) 4 ≡ readArg tag Scalar base l p
+    pub scalar-given : {x : ℕ} → 4 ≤ length l → x ≡ number 4 l → isScalar x ≡ true
+        → Given (argItem tag (base + p) x 0) 4 ≡ readArg tag Scalar base l p
     unfolding readArg
     scalar-given h e s = rw (le-leb 4 (length l) h, ← e, s)
 
@@ -72,7 +73,8 @@ module _ (l : List ℕ) where
     not-scalar h e s = rw (le-leb 4 (length l) h, ← e, s)
 
     -- a text that is found gives its range
-    pub text-given : {n used : ℕ} → Found n used ≡ readText l p → Given (argItem tag (base + p) n) used ≡ readArg tag String base l p
+    pub text-given : {n used : ℕ} → Found n used ≡ readText l p
+        → Given (argItem tag (base + p) (base + p) n) used ≡ readArg tag String base l p
     unfolding readArg
     text-given e = rw (← e)
 
@@ -95,8 +97,9 @@ module _ (l : List ℕ) where
 
     -- a blob that is all there gives its range
     pub blob-given : {n : ℕ} → 4 ≤ length l → n ≡ number 4 l → (p + 4 + n + 3) / 4 * 4 - p ≤ length l
-        → Given (argItem tag (base + p + 4) n) ((p + 4 + n + 3) / 4 * 4 - p) ≡ readArg tag Blob base l p
+        → Given (argItem tag (base + p + 4 - 4) (base + p + 4) n) ((p + 4 + n + 3) / 4 * 4 - p) ≡ readArg tag Blob base l p
     unfolding readArg
     blob-given {n} h e k =
+        let t : base + p + 4 - 4 ≡ base + p = omega arith in
         let s : base + p + 4 ≡ base + (p + 4) = omega arith in
-        rw (le-leb 4 (length l) h, ← e, le-leb (reach p (4 + n)) (length l) (rw reached at k), reached p n, s)
+        rw (le-leb 4 (length l) h, ← e, le-leb (reach p (4 + n)) (length l) (rw reached at k), reached p n, t, s)

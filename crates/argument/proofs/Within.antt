@@ -35,18 +35,19 @@ module _ (P : Item → ℕ → Type 0) where
   if-there n l x f = by-test (Holds P) (leb n (length l)) (λ h. f (leb-true n (length l) h)) (λ _. tt)
 
   -- of a text, if it holds of each that is found
-  of-text : (tag offset : ℕ) (t : Text) → ((n used : ℕ) → Found n used ≡ t → P (argItem tag offset n) used) → Holds P (textArg tag offset t)
+  of-text : (tag offset : ℕ) (t : Text) → ((n used : ℕ) → Found n used ≡ t → P (argItem tag offset offset n) used)
+      → Holds P (textArg tag offset t)
   of-text tag offset (Found n used) f = f n used refl
   of-text tag offset (Lacks k) f = tt
 
   -- five cases are enough for all classes
   module _ (tag base : ℕ) (l : List ℕ) (p : ℕ)
-      (four : 4 ≤ length l → P (argItem tag (number 4 l) 0) 4)
-      (eight : 8 ≤ length l → P (argItem tag (number 4 l) (number 4 (drop 4 l))) 8)
-      (bare : P (argItem tag 0 0) 0)
-      (string : (n used : ℕ) → Found n used ≡ readText l p → P (argItem tag (base + p) n) used)
+      (four : 4 ≤ length l → P (argItem tag (base + p) (number 4 l) 0) 4)
+      (eight : 8 ≤ length l → P (argItem tag (base + p) (number 4 l) (number 4 (drop 4 l))) 8)
+      (bare : P (argItem tag (base + p) 0 0) 0)
+      (string : (n used : ℕ) → Found n used ≡ readText l p → P (argItem tag (base + p) (base + p) n) used)
       (blob : 4 ≤ length l → reach p (4 + number 4 l) ≤ length l
-      → P (argItem tag (base + (p + 4)) (number 4 l)) (reach p (4 + number 4 l))) where
+      → P (argItem tag (base + p) (base + (p + 4)) (number 4 l)) (reach p (4 + number 4 l))) where
     -- P holds of each argument, if it does of those five
     pub arg-holds : (class : Class) → Holds P (readArg tag class base l p)
     unfolding readArg
@@ -75,6 +76,12 @@ module _ {item : Item} {used : ℕ} (tag : ℕ) (class : Class) (base : ℕ) (l 
   given-kind =
       subst (Holds (λ item used. item .kind ≡ tag)) (sym e)
       (arg-holds (λ item used. item .kind ≡ tag) tag base l p (λ h. refl) (λ h. refl) refl (λ n used f. refl) (λ h k. refl) class)
+
+  -- its data begins where it is read
+  pub given-start : item .start ≡ base + p
+  given-start =
+      subst (Holds (λ item used. item .start ≡ base + p)) (sym e)
+      (arg-holds (λ item used. item .start ≡ base + p) tag base l p (λ h. refl) (λ h. refl) refl (λ n used f. refl) (λ h k. refl) class)
 
   -- its fields fit in 4 bytes
   pub given-fits : ((j : ℕ) → getD l j 0 < 256) → base + p + length l < 256 ^ 4 → (item .a < 256 ^ 4) × (item .b < 256 ^ 4)

@@ -153,12 +153,13 @@ fn read_blob(tag: u8, input: &[u8], base: usize, pos: usize) -> Arg
     if input.len() < used {
         return Arg::Refused(Fault::RunsOut);
     }
+    let bytes = base + pos + 4;
     Arg::Given {
         item: Item {
             kind: tag,
-            a: (base + pos + 4) as u32,
+            a: bytes as u32,
             b: size,
-            start: (base + pos) as u32,
+            start: (bytes - 4) as u32,
         },
         used,
     }

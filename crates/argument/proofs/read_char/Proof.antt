@@ -6,20 +6,20 @@ use Rattle.argument.proofs.read_char.Statement.{statement}
 use Rattle.argument.proofs.read_char.Tie as tie
 
 returns : tie.Need-returns
-returns c base pos = scalar-short _ _ base pos (c .if1 .taken)
+returns c = scalar-short _ _ _ _ (c .if1 .taken)
 
 returns-2 : tie.Need-returns-2
-returns-2 c base pos =
+returns-2 c =
     let p2 = c .before .before in
     let p3 = p2 .before in
-    scalar-given _ _ base pos (p3 .if1 .left) (p2 .be-u32 .ensures) (sym (c .before .is-scalar .ensures) ∙ c .if2 .taken)
+    scalar-given _ _ _ _ (p3 .if1 .left) (p2 .be-u32 .ensures) (sym (c .before .is-scalar .ensures) ∙ c .if2 .taken)
 
 returns-3 : tie.Need-returns-3
-returns-3 c base pos =
+returns-3 c =
     let p2 = c .before .before in
     let p3 = p2 .before in
-    not-scalar _ _ base pos (p3 .if1 .left) (p2 .be-u32 .ensures) (sym (c .before .is-scalar .ensures) ∙ c .if2 .left)
+    not-scalar _ _ _ _ (p3 .if1 .left) (p2 .be-u32 .ensures) (sym (c .before .is-scalar .ensures) ∙ c .if2 .left)
 
 pub read-char-spec : {M : Type 1} → statement M
 read-char-spec =
-    tie.close (tie.spec returns (λ c κs. search needs) (λ c κs. search needs) returns-2 returns-3)
+    tie.close (tie.spec returns (λ c κs. search needs) (λ c κs. search needs) (λ c. search needs) (λ c. search needs) returns-2 returns-3)

@@ -12,7 +12,7 @@ returns-2 : tie.Need-returns-2
 returns-2 c = of-class _ _ _ _ (c .before .enum-told2 .given .1) (c .read-blob .ensures)
 
 returns-3 : tie.Need-returns-3
-returns-3 c = of-class _ _ _ _ (c .before .enum-told3 .given .1) (c .read-char .ensures _ _)
+returns-3 c = of-class _ _ _ _ (c .before .enum-told3 .given .1) (c .read-char .ensures)
 
 returns-4 : tie.Need-returns-4
 returns-4 c =

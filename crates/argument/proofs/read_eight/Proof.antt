@@ -5,10 +5,10 @@ use Rattle.argument.proofs.read_eight.Statement.{statement}
 use Rattle.argument.proofs.read_eight.Tie as tie
 
 returns : tie.Need-returns
-returns c base pos = eight-short _ _ base pos (c .if1 .taken)
+returns c = eight-short _ _ _ _ (c .if1 .taken)
 
 returns-2 : tie.Need-returns-2
-returns-2 c base pos = eight-given _ _ base pos (c .before .before .if1 .left) (c .before .be-u32 .ensures) (c .be-u322 .ensures)
+returns-2 c = eight-given _ _ _ _ (c .before .before .if1 .left) (c .before .be-u32 .ensures) (c .be-u322 .ensures)
 
 pub read-eight-spec : {M : Type 1} → statement M
-read-eight-spec = tie.close (tie.spec returns (λ c κs. search needs) (λ c κs. search needs) returns-2)
+read-eight-spec = tie.close (tie.spec returns (λ c κs. search needs) (λ c κs. search needs) (λ c. search needs) (λ c. search needs) returns-2)

@@ -11,10 +11,10 @@ read-checked-requires : tie.Need-read-checked-requires
 read-checked-requires c κs = let s = c .before .before in (s .pre, left-over (s .args .class) (c .match .keys4))
 
 returns : tie.Need-returns
-returns c = of-class _ _ _ _ (c .before .enum-told .given .1) (c .read-four .ensures _ _)
+returns c = of-class _ _ _ _ (c .before .enum-told .given .1) (c .read-four .ensures)
 
 returns-2 : tie.Need-returns-2
-returns-2 c = of-class _ _ _ _ (c .before .enum-told2 .given .1) (c .read-eight .ensures _ _)
+returns-2 c = of-class _ _ _ _ (c .before .enum-told2 .given .1) (c .read-eight .ensures)
 
 returns-3 : tie.Need-returns-3
 unfolding readArg
@@ -28,6 +28,8 @@ read-osc-arg-spec =
     (λ c κs. search needs)
     (λ c. search needs)
     (λ c κs. search needs)
+    (λ c. search needs)
+    (λ c. search needs)
     (λ c. search needs)
     read-checked-requires
     returns

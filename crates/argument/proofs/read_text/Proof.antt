@@ -29,6 +29,8 @@ read-text-spec =
     (λ c. search needs)
     cast-t12
     (λ c. search needs)
+    (λ c. search needs)
+    (λ c. search needs)
     (λ c κs. search needs)
     returns
     returns-2)
