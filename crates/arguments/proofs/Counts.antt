@@ -50,7 +50,7 @@ outcome-act : (s : Sort) (go : List ℕ → ℕ → Forest → List Open → Arg
     (frame : Forest) (below : List Open)
     → ((m : List ℕ) (q : ℕ) (f : Forest) (b : List Open) → outcome (go m q f b) ≡ goS m q (length b))
     → outcome (act s go base tag l p frame below) ≡ turn s goS tag l p (length below)
-outcome-act Opens go goS base tag l p frame below h = h l p nil (waits frame arrayItem ∷ below)
+outcome-act Opens go goS base tag l p frame below h = h l p nil (waits frame (arrayItem (base + p)) ∷ below)
 outcome-act Closes go goS base tag l p frame [] h = refl
 outcome-act Closes go goS base tag l p frame (waits outer item ∷ below) h = h l p _ below
 outcome-act (Leaf class) go goS base tag l p frame below h =
@@ -106,7 +106,7 @@ counts-act : (s : Sort) (k : Back) (go : List ℕ → ℕ → Forest → List Op
     (below : List Open)
     → ((m : List ℕ) (q : ℕ) (f : Forest) (b : List Open) → Counts (total k f b) (go m q f b))
     → Counts (total (tagBefore s k) frame below) (act s go base tag l p frame below)
-counts-act Opens k go base tag l p frame below h = rw (total-opens k frame arrayItem below) at (h l p nil (waits frame arrayItem ∷ below))
+counts-act Opens k go base tag l p frame below h = rw (total-opens k frame (arrayItem (base + p)) below) at (h l p nil (waits frame (arrayItem (base + p)) ∷ below))
 counts-act Closes k go base tag l p frame [] h = tt
 counts-act Closes k go base tag l p frame (waits outer item ∷ below) h =
     rw (total-closes k frame outer item below) at (h l p (snoc outer item frame) below)
@@ -199,7 +199,7 @@ used-act : (s : Sort) (go : List ℕ → ℕ → Forest → List Open → Args) 
     (below : List Open)
     → ((m : List ℕ) (q : ℕ) (f : Forest) (b : List Open) → UsedIn (length m) (go m q f b))
     → UsedIn (length l) (act s go base tag l p frame below)
-used-act Opens go base tag l p frame below h = h l p nil (waits frame arrayItem ∷ below)
+used-act Opens go base tag l p frame below h = h l p nil (waits frame (arrayItem (base + p)) ∷ below)
 used-act Closes go base tag l p frame [] h = tt
 used-act Closes go base tag l p frame (waits outer item ∷ below) h = h l p (snoc outer item frame) below
 used-act (Leaf class) go base tag l p frame below h = by-arg (readArg tag class base l p) refl

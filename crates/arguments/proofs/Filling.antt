@@ -184,7 +184,8 @@ module _ {base : ℕ} {F : Forest} {i E : ℕ} {T₀ T ts m : List ℕ} {q n top
   len = length-layout i (w .frame) (w .below) ∙ ap (λ (x : ℕ). recordSize * x) (sym (w .place))
 
   -- a tag that opens: the record of its array is written, with the link in place of the end
-  pub filling-opens : {T′ : List ℕ} → Opens ≡ sortOf (getD ts 0 0) → Wrote (take (recordSize * n) T ++ recordOf arrayItem top) T T′
+  pub filling-opens : {T′ : List ℕ} → Opens ≡ sortOf (getD ts 0 0)
+      → Wrote (take (recordSize * n) T ++ recordOf (arrayItem (base + q)) top) T T′
       → Filling base F i E T₀ T′ (take (length ts - 1) (drop 1 ts)) m q (n + 1) (n + 1)
   unfolding size
   filling-opens e v =
@@ -192,7 +193,7 @@ module _ {base : ℕ} {F : Forest} {i E : ℕ} {T₀ T ts m : List ℕ} {q n top
       rw (tail ts 1)
       (record {
         frame = nil;
-        below = waits (w .frame) arrayItem ∷ w .below;
+        below = waits (w .frame) (arrayItem (base + q)) ∷ w .below;
         left = k .rest;
         used = w .used;
         reads = turned e;
@@ -201,8 +202,8 @@ module _ {base : ℕ} {F : Forest} {i E : ℕ} {T₀ T ts m : List ℕ} {q n top
         place = omega (arith, w .place);
         linked = omega (arith, w .place);
         table =
-            rw (layout-open i (w .frame) arrayItem (w .below), ← w .linked)
-            (wrote-next (recordOf arrayItem top) (recordSize * n) (w .table) len v);
+            rw (layout-open i (w .frame) (arrayItem (base + q)) (w .below), ← w .linked)
+            (wrote-next (recordOf (arrayItem (base + q)) top) (recordSize * n) (w .table) len v);
         ends = w .ends;
         room = w .room;
       })

@@ -67,7 +67,7 @@ front i f item below = layout i f below ++ (item .kind ∷ 0 ∷ 0 ∷ 0 ∷ [])
 
 -- what stands after it
 abbrev pub behind : ℕ → Forest → Forest → Item → List Open → List ℕ
-behind i frame f item below = (bytes 4 (item .a) ++ bytes 4 (item .b)) ++ recordsOf (i + held f below + 1) frame
+behind i frame f item below = (bytes 4 (item .a) ++ (bytes 4 (item .b) ++ bytes 4 (item .start))) ++ recordsOf (i + held f below + 1) frame
 
 -- the end of an open array stands 4 bytes into its record
 pub length-front : (i : ℕ) (f : Forest) (item : Item) (below : List Open) → length (front i f item below) ≡ recordSize * held f below + 4
@@ -76,7 +76,8 @@ length-front i f item below =
 
 apart : (item : Item) (end : ℕ) (l r : List ℕ)
     → l ++ (recordOf item end ++ r)
-    ≡ (l ++ (item .kind ∷ 0 ∷ 0 ∷ 0 ∷ [])) ++ (bytes 4 end ++ ((bytes 4 (item .a) ++ bytes 4 (item .b)) ++ r))
+    ≡ (l ++ (item .kind ∷ 0 ∷ 0 ∷ 0 ∷ [])) 
+    ++ (bytes 4 end ++ ((bytes 4 (item .a) ++ (bytes 4 (item .b) ++ bytes 4 (item .start))) ++ r))
 unfolding recordOf
 apart item end l r = simp append-assoc
 

@@ -60,7 +60,7 @@ deep-act : (s : Sort) (k : Back) (go : List ℕ → ℕ → Forest → List Open
     → ArgsAccepted (act s go base tag l p frame below) → Deep (tagBefore s k) (length below)
 deep-act Opens (Cut n c) go base tag l p frame below h w = tt
 deep-act Opens (Uncut zero c) go base tag l p frame below h w = tt
-deep-act Opens (Uncut (suc n) c) go base tag l p frame below h w = omega (arith, h l p nil (waits frame arrayItem ∷ below) w)
+deep-act Opens (Uncut (suc n) c) go base tag l p frame below h w = omega (arith, h l p nil (waits frame (arrayItem (base + p)) ∷ below) w)
 deep-act Closes k go base tag l p frame [] h w = absurd w
 deep-act Closes (Cut n c) go base tag l p frame (waits f item ∷ b) h w = tt
 deep-act Closes (Uncut n c) go base tag l p frame (waits f item ∷ b) h w = omega (arith, h l p (snoc f item frame) b w)
@@ -94,7 +94,7 @@ under-act : (s : Sort) (k : Back) (go : List ℕ → ℕ → Forest → List Ope
     → act s go base tag l p frame (A ++ B) ≡ act s go base tag l p frame A
 under-act Opens (Cut n c) go base tag l p frame A B h w = absurd w
 under-act Opens (Uncut zero c) go base tag l p frame A B h w = absurd w
-under-act Opens (Uncut (suc n) c) go base tag l p frame A B h w = h l p nil (waits frame arrayItem ∷ A) (omega arith)
+under-act Opens (Uncut (suc n) c) go base tag l p frame A B h w = h l p nil (waits frame (arrayItem (base + p)) ∷ A) (omega arith)
 under-act Closes (Cut n c) go base tag l p frame A B h w = absurd w
 under-act Closes (Uncut n c) go base tag l p frame [] B h w = absurd (omega arith)
 under-act Closes (Uncut n c) go base tag l p frame (waits f item ∷ A) B h w = h l p (snoc f item frame) A (omega arith)
@@ -149,19 +149,19 @@ cut-act : (s : Sort) (k : Back) (base tag : ℕ) (ts l : List ℕ) (p : ℕ) (fr
     (act s (λ m q f b. readTags base ts m q f b) base tag l p frame below) (drop n ts) l p
 unfolding scan
 cut-act Opens (Cut m d) base tag ts l p frame below n c h e x w =
-    h l p nil (waits frame arrayItem ∷ below) n c (let z : m ≡ n = cc in e ∙ cc) w
+    h l p nil (waits frame (arrayItem (base + p)) ∷ below) n c (let z : m ≡ n = cc in e ∙ cc) w
 cut-act Opens (Uncut zero d) base tag ts l p frame below n c h e x w =
     let z : n ≡ 0 = (let y : suc n ≡ 1 = cc in omega arith) in
     let q : p + 0 ≡ p = omega arith in
     let shut : Closed (back ts) 0 = subst (λ (k : Back). Closed k 0) (sym e) (omega arith) in
-    subst (λ (n : ℕ). Keeps base (scan (take n ts) l p (suc (length below))) (readTags base ts l p nil (waits frame arrayItem ∷ below))
+    subst (λ (n : ℕ). Keeps base (scan (take n ts) l p (suc (length below))) (readTags base ts l p nil (waits frame (arrayItem (base + p)) ∷ below))
     (drop n ts) l p)
     (sym z)
     (record {
       lost = 0;
       inside = omega arith;
       scanned = refl;
-      same = under-law base ts l p nil [] (waits frame arrayItem ∷ below) shut ∙ sym (later-none (readArgs base ts l p)) ∙ rw q;
+      same = under-law base ts l p nil [] (waits frame (arrayItem (base + p)) ∷ below) shut ∙ sym (later-none (readArgs base ts l p)) ∙ rw q;
       closed = shut;
     })
 cut-act Opens (Uncut (suc m) d) base tag ts l p frame below n c h e x w = absurd (clash x)

@@ -74,6 +74,7 @@ pub fn fill_whole(
                     kind: ARRAY,
                     a: 0,
                     b: 0,
+                    start: (base + at) as u32,
                 };
                 put_at(table, n, array, top as u32);
                 n += 1;

@@ -6,14 +6,15 @@ use Prim.Native.Nat.{ℕ, _+_, _≤_}
 use native.Mathlib.Omega.{arith}
 use lib.Dec.{leb}
 use lib.ListN.{length}
-use Rattle.refusal.specs.declared.Fault.the-variants.{RunsOut}
+use Rattle.refusal.specs.declared.Fault.the-variants.{RunsOut, NotScalar}
 use Rattle.wire.specs.Number.{number}
+use Rattle.node.specs.Tags.{isScalar}
 use Rattle.node.specs.declared.tags.Class.{Class}
 use Rattle.node.specs.declared.tags.Class.the-variants.{Four, Eight, Bare, Text as String, Blob, Scalar, Unknown}
 use Rattle.text.specs.Text.{reach, readText}
 use Rattle.text.specs.declared.Text.{Text}
 use Rattle.text.specs.declared.Text.the-variants.{Found, Lacks}
-use Rattle.argument.specs.Argument.{readArg, having, textArg}
+use Rattle.argument.specs.Argument.{readArg, having, textArg, argItem}
 use Rattle.scan.specs.CodeScans.{usedOf}
 use Rattle.argument.specs.declared.Arg.{Arg}
 use Rattle.argument.specs.declared.Arg.the-variants.{Given, Refused}
@@ -21,13 +22,14 @@ use Rattle.scan.specs.declared.Scanned.{Scanned}
 use Rattle.scan.specs.declared.Scanned.the-variants.{Used}
 use Rattle.argument.proofs.Within.{Holds, arg-within}
 
+-- of an argument that is chosen by a test
+used-chosen : (t : Bool) (x y z : Arg) → usedOf x ≡ usedOf y → usedOf (cond t x z) ≡ usedOf (cond t y z)
+used-chosen true x y z e = e
+used-chosen false x y z e = refl
+
 -- of an argument that is read only if n bytes are there
 used-there : (n : ℕ) (l : List ℕ) (x y : Arg) → usedOf x ≡ usedOf y → usedOf (having n l x) ≡ usedOf (having n l y)
-used-there n l x y e = by-bool (leb n (length l))
-  where
-    by-bool : (t : Bool) → usedOf (cond t x (Refused RunsOut)) ≡ usedOf (cond t y (Refused RunsOut))
-    by-bool true = e
-    by-bool false = refl
+used-there n l x y e = used-chosen (leb n (length l)) x y (Refused RunsOut) e
 
 -- of a text
 used-text : (tag o o′ : ℕ) (t : Text) → usedOf (textArg tag o t) ≡ usedOf (textArg tag o′ t)
@@ -38,12 +40,15 @@ used-text tag o o′ (Lacks k) = refl
 pub any-base : (tag : ℕ) (class : Class) (base base′ : ℕ) (l : List ℕ) (p : ℕ)
     → usedOf (readArg tag class base l p) ≡ usedOf (readArg tag class base′ l p)
 unfolding readArg
-any-base tag Four base base′ l p = refl
-any-base tag Eight base base′ l p = refl
+any-base tag Four base base′ l p = used-there 4 l _ _ refl
+any-base tag Eight base base′ l p = used-there 8 l _ _ refl
 any-base tag Bare base base′ l p = refl
 any-base tag String base base′ l p = used-text tag (base + p) (base′ + p) (readText l p)
 any-base tag Blob base base′ l p = used-there 4 l _ _ (used-there (reach p (4 + number 4 l)) l _ _ refl)
-any-base tag Scalar base base′ l p = refl
+any-base tag Scalar base base′ l p =
+    used-there 4 l _ _
+    (used-chosen (isScalar (number 4 l)) (Given (argItem tag (base + p) (number 4 l) 0) 4) (Given (argItem tag (base′ + p) (number 4 l) 0) 4)
+    (Refused NotScalar) refl)
 any-base tag Unknown base base′ l p = refl
 
 -- how much is used of an argument that lies in its part

@@ -1,5 +1,6 @@
 -- `scan::pass_arg` meets its contract.
 use mathlib.Core.Path.{refl, sym, ap, _∙_}
+use Prim.Native.Nat.{_+_}
 use native.Mathlib.Omega.{arith}
 use lib.ListN.{drop}
 use Rattle.wire.specs.Number.{number}
@@ -19,7 +20,8 @@ unfolding readArg
 returns c =
     let s = c .before .before .before .before in
     let l = s .args .input .now in
-    used-of-class (s .args .tag) l 0 _ (c .before .enum-told .given .1) (c .pass-bytes .ensures (argItem (s .args .tag) (number 4 l) 0))
+    used-of-class (s .args .tag) l 0 _ (c .before .enum-told .given .1)
+    (c .pass-bytes .ensures (argItem (s .args .tag) (0 + s .args .pos) (number 4 l) 0))
 
 returns-2 : tie.Need-returns-2
 unfolding readArg
@@ -27,7 +29,7 @@ returns-2 c =
     let s = c .before .before .before .before in
     let l = s .args .input .now in
     used-of-class (s .args .tag) l 0 _ (c .before .enum-told2 .given .1)
-    (c .pass-bytes2 .ensures (argItem (s .args .tag) (number 4 l) (number 4 (drop 4 l))))
+    (c .pass-bytes2 .ensures (argItem (s .args .tag) (0 + s .args .pos) (number 4 l) (number 4 (drop 4 l))))
 
 returns-3 : tie.Need-returns-3
 unfolding readArg

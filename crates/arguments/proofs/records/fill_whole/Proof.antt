@@ -26,8 +26,20 @@ loop-holds c =
     let p3 = c .before .before .before in
     filling-start _ _ _ _ _ _ (p3 .pre .1 .0) (p3 .pre .1 .1)
 
+add-put-at : tie.Need-add-put-at Inv-loop μ-loop
+add-put-at c =
+    let p6 = c .before .before .before .before .before .before in
+    let p10 = p6 .before .before .before .before in
+    omega (arith, p6 .loop .inv .ends, p10 .pre .0)
+
 cast-put-at : tie.Need-cast-put-at Inv-loop μ-loop
 cast-put-at c =
+    let p6 = c .before .before .before .before .before .before in
+    let p10 = p6 .before .before .before .before in
+    omega (arith, p6 .loop .inv .ends, p10 .pre .0)
+
+cast-put-at-2 : tie.Need-cast-put-at-2 Inv-loop μ-loop
+cast-put-at-2 c =
     let p3 = c .before .before .before in
     let p6 = p3 .before .before .before in
     let p7 = p6 .before in
@@ -109,15 +121,6 @@ read-osc-arg-requires c κs =
     let p11 = p7 .before .before .before .before in
     omega (arith, p7 .loop .inv .ends, p11 .pre .0)
 
-add-put-at : tie.Need-add-put-at Inv-loop μ-loop
-add-put-at c =
-    let p6 = c .before .before .before .before .before .before in
-    let p8 = p6 .before .before in
-    let p11 = p8 .before .before .before in
-    let p12 = p11 .before in
-    let e = sym (p6 .class .given .1) ∙ p8 .sort-of .ensures in
-    omega (arith, room-leaf (p12 .loop .inv) (p11 .loop-test .taken) e)
-
 add-put-at-2 : tie.Need-add-put-at-2 Inv-loop μ-loop
 add-put-at-2 c =
     let p6 = c .before .before .before .before .before .before in
@@ -127,8 +130,17 @@ add-put-at-2 c =
     let e = sym (p6 .class .given .1) ∙ p8 .sort-of .ensures in
     omega (arith, room-leaf (p12 .loop .inv) (p11 .loop-test .taken) e)
 
-cast-put-at-2 : tie.Need-cast-put-at-2 Inv-loop μ-loop
-cast-put-at-2 c =
+add-put-at-3 : tie.Need-add-put-at-3 Inv-loop μ-loop
+add-put-at-3 c =
+    let p6 = c .before .before .before .before .before .before in
+    let p8 = p6 .before .before in
+    let p11 = p8 .before .before .before in
+    let p12 = p11 .before in
+    let e = sym (p6 .class .given .1) ∙ p8 .sort-of .ensures in
+    omega (arith, room-leaf (p12 .loop .inv) (p11 .loop-test .taken) e)
+
+cast-put-at-3 : tie.Need-cast-put-at-3 Inv-loop μ-loop
+cast-put-at-3 c =
     let p6 = c .before .before .before .before .before .before in
     let p8 = p6 .before .before in
     let p11 = p8 .before .before .before in
@@ -229,7 +241,9 @@ fill-whole-spec =
     (λ c. search needs)
     (λ c κs. search needs)
     (λ c. search needs)
+    add-put-at
     cast-put-at
+    cast-put-at-2
     put-at-requires
     add-n
     (λ c. search needs)
@@ -245,9 +259,9 @@ fill-whole-spec =
     (λ c. search needs)
     read-osc-arg-requires
     (λ c. search needs)
-    add-put-at
     add-put-at-2
-    cast-put-at-2
+    add-put-at-3
+    cast-put-at-3
     put-at-requires-2
     add-n-2
     sub-rest
