@@ -41,7 +41,16 @@ pub fn decode_packet(
             let item = packet::message_item(base + pos, length);
             decode_message(&input[used..], base, pos + used, item, table, index)
         }
-        Start::Bundle { used } => decode_bundle(&input[used..], base, pos + used, table, index),
+        Start::Bundle { used } => {
+            decode_bundle(
+                &input[used..],
+                base,
+                pos + used,
+                base + pos,
+                table,
+                index,
+            )
+        }
         Start::Refused(_) => Reread::Nothing,
     }
 }
@@ -79,11 +88,19 @@ fn decode_message(
     }
 }
 
-// What follows "#bundle". The bundle's own record is written last, when its end is known.
-fn decode_bundle(input: &[u8], base: usize, pos: usize, table: &mut [u8], index: usize) -> Reread
+// What follows the "#bundle" at offset `start`. The bundle's own record is written last, when its end is known.
+fn decode_bundle(
+    input: &[u8],
+    base: usize,
+    pos: usize,
+    start: usize,
+    table: &mut [u8],
+    index: usize,
+) -> Reread
     requires { ⌜ base + pos + length (now input) ≤ longest ⌝ }
-    requires { ⌜ TableRoom (treeOf (readBundle base (now input) pos)) index (now table) ⌝ }
-    ensures { λ r. ⌜ Fills (readBundle base (now (input .entry)) pos) pos index (now (table .entry)) r (now (table .exit)) ⌝ }
+    requires { ⌜ start ≤ longest ⌝ }
+    requires { ⌜ TableRoom (treeOf (readBundle base start (now input) pos)) index (now table) ⌝ }
+    ensures { λ r. ⌜ Fills (readBundle base start (now (input .entry)) pos) pos index (now (table .entry)) r (now (table .exit)) ⌝ }
 {
     if input.len() < 8 {
         return Reread::Nothing;
@@ -106,7 +123,7 @@ fn decode_bundle(input: &[u8], base: usize, pos: usize, table: &mut [u8], index:
             }
             Reread::Nothing => {
                 let end = index + count;
-                record::put_record(table, packet::bundle_item(input), end as u32);
+                record::put_record(table, packet::bundle_item(start, input), end as u32);
                 return Reread::Wrote { count, next: at };
             }
         }
@@ -161,7 +178,14 @@ pub fn write_packet(
             write_message(&input[used..], base, pos + used, item, table, index, count);
         }
         Start::Bundle { used } => {
-            decode_bundle(&input[used..], base, pos + used, table, index);
+            decode_bundle(
+                &input[used..],
+                base,
+                pos + used,
+                base + pos,
+                table,
+                index,
+            );
         }
         Start::Refused(_) => {}
     }

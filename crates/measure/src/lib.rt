@@ -67,7 +67,7 @@ pub fn measure_message(input: &[u8], pos: usize) -> Extent
 // elements that are left say where the bundle ends.
 fn measure_bundle(input: &[u8], pos: usize, room: usize) -> Extent
     requires { ⌜ pos + length (now input) ≤ longest ⌝ }
-    ensures { λ r. ⌜ ((base : ℕ) → r ≡ extent room pos (readBundle base (now (input .entry)) pos)) ⌝ }
+    ensures { λ r. ⌜ ((base start : ℕ) → r ≡ extent room pos (readBundle base start (now (input .entry)) pos)) ⌝ }
 {
     if input.len() < 8 {
         return Extent::Refused(Fault::RunsOut);

@@ -21,14 +21,14 @@ use Rattle.packet.proofs.Within.{Within, element-in, elements-in}
 abbrev pub contents : ℕ → List ℕ → ℕ → Elements
 contents base l p = readElements base (drop 8 l) (p + 8)
 
-module _ (base : ℕ) (l : List ℕ) (p : ℕ) where
+module _ (base start : ℕ) (l : List ℕ) (p : ℕ) where
   -- a bundle without its time tag
-  pub bundle-short : length l < 8 → readBundle base l p ≡ fault RunsOut
+  pub bundle-short : length l < 8 → readBundle base start l p ≡ fault RunsOut
   unfolding readBundle bundleBy
   bundle-short h = rw (bundleBy, lt-leb 8 (length l) h)
 
   -- a bundle with its time tag
-  pub bundle-long : 8 ≤ length l → readBundle base l p ≡ bundleWith (bundleItem l) (contents base l p)
+  pub bundle-long : 8 ≤ length l → readBundle base start l p ≡ bundleWith (bundleItem start l) (contents base l p)
   unfolding readBundle bundleBy
   bundle-long h = rw (bundleBy, le-leb 8 (length l) h)
 

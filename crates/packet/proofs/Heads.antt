@@ -89,10 +89,10 @@ message-start-in l p e = subst (StartIn (length l)) (sym e) (start-within l p)
 pub bundle-start-in : {used : ℕ} (l : List ℕ) (p : ℕ) → Bundle used ≡ startOf l p → (0 < used) × (used ≤ length l)
 bundle-start-in l p e = subst (StartIn (length l)) (sym e) (start-within l p)
 
--- a bundle's own numbers are its time tag
-pub time-tag : {a b : ℕ} (l : List ℕ) → a ≡ number 4 l → b ≡ number 4 (drop 4 l)
-    → _≡_ {A = Item} (record { kind = bundleKind; a = a; b = b }) (bundleItem l)
-time-tag l p q = rw (p, q)
+-- a bundle's own numbers are its time tag and its start
+pub time-tag : {a b : ℕ} (start : ℕ) (l : List ℕ) → a ≡ number 4 l → b ≡ number 4 (drop 4 l)
+    → _≡_ {A = Item} (record { kind = bundleKind; a = a; b = b; start = start }) (bundleItem start l)
+time-tag start l p q = rw (p, q)
 
 -- ---- the size of an element
 

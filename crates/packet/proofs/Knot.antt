@@ -25,11 +25,11 @@ Agree f g l = (m : List ℕ) (q : ℕ) → length m ≤ length l - 1 → f m q �
 
 -- ---- a rule takes rules that agree to the same result
 
-bundle-cong : (es es' : List ℕ → ℕ → Elements) (l : List ℕ) (p : ℕ) → es (drop 8 l) (p + 8) ≡ es' (drop 8 l) (p + 8)
-    → bundleBy es l p ≡ bundleBy es' l p
+bundle-cong : (start : ℕ) (es es' : List ℕ → ℕ → Elements) (l : List ℕ) (p : ℕ) → es (drop 8 l) (p + 8) ≡ es' (drop 8 l) (p + 8)
+    → bundleBy start es l p ≡ bundleBy start es' l p
 unfolding bundleBy
-bundle-cong es es' l p e =
-    ap (λ (k : Elements). cond (leb 8 (length l)) (bundleWith (bundleItem l) k) (fault RunsOut)) e
+bundle-cong start es es' l p e =
+    ap (λ (k : Elements). cond (leb 8 (length l)) (bundleWith (bundleItem start l) k) (fault RunsOut)) e
 
 held-cong : (pk pk' : List ℕ → ℕ → Out) (l : List ℕ) (p : ℕ) (s : ElementSize) → Agree pk pk' l → heldBy pk l p s ≡ heldBy pk' l p s
 held-cong pk pk' l p (size.Holds n) h = ap (filling n) (h _ _ (omega (arith, length-take n (drop 4 l), length-drop 4 l)))
@@ -50,7 +50,8 @@ module _ (base : ℕ) where
       → startedBy base es l p s ≡ startedBy base es' l p s
   start-cong es es' l p (Message n used) h = refl
   start-cong es es' l p (Bundle used) h =
-      ap (after used) (bundle-cong es es' (drop used l) (p + used) (h _ _ (omega (arith, length-drop 8 (drop used l), length-drop used l))))
+      ap (after used)
+      (bundle-cong (base + p) es es' (drop used l) (p + used) (h _ _ (omega (arith, length-drop 8 (drop used l), length-drop used l))))
   start-cong es es' l p (Refused k) h = refl
 
   packet-cong : (es es' : List ℕ → ℕ → Elements) (l : List ℕ) (p : ℕ) → Agree es es' l → packetBy base es l p ≡ packetBy base es' l p
@@ -121,7 +122,8 @@ module _ (base : ℕ) where
     starts-message e = started e
 
     -- "#bundle" starts a bundle
-    pub starts-bundle : {used : ℕ} → Bundle used ≡ startOf l p → readPacket base l p ≡ after used (readBundle base (drop used l) (p + used))
+    pub starts-bundle : {used : ℕ} → Bundle used ≡ startOf l p
+        → readPacket base l p ≡ after used (readBundle base (base + p) (drop used l) (p + used))
     unfolding readBundle
     starts-bundle e = started e
 

@@ -77,10 +77,10 @@ module _ (base : ℕ) (item : Item) (l : List ℕ) (p : ℕ) where
 bundle-with-in : (item : Item) (k : Elements) (m : ℕ) → 8 ≤ m → ElementsIn (m - 8) k → Within m (bundleWith item k)
 bundle-with-in item (upto f u) m h w = omega arith
 
-bundle-by-in : (es : List ℕ → ℕ → Elements) (l : List ℕ) (p : ℕ) → ElementsIn (length (drop 8 l)) (es (drop 8 l) (p + 8))
-    → Within (length l) (bundleBy es l p)
+bundle-by-in : (start : ℕ) (es : List ℕ → ℕ → Elements) (l : List ℕ) (p : ℕ) → ElementsIn (length (drop 8 l)) (es (drop 8 l) (p + 8))
+    → Within (length l) (bundleBy start es l p)
 unfolding bundleBy
-bundle-by-in es l p w =
+bundle-by-in start es l p w =
     by-le (Within (length l)) 8 (length l) (λ h. bundle-with-in _ (es (drop 8 l) (p + 8)) (length l) h (rw length-drop at w)) (λ h. tt)
 
 module _ (base : ℕ) where
@@ -90,8 +90,8 @@ module _ (base : ℕ) where
       after-in used (length l) (readMessage base (messageItem (base + p) n) (drop used l) (p + used)) (w .1)
       (rw length-drop at (message-in base (messageItem (base + p) n) (drop used l) (p + used)))
   started-in es l p (Bundle used) h w =
-      after-in used (length l) (bundleBy es (drop used l) (p + used)) (w .1)
-      (rw length-drop at (bundle-by-in es (drop used l) (p + used) (h _ _)))
+      after-in used (length l) (bundleBy (base + p) es (drop used l) (p + used)) (w .1)
+      (rw length-drop at (bundle-by-in (base + p) es (drop used l) (p + used) (h _ _)))
   started-in es l p (Refused k) h w = tt
 
   packet-by-in : (es : List ℕ → ℕ → Elements) (l : List ℕ) (p : ℕ) → ((m : List ℕ) (q : ℕ) → ElementsIn (length m) (es m q))

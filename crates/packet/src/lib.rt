@@ -138,19 +138,21 @@ pub fn message_item(offset: usize, n: usize) -> Item
         kind: MESSAGE,
         a: offset as u32,
         b: n as u32,
+        start: offset as u32,
     }
 }
 
-// The own numbers of a bundle, whose time tag `input` starts with.
+// The own numbers of a bundle whose "#bundle" stands at offset `start`, and whose time tag `input` starts with.
 //
 // Ruled out: the seconds as the fractional part; the kind of a message.
-pub fn bundle_item(input: &[u8]) -> Item
-    requires { ⌜ 8 ≤ length (now input) ⌝ }
-    ensures { λ r. ⌜ r ≡ bundleItem (now (input .entry)) ⌝ }
+pub fn bundle_item(start: usize, input: &[u8]) -> Item
+    requires { ⌜ (start ≤ longest) × (8 ≤ length (now input)) ⌝ }
+    ensures { λ r. ⌜ r ≡ bundleItem start (now (input .entry)) ⌝ }
 {
     Item {
         kind: BUNDLE,
         a: be_u32(input, 0),
         b: be_u32(input, 4),
+        start: start as u32,
     }
 }
