@@ -82,7 +82,7 @@ module _ (base room : ℕ) (l rest : List ℕ) (p : ℕ) where
 
   -- the extent of a packet that starts with "#bundle" is its bundle's
   pub packet-by-bundle : {used : ℕ} {r : Extent} → start.Bundle used ≡ startOf l p → rest ≡ drop used l
-      → r ≡ extent room (p + used) (readBundle base rest (p + used)) → r ≡ extent room p (readPacket base l p)
+      → r ≡ extent room (p + used) (readBundle base (base + p) rest (p + used)) → r ≡ extent room p (readPacket base l p)
   packet-by-bundle {used} e s g =
       g ∙ extent-after room p used _ ∙ ap (extent room p) (rw s (sym (starts-bundle base l p e)))
 
@@ -125,27 +125,27 @@ tree-in room p m o w e = subst (ExtentIn p m) (sym e) (extent-in room p m o w)
 
 -- ---- bundles
 
-extent-bundle : (room p : ℕ) (l : List ℕ) (k : Elements)
-    → extent room p (bundleWith (bundleItem l) k) ≡ cond (leb (depth (treesIn k) + 1) room)
+extent-bundle : (room p start : ℕ) (l : List ℕ) (k : Elements)
+    → extent room p (bundleWith (bundleItem start l) k) ≡ cond (leb (depth (treesIn k) + 1) room)
     (Tree (1 + size (treesIn k)) (p + (8 + usedBy k)))
     (Deep (p + (8 + usedBy k)))
 unfolding extent
-extent-bundle room p l (upto f u) = refl
+extent-bundle room p start l (upto f u) = refl
 
-module _ (base : ℕ) (l : List ℕ) (p : ℕ) where
+module _ (base start : ℕ) (l : List ℕ) (p : ℕ) where
   -- too deep: where its elements end
   pub bundle-deep : {x : ℕ} (room : ℕ) → 8 ≤ length l → room < depth (treesIn (contents base l p)) + 1
-      → x ≡ p + 8 + usedBy (contents base l p) → Deep x ≡ extent room p (readBundle base l p)
+      → x ≡ p + 8 + usedBy (contents base l p) → Deep x ≡ extent room p (readBundle base start l p)
   bundle-deep {x} room h d e =
       let u : x ≡ p + (8 + usedBy (contents base l p)) = omega arith in
-      sym (ap (extent room p) (bundle-long base l p h) ∙ extent-bundle room p l (contents base l p) ∙ rw (lt-leb _ _ d, u))
+      sym (ap (extent room p) (bundle-long base start l p h) ∙ extent-bundle room p start l (contents base l p) ∙ rw (lt-leb _ _ d, u))
 
   bundle-tree : {c x : ℕ} (room : ℕ) → 8 ≤ length l → depth (treesIn (contents base l p)) + 1 ≤ room
       → c ≡ 1 + size (treesIn (contents base l p)) → x ≡ p + 8 + usedBy (contents base l p)
-      → Tree c x ≡ extent room p (readBundle base l p)
+      → Tree c x ≡ extent room p (readBundle base start l p)
   bundle-tree {c} {x} room h d ec e =
       let u : x ≡ p + (8 + usedBy (contents base l p)) = omega arith in
-      sym (ap (extent room p) (bundle-long base l p h) ∙ extent-bundle room p l (contents base l p) ∙ rw (le-leb _ _ d, u, ec))
+      sym (ap (extent room p) (bundle-long base start l p h) ∙ extent-bundle room p start l (contents base l p) ∙ rw (le-leb _ _ d, u, ec))
 
 -- what is left of a bundle in which `room` levels may be opened yet
 pub record Going (base : ℕ) (l : List ℕ) (p room : ℕ) (m : List ℕ) (q c : ℕ) : Type 0 where
@@ -233,20 +233,20 @@ module _ (base : ℕ) (l : List ℕ) (p room : ℕ) (m : List ℕ) (q c : ℕ) (
       record { counted = counted-on base l p m q c (w .counted) (t .step); deep = w .deep ∙ t .deep ∙ rw (tail m (next - q)) }
 
   -- at an element that is too deep
-  pub going-deep : {next x d : ℕ} → room + 1 ≡ d → 8 ≤ length l → Deep next ≡ extent room (q + 4) (readElement base m q)
-      → x ≡ q + usedBy (readElements base m q) → Deep x ≡ extent d p (readBundle base l p)
-  going-deep {next} {x} {d} o h e u =
+  pub going-deep : {next x d : ℕ} (start : ℕ) → room + 1 ≡ d → 8 ≤ length l → Deep next ≡ extent room (q + 4) (readElement base m q)
+      → x ≡ q + usedBy (readElements base m q) → Deep x ≡ extent d p (readBundle base start l p)
+  going-deep {next} {x} {d} start o h e u =
       let over : room < depth (treesIn (contents base l p)) = leb-false _ _ (w .deep ∙ turned-deep base m q room e) in
-      bundle-deep base l p d h (omega arith) (omega arith)
+      bundle-deep base start l p d h (omega arith) (omega arith)
 
   -- at an element that fails
-  pub going-done : {k : Fault} {d : ℕ} → room + 1 ≡ d → 8 ≤ length l → Refused k ≡ extent room (q + 4) (readElement base m q)
-      → Tree c q ≡ extent d p (readBundle base l p)
+  pub going-done : {k : Fault} {d : ℕ} (start : ℕ) → room + 1 ≡ d → 8 ≤ length l → Refused k ≡ extent room (q + 4) (readElement base m q)
+      → Tree c q ≡ extent d p (readBundle base start l p)
   unfolding size depth
-  going-done {k} {d} o h e =
+  going-done {k} {d} start o h e =
       let none : readElements base m q ≡ upto nil 0 = turned-end base m q room e in
       let no-size : size (treesIn (readElements base m q)) ≡ 0 = ap (λ (k : Elements). size (treesIn k)) none in
       let no-use : usedBy (readElements base m q) ≡ 0 = ap usedBy none in
       let flat : depth (treesIn (contents base l p)) ≤ room
       = leb-true _ _ (w .deep ∙ ap (λ (k : Elements). leb (depth (treesIn k)) room) none ∙ leb·zero room) in
-      bundle-tree base l p d h (omega arith) (omega arith) (omega arith)
+      bundle-tree base start l p d h (omega arith) (omega arith) (omega arith)

@@ -60,16 +60,16 @@ module _ (base : ℕ) (l : List ℕ) (p : ℕ) where
     is-bundle h =
         let long : 8 ≤ length (drop used l) = omega (arith, length-drop used l) in
         with-accepted _ (readElements base (drop 8 (drop used l)) (p + used + 8))
-        ∙ ap accepted (sym (bundle-long base (drop used l) (p + used) long))
-        ∙ after-accepted used (readBundle base (drop used l) (p + used))
+        ∙ ap accepted (sym (bundle-long base (base + p) (drop used l) (p + used) long))
+        ∙ after-accepted used (readBundle base (base + p) (drop used l) (p + used))
         ∙ ap accepted (sym (starts-bundle base l p e))
 
     -- a bundle without its time tag is refused
     pub is-no-bundle : length l - used < 8 → false ≡ accepted (readPacket base l p)
     is-no-bundle h =
         let short : length (drop used l) < 8 = omega (arith, length-drop used l) in
-        ap accepted (sym (bundle-short base (drop used l) (p + used) short))
-        ∙ after-accepted used (readBundle base (drop used l) (p + used))
+        ap accepted (sym (bundle-short base (base + p) (drop used l) (p + used) short))
+        ∙ after-accepted used (readBundle base (base + p) (drop used l) (p + used))
         ∙ ap accepted (sym (starts-bundle base l p e))
 
   -- a packet that is refused by what it starts with

@@ -105,14 +105,14 @@ pub +measure-bundle+measure-element+measure-packet-spec : {M : Type 1} → state
     measure-bundle.Post
     measure-bundle-Inv-loop
     measure-bundle-μ-loop
-    (λ c. λ base. refused-is _ _ (bundle-short base _ _ (c .if1 .taken)))
+    (λ c. λ base start. refused-is _ _ (bundle-short base start _ _ (c .if1 .taken)))
     (λ c. search needs)
     (λ c. search needs)
     (λ c. search needs)
     (λ c. search needs)
     (λ c κs. omega (arith, (c .before .rest .given .2)))
     (λ c. let p3 = c .before .before .before in let p5 = p3 .before .before in
-    λ base. bundle-deep base (p5 .args .input .now) (p5 .args .pos) (p5 .args .room) (p3 .if1 .left)
+    λ base start. bundle-deep base start (p5 .args .input .now) (p5 .args .pos) (p5 .args .room) (p3 .if1 .left)
     (omega (arith, (c .before .if2 .taken))) ((c .skim-elements .ensures) base ∙ rw (tail (p5 .args .input .now) 8)))
     (λ c. let p4 = c .before .before .before .before in (
       omega (arith, (c .before .rest .given .2)),
@@ -180,14 +180,14 @@ pub +measure-bundle+measure-element+measure-packet-spec : {M : Type 1} → state
     (λ c κs. search needs)
     (λ c. let p3 = c .before .before .before in let p4 = p3 .before in let p5 = p4 .before in let p7 = p5 .before .before in
     let p9 = p7 .before .before in
-    λ base. going-deep base (p9 .args .input .now) (p9 .args .pos) ((p9 .args .room) - 1) (p4 .loop .rest .now) (p4 .loop .at)
-    (p4 .loop .count) ((p4 .loop .inv .2) base) (omega (arith, (p5 .if2 .left))) (p7 .if1 .left)
+    λ base start. going-deep base (p9 .args .input .now) (p9 .args .pos) ((p9 .args .room) - 1) (p4 .loop .rest .now) (p4 .loop .at)
+    (p4 .loop .count) ((p4 .loop .inv .2) base) start (omega (arith, (p5 .if2 .left))) (p7 .if1 .left)
     (sym (c .before .enum-told .given .1) ∙ (p3 .measure-element .ensures) base) ((c .skim-elements2 .ensures) base))
     (λ c. search needs)
     (λ c. let p2 = c .before .before in let p3 = p2 .before in let p4 = p3 .before in let p6 = p4 .before .before in
     let p8 = p6 .before .before in
-    λ base. going-done base (p8 .args .input .now) (p8 .args .pos) ((p8 .args .room) - 1) (p3 .loop .rest .now) (p3 .loop .at)
-    (p3 .loop .count) ((p3 .loop .inv .2) base) (omega (arith, (p4 .if2 .left))) (p6 .if1 .left)
+    λ base start. going-done base (p8 .args .input .now) (p8 .args .pos) ((p8 .args .room) - 1) (p3 .loop .rest .now) (p3 .loop .at)
+    (p3 .loop .count) ((p3 .loop .inv .2) base) start (omega (arith, (p4 .if2 .left))) (p6 .if1 .left)
     (sym (c .enum-told2 .given .1) ∙ (p2 .measure-element .ensures) base)))
     (λ t. measure-element-lts.spec (
       read-size-reads.Asked,
@@ -276,6 +276,6 @@ pub +measure-bundle+measure-element+measure-packet-spec : {M : Type 1} → state
     (tail (p7 .args .input .now) (p3 .used .given .0 .1 .0)) (c .measure-message .ensures base _ _ _))
     (λ c. let p3 = c .before .before .before in let p5 = p3 .before .before in let p7 = p5 .before .before in
     λ base. packet-by-bundle base _ (p7 .args .input .now) _ _ (sym (p3 .used2 .given .1) ∙ (p5 .read-start .ensures))
-    (tail (p7 .args .input .now) (p3 .used2 .given .0 .0)) (c .measure-bundle .ensures base))
+    (tail (p7 .args .input .now) (p3 .used2 .given .0 .0)) (c .measure-bundle .ensures base (base + p7 .args .pos)))
     (λ c. λ base. refused-is _ _
     (starts-refused base _ _ (sym (c .before .fault .given .1) ∙ (c .before .before .before .read-start .ensures))))
