@@ -111,7 +111,7 @@ module _ (base : ℕ) (l rest : List ℕ) (p : ℕ) where
   module _ {used : ℕ} (e : start.Bundle used ≡ startOf l p) (s : rest ≡ drop used l) where
     -- the bundle that the packet is
     abbrev bundle : Out
-    bundle = readBundle base rest (p + used)
+    bundle = readBundle base (base + p) rest (p + used)
 
     bundle-packet : readPacket base l p ≡ after used bundle
     bundle-packet = starts-bundle base l p e ∙ rw s
@@ -251,15 +251,15 @@ module _ {m used : ℕ} {tags rest : List ℕ} (base : ℕ) (item : Item) (l : L
 
 -- ---- bundles
 
-module _ (base : ℕ) (l : List ℕ) (p : ℕ) where
+module _ (base start : ℕ) (l : List ℕ) (p : ℕ) where
   -- room for the bundle's own record and for those of its elements
-  pub contents-room : {i : ℕ} {T : List ℕ} → 8 ≤ length l → TableRoom (treeOf (readBundle base l p)) i T
-      → TableRoom (node (bundleItem l) (treesIn (contents base l p)) nil) i T
+  pub contents-room : {i : ℕ} {T : List ℕ} → 8 ≤ length l → TableRoom (treeOf (readBundle base start l p)) i T
+      → TableRoom (node (bundleItem start l) (treesIn (contents base l p)) nil) i T
   unfolding size
-  contents-room {i} {T} h w = by-elements (contents base l p) (rw (bundle-long base l p h) at w)
+  contents-room {i} {T} h w = by-elements (contents base l p) (rw (bundle-long base start l p h) at w)
     where
-      by-elements : (k : Elements) → TableRoom (treeOf (bundleWith (bundleItem l) k)) i T
-          → TableRoom (node (bundleItem l) (treesIn k) nil) i T
+      by-elements : (k : Elements) → TableRoom (treeOf (bundleWith (bundleItem start l) k)) i T
+          → TableRoom (node (bundleItem start l) (treesIn k) nil) i T
       by-elements (upto f u) v = record { fits = v .fits; low = v .low }
 
 is-none : (p : ℕ) (o : Out) → Nothing ≡ reread p o → treeOf o ≡ nil
@@ -307,8 +307,8 @@ pub record Filling (base : ℕ) (l : List ℕ) (p i : ℕ) (T₀ T m : List ℕ)
 pub filling-start : (base : ℕ) (l : List ℕ) (p i : ℕ) (T : List ℕ) → Filling base l p i T T (take (length l - 8) (drop 8 l)) (p + 8) 1
 filling-start base l p i T = record { counted = counted-start base l p; some = omega arith; same = refl; left = rw (tail l 8) }
 
-module _ (base : ℕ) (l : List ℕ) (p i : ℕ) (T₀ T m : List ℕ) (q c : ℕ) (w : Filling base l p i T₀ T m q c)
-    (r : TableRoom (node (bundleItem l) (treesIn (contents base l p)) nil) i T₀) where
+module _ (base start : ℕ) (l : List ℕ) (p i : ℕ) (T₀ T m : List ℕ) (q c : ℕ) (w : Filling base l p i T₀ T m q c)
+    (r : TableRoom (node (bundleItem start l) (treesIn (contents base l p)) nil) i T₀) where
   -- the table that is lent for the next element
   abbrev later : List ℕ
   later = midOf (recordSize * c) (length T - recordSize * c) T
@@ -368,9 +368,9 @@ module _ (base : ℕ) (l : List ℕ) (p i : ℕ) (T₀ T m : List ℕ) (q c : �
 
   -- no element follows: the bundle's own record is written
   pub filling-done : {x : Reread} {item : Item} {Y Z : List ℕ} → 8 ≤ length l → Fills (readElement base m q) (q + 4) (i + c) later x Y
-      → x ≡ Nothing → item ≡ bundleItem l
+      → x ≡ Nothing → item ≡ bundleItem start l
       → number.Wrote (recordOf item (i + c)) (putMid (recordSize * c) (length T - recordSize * c) T Y) Z
-      → Fills (readBundle base l p) p i T₀ (Wrote c q) Z
+      → Fills (readBundle base start l p) p i T₀ (Wrote c q) Z
   unfolding size
   filling-done {x} {item} {Y} {Z} h f z e v =
       let none : readElements base m q ≡ upto nil 0 = no-step base m q (sym z ∙ f .answered) in
@@ -384,5 +384,5 @@ module _ (base : ℕ) (l : List ℕ) (p i : ℕ) (T₀ T m : List ℕ) (q c : �
       ∙ w .left in
       let tab : Z ≡ stored i (node item (treesIn (contents base l p)) nil) T₀
       = completed-node T₀ i item (i + c) (treesIn (contents base l p)) (omega (arith, r .fits)) put (omega (arith, w .counted)) v in
-      rw (bundle-long base l p h, ← e)
+      rw (bundle-long base start l p h, ← e)
       (with-elements p i item T₀ (contents base l p) (omega (arith, w .counted)) (omega (arith, w .counted)) tab)

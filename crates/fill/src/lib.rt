@@ -98,8 +98,8 @@ fn decode_bundle(
     index: usize,
 ) -> Reread
     requires { ⌜ base + pos + length (now input) ≤ longest ⌝ }
-    requires { ⌜ start ≤ longest ⌝ }
     requires { ⌜ TableRoom (treeOf (readBundle base start (now input) pos)) index (now table) ⌝ }
+    requires { ⌜ start ≤ longest ⌝ }
     ensures { λ r. ⌜ Fills (readBundle base start (now (input .entry)) pos) pos index (now (table .entry)) r (now (table .exit)) ⌝ }
 {
     if input.len() < 8 {

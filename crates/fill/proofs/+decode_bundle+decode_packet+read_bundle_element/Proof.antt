@@ -82,11 +82,11 @@ read-bundle-element-below t =
     read-bundle-element.Pre
 
 abbrev decode-bundle-Inv-loop : decode-bundle-lts.InvT-loop
-decode-bundle-Inv-loop input base pos table₀ index rest₀ at₀ count₀ table rest at count =
+decode-bundle-Inv-loop input base pos start table₀ index rest₀ at₀ count₀ table rest at count =
     (at + length rest ≡ pos + length input) × (pos + 8 ≤ at) × Filling base input pos index table₀ table rest at count
 
 abbrev decode-bundle-μ-loop : decode-bundle-lts.MeasureT-loop
-decode-bundle-μ-loop input base pos table₀ index rest₀ at₀ count₀ table rest at count = length rest
+decode-bundle-μ-loop input base pos start table₀ index rest₀ at₀ count₀ table rest at count = length rest
 
 pub +decode-bundle+decode-packet+read-bundle-element-spec : {M : Type 1} → statement M
 +decode-bundle+decode-packet+read-bundle-element-spec =
@@ -102,7 +102,7 @@ pub +decode-bundle+decode-packet+read-bundle-element-spec : {M : Type 1} → sta
     decode-bundle.Post
     decode-bundle-Inv-loop
     decode-bundle-μ-loop
-    (λ c. fills-none (bundle-short _ _ _ (c .if1 .taken)))
+    (λ c. fills-none (bundle-short _ _ _ _ (c .if1 .taken)))
     (λ c. search needs)
     (λ c. search needs)
     (λ c. search needs)
@@ -116,40 +116,40 @@ pub +decode-bundle+decode-packet+read-bundle-element-spec : {M : Type 1} → sta
     (λ c. let p2 = c .before .before in let p5 = p2 .before .before .before in
     omega (
       arith,
-      filling-fits (p5 .args .base) (p5 .args .input .now) (p5 .args .pos) (p5 .args .index) (p5 .args .table .now)
+      filling-fits (p5 .args .base) (p5 .args .start) (p5 .args .input .now) (p5 .args .pos) (p5 .args .index) (p5 .args .table .now)
           (c .loop .table) (c .loop .rest .now) (c .loop .at) (c .loop .count) (c .loop .inv .2)
-          (contents-room (p5 .args .base) (p5 .args .input .now) (p5 .args .pos) (p2 .if1 .left) (p5 .pre .1 .1)),
+          (contents-room (p5 .args .base) (p5 .args .start) (p5 .args .input .now) (p5 .args .pos) (p2 .if1 .left) (p5 .pre .1 .1 .0)),
     ))
     (λ c. let p2 = c .before .before in let p5 = p2 .before .before .before in
     omega (
       arith,
-      filling-fits (p5 .args .base) (p5 .args .input .now) (p5 .args .pos) (p5 .args .index) (p5 .args .table .now)
+      filling-fits (p5 .args .base) (p5 .args .start) (p5 .args .input .now) (p5 .args .pos) (p5 .args .index) (p5 .args .table .now)
           (c .loop .table) (c .loop .rest .now) (c .loop .at) (c .loop .count) (c .loop .inv .2)
-          (contents-room (p5 .args .base) (p5 .args .input .now) (p5 .args .pos) (p2 .if1 .left) (p5 .pre .1 .1)),
+          (contents-room (p5 .args .base) (p5 .args .start) (p5 .args .input .now) (p5 .args .pos) (p2 .if1 .left) (p5 .pre .1 .1 .0)),
     ))
     (λ c. let p2 = c .before .before in let p5 = p2 .before .before .before in
     omega (
       arith,
-      filling-fits (p5 .args .base) (p5 .args .input .now) (p5 .args .pos) (p5 .args .index) (p5 .args .table .now)
+      filling-fits (p5 .args .base) (p5 .args .start) (p5 .args .input .now) (p5 .args .pos) (p5 .args .index) (p5 .args .table .now)
           (c .loop .table) (c .loop .rest .now) (c .loop .at) (c .loop .count) (c .loop .inv .2)
-          (contents-room (p5 .args .base) (p5 .args .input .now) (p5 .args .pos) (p2 .if1 .left) (p5 .pre .1 .1)),
+          (contents-room (p5 .args .base) (p5 .args .start) (p5 .args .input .now) (p5 .args .pos) (p2 .if1 .left) (p5 .pre .1 .1 .0)),
     ))
     (λ c. search needs)
     (λ c. let p3 = c .before .before .before in let p6 = p3 .before .before .before in
     omega (
       arith,
-      filling-fits (p6 .args .base) (p6 .args .input .now) (p6 .args .pos) (p6 .args .index) (p6 .args .table .now)
+      filling-fits (p6 .args .base) (p6 .args .start) (p6 .args .input .now) (p6 .args .pos) (p6 .args .index) (p6 .args .table .now)
           (c .before .loop .table) (c .before .loop .rest .now) (c .before .loop .at) (c .before .loop .count) (c .before .loop .inv .2)
-          (contents-room (p6 .args .base) (p6 .args .input .now) (p6 .args .pos) (p3 .if1 .left) (p6 .pre .1 .1)),
+          (contents-room (p6 .args .base) (p6 .args .start) (p6 .args .input .now) (p6 .args .pos) (p3 .if1 .left) (p6 .pre .1 .1 .0)),
     ))
     (λ c κs. let p3 = c .before .before .before in let p6 = p3 .before .before .before in (
       omega (arith, (c .before .loop .inv .0), (c .before .loop .inv .1)),
       (
         omega (arith, (c .before .loop .inv .0), (p6 .pre .1 .0)),
-        next-fits (p6 .args .base) (p6 .args .input .now) (p6 .args .pos)
+        next-fits (p6 .args .base) (p6 .args .start) (p6 .args .input .now) (p6 .args .pos)
             (p6 .args .index) (p6 .args .table .now) (c .before .loop .table) (c .before .loop .rest .now) (c .before .loop .at)
             (c .before .loop .count) (c .before .loop .inv .2)
-            (contents-room (p6 .args .base) (p6 .args .input .now) (p6 .args .pos) (p3 .if1 .left) (p6 .pre .1 .1)),
+            (contents-room (p6 .args .base) (p6 .args .start) (p6 .args .input .now) (p6 .args .pos) (p3 .if1 .left) (p6 .pre .1 .1 .0)),
       ),
     ))
     (λ c. search needs)
@@ -157,85 +157,85 @@ pub +decode-bundle+decode-packet+read-bundle-element-spec : {M : Type 1} → sta
     let p12 = p9 .before .before .before in
     omega (
       arith,
-      filling-step (p12 .args .base) (p12 .args .input .now) (p12 .args .pos) (p12 .args .index) (p12 .args .table .now)
+      filling-step (p12 .args .base) (p12 .args .start) (p12 .args .input .now) (p12 .args .pos) (p12 .args .index) (p12 .args .table .now)
           (p7 .loop .table) (p7 .loop .rest .now) (p7 .loop .at) (p7 .loop .count) (p7 .loop .inv .2)
-          (contents-room (p12 .args .base) (p12 .args .input .now) (p12 .args .pos) (p9 .if1 .left) (p12 .pre .1 .1))
+          (contents-room (p12 .args .base) (p12 .args .start) (p12 .args .input .now) (p12 .args .pos) (p9 .if1 .left) (p12 .pre .1 .1 .0))
           (p5 .read-bundle-element .ensures) (c .before .n .given .1),
       (p7 .loop .inv .0),
       (p7 .loop .inv .1),
-      filling-fits (p12 .args .base)
+      filling-fits (p12 .args .base) (p12 .args .start)
           (p12 .args .input .now) (p12 .args .pos) (p12 .args .index) (p12 .args .table .now) (p7 .loop .table) (p7 .loop .rest .now)
           (p7 .loop .at) (p7 .loop .count) (p7 .loop .inv .2)
-          (contents-room (p12 .args .base) (p12 .args .input .now) (p12 .args .pos) (p9 .if1 .left) (p12 .pre .1 .1)),
+          (contents-room (p12 .args .base) (p12 .args .start) (p12 .args .input .now) (p12 .args .pos) (p9 .if1 .left) (p12 .pre .1 .1 .0)),
     ))
     (λ c. let p5 = c .before .before .before .before .before in let p7 = p5 .before .before in let p9 = p7 .before .before in
     let p12 = p9 .before .before .before in
     omega (
       arith,
-      filling-step (p12 .args .base) (p12 .args .input .now) (p12 .args .pos) (p12 .args .index) (p12 .args .table .now)
+      filling-step (p12 .args .base) (p12 .args .start) (p12 .args .input .now) (p12 .args .pos) (p12 .args .index) (p12 .args .table .now)
           (p7 .loop .table) (p7 .loop .rest .now) (p7 .loop .at) (p7 .loop .count) (p7 .loop .inv .2)
-          (contents-room (p12 .args .base) (p12 .args .input .now) (p12 .args .pos) (p9 .if1 .left) (p12 .pre .1 .1))
+          (contents-room (p12 .args .base) (p12 .args .start) (p12 .args .input .now) (p12 .args .pos) (p9 .if1 .left) (p12 .pre .1 .1 .0))
           (p5 .read-bundle-element .ensures) (c .before .n .given .1),
       (p7 .loop .inv .0),
       (p7 .loop .inv .1),
-      filling-fits (p12 .args .base)
+      filling-fits (p12 .args .base) (p12 .args .start)
           (p12 .args .input .now) (p12 .args .pos) (p12 .args .index) (p12 .args .table .now) (p7 .loop .table) (p7 .loop .rest .now)
           (p7 .loop .at) (p7 .loop .count) (p7 .loop .inv .2)
-          (contents-room (p12 .args .base) (p12 .args .input .now) (p12 .args .pos) (p9 .if1 .left) (p12 .pre .1 .1)),
+          (contents-room (p12 .args .base) (p12 .args .start) (p12 .args .input .now) (p12 .args .pos) (p9 .if1 .left) (p12 .pre .1 .1 .0)),
     ))
     (λ c. let p5 = c .before .before .before .before .before in let p7 = p5 .before .before in let p9 = p7 .before .before in
     let p12 = p9 .before .before .before in
     omega (
       arith,
-      filling-step (p12 .args .base) (p12 .args .input .now) (p12 .args .pos) (p12 .args .index) (p12 .args .table .now)
+      filling-step (p12 .args .base) (p12 .args .start) (p12 .args .input .now) (p12 .args .pos) (p12 .args .index) (p12 .args .table .now)
           (p7 .loop .table) (p7 .loop .rest .now) (p7 .loop .at) (p7 .loop .count) (p7 .loop .inv .2)
-          (contents-room (p12 .args .base) (p12 .args .input .now) (p12 .args .pos) (p9 .if1 .left) (p12 .pre .1 .1))
+          (contents-room (p12 .args .base) (p12 .args .start) (p12 .args .input .now) (p12 .args .pos) (p9 .if1 .left) (p12 .pre .1 .1 .0))
           (p5 .read-bundle-element .ensures) (c .before .n .given .1),
       (p7 .loop .inv .0),
       (p7 .loop .inv .1),
-      filling-fits (p12 .args .base)
+      filling-fits (p12 .args .base) (p12 .args .start)
           (p12 .args .input .now) (p12 .args .pos) (p12 .args .index) (p12 .args .table .now) (p7 .loop .table) (p7 .loop .rest .now)
           (p7 .loop .at) (p7 .loop .count) (p7 .loop .inv .2)
-          (contents-room (p12 .args .base) (p12 .args .input .now) (p12 .args .pos) (p9 .if1 .left) (p12 .pre .1 .1)),
+          (contents-room (p12 .args .base) (p12 .args .start) (p12 .args .input .now) (p12 .args .pos) (p9 .if1 .left) (p12 .pre .1 .1 .0)),
     ))
     (λ c. let p5 = c .before .before .before .before .before in let p7 = p5 .before .before in let p9 = p7 .before .before in
     let p12 = p9 .before .before .before in
     omega (
       arith,
-      filling-step (p12 .args .base) (p12 .args .input .now) (p12 .args .pos) (p12 .args .index) (p12 .args .table .now)
+      filling-step (p12 .args .base) (p12 .args .start) (p12 .args .input .now) (p12 .args .pos) (p12 .args .index) (p12 .args .table .now)
           (p7 .loop .table) (p7 .loop .rest .now) (p7 .loop .at) (p7 .loop .count) (p7 .loop .inv .2)
-          (contents-room (p12 .args .base) (p12 .args .input .now) (p12 .args .pos) (p9 .if1 .left) (p12 .pre .1 .1))
+          (contents-room (p12 .args .base) (p12 .args .start) (p12 .args .input .now) (p12 .args .pos) (p9 .if1 .left) (p12 .pre .1 .1 .0))
           (p5 .read-bundle-element .ensures) (c .before .n .given .1),
       (p7 .loop .inv .0),
       (p7 .loop .inv .1),
-      filling-fits (p12 .args .base)
+      filling-fits (p12 .args .base) (p12 .args .start)
           (p12 .args .input .now) (p12 .args .pos) (p12 .args .index) (p12 .args .table .now) (p7 .loop .table) (p7 .loop .rest .now)
           (p7 .loop .at) (p7 .loop .count) (p7 .loop .inv .2)
-          (contents-room (p12 .args .base) (p12 .args .input .now) (p12 .args .pos) (p9 .if1 .left) (p12 .pre .1 .1)),
+          (contents-room (p12 .args .base) (p12 .args .start) (p12 .args .input .now) (p12 .args .pos) (p9 .if1 .left) (p12 .pre .1 .1 .0)),
     ))
     (λ c. search needs)
     (λ c. let p2 = c .before .before in let p6 = p2 .before .before .before .before in let p8 = p6 .before .before in
     let p10 = p8 .before .before in let p13 = p10 .before .before .before in
     omega (
       arith,
-      filling-step (p13 .args .base) (p13 .args .input .now) (p13 .args .pos) (p13 .args .index) (p13 .args .table .now)
+      filling-step (p13 .args .base) (p13 .args .start) (p13 .args .input .now) (p13 .args .pos) (p13 .args .index) (p13 .args .table .now)
           (p8 .loop .table) (p8 .loop .rest .now) (p8 .loop .at) (p8 .loop .count) (p8 .loop .inv .2)
-          (contents-room (p13 .args .base) (p13 .args .input .now) (p13 .args .pos) (p10 .if1 .left) (p13 .pre .1 .1))
+          (contents-room (p13 .args .base) (p13 .args .start) (p13 .args .input .now) (p13 .args .pos) (p10 .if1 .left) (p13 .pre .1 .1 .0))
           (p6 .read-bundle-element .ensures) (p2 .n .given .1),
       (c .rest2 .given .2),
     ))
     (λ c. let p2 = c .before .before in let p6 = p2 .before .before .before .before in let p8 = p6 .before .before in
     let p10 = p8 .before .before in let p13 = p10 .before .before .before in
-    let s = filling-step (p13 .args .base) (p13 .args .input .now) (p13 .args .pos) (p13 .args .index) (p13 .args .table .now)
+    let s = filling-step (p13 .args .base) (p13 .args .start) (p13 .args .input .now) (p13 .args .pos) (p13 .args .index) (p13 .args .table .now)
     (p8 .loop .table) (p8 .loop .rest .now) (p8 .loop .at) (p8 .loop .count) (p8 .loop .inv .2)
-    (contents-room (p13 .args .base) (p13 .args .input .now) (p13 .args .pos) (p10 .if1 .left) (p13 .pre .1 .1))
+    (contents-room (p13 .args .base) (p13 .args .start) (p13 .args .input .now) (p13 .args .pos) (p10 .if1 .left) (p13 .pre .1 .1 .0))
     (p6 .read-bundle-element .ensures) (p2 .n .given .1) in (
       omega (arith, (c .rest2 .given .2), (p8 .loop .inv .0)),
       omega (arith, (p8 .loop .inv .1)),
-      filling-on (p13 .args .base)
+      filling-on (p13 .args .base) (p13 .args .start)
           (p13 .args .input .now) (p13 .args .pos) (p13 .args .index) (p13 .args .table .now) (p8 .loop .table) (p8 .loop .rest .now)
           (p8 .loop .at) (p8 .loop .count) (p8 .loop .inv .2)
-          (contents-room (p13 .args .base) (p13 .args .input .now) (p13 .args .pos) (p10 .if1 .left) (p13 .pre .1 .1))
+          (contents-room (p13 .args .base) (p13 .args .start) (p13 .args .input .now) (p13 .args .pos) (p10 .if1 .left) (p13 .pre .1 .1 .0))
           (p6 .read-bundle-element .ensures) (p2 .n .given .1),
     ))
     (λ c. search needs)
@@ -243,26 +243,26 @@ pub +decode-bundle+decode-packet+read-bundle-element-spec : {M : Type 1} → sta
     let p11 = p8 .before .before .before in
     omega (
       arith,
-      filling-fits (p11 .args .base) (p11 .args .input .now) (p11 .args .pos) (p11 .args .index) (p11 .args .table .now)
+      filling-fits (p11 .args .base) (p11 .args .start) (p11 .args .input .now) (p11 .args .pos) (p11 .args .index) (p11 .args .table .now)
           (p6 .loop .table) (p6 .loop .rest .now) (p6 .loop .at) (p6 .loop .count) (p6 .loop .inv .2)
-          (contents-room (p11 .args .base) (p11 .args .input .now) (p11 .args .pos) (p8 .if1 .left) (p11 .pre .1 .1)),
+          (contents-room (p11 .args .base) (p11 .args .start) (p11 .args .input .now) (p11 .args .pos) (p8 .if1 .left) (p11 .pre .1 .1 .0)),
     ))
     (λ c κs. search needs)
     (λ c. let p8 = c .before .before .before .before .before .before .before .before in let p10 = p8 .before .before in
     let p13 = p10 .before .before .before in
     omega (
       arith,
-      filling-fits (p13 .args .base) (p13 .args .input .now) (p13 .args .pos) (p13 .args .index) (p13 .args .table .now)
+      filling-fits (p13 .args .base) (p13 .args .start) (p13 .args .input .now) (p13 .args .pos) (p13 .args .index) (p13 .args .table .now)
           (p8 .loop .table) (p8 .loop .rest .now) (p8 .loop .at) (p8 .loop .count) (p8 .loop .inv .2)
-          (contents-room (p13 .args .base) (p13 .args .input .now) (p13 .args .pos) (p10 .if1 .left) (p13 .pre .1 .1)),
+          (contents-room (p13 .args .base) (p13 .args .start) (p13 .args .input .now) (p13 .args .pos) (p10 .if1 .left) (p13 .pre .1 .1 .0)),
     ))
     (λ c κs. let p5 = c .before .before .before .before .before in let p8 = p5 .before .before .before in
     let p10 = p8 .before .before in let p13 = p10 .before .before .before in
     omega (
       arith,
-      filling-fits (p13 .args .base) (p13 .args .input .now) (p13 .args .pos) (p13 .args .index) (p13 .args .table .now)
+      filling-fits (p13 .args .base) (p13 .args .start) (p13 .args .input .now) (p13 .args .pos) (p13 .args .index) (p13 .args .table .now)
           (p8 .loop .table) (p8 .loop .rest .now) (p8 .loop .at) (p8 .loop .count) (p8 .loop .inv .2)
-          (contents-room (p13 .args .base) (p13 .args .input .now) (p13 .args .pos) (p10 .if1 .left) (p13 .pre .1 .1)),
+          (contents-room (p13 .args .base) (p13 .args .start) (p13 .args .input .now) (p13 .args .pos) (p10 .if1 .left) (p13 .pre .1 .1 .0)),
       (p8 .loop .inv .2 .some),
       (p5 .table .given),
     ))
@@ -270,9 +270,9 @@ pub +decode-bundle+decode-packet+read-bundle-element-spec : {M : Type 1} → sta
     (λ c. let p2 = c .before .before in let p3 = p2 .before in let p5 = p3 .before .before in
     let p9 = p5 .before .before .before .before in let p11 = p9 .before .before in let p13 = p11 .before .before in
     let p16 = p13 .before .before .before in
-    filling-done (p16 .args .base) (p16 .args .input .now) (p16 .args .pos) (p16 .args .index) (p16 .args .table .now) (p11 .loop .table)
+    filling-done (p16 .args .base) (p16 .args .start) (p16 .args .input .now) (p16 .args .pos) (p16 .args .index) (p16 .args .table .now) (p11 .loop .table)
     (p11 .loop .rest .now) (p11 .loop .at) (p11 .loop .count) (p11 .loop .inv .2)
-    (contents-room (p16 .args .base) (p16 .args .input .now) (p16 .args .pos) (p13 .if1 .left) (p16 .pre .1 .1)) (p13 .if1 .left)
+    (contents-room (p16 .args .base) (p16 .args .start) (p16 .args .input .now) (p16 .args .pos) (p13 .if1 .left) (p16 .pre .1 .1 .0)) (p13 .if1 .left)
     (p9 .read-bundle-element .ensures) (p5 .enum-told .given .1) (p3 .bundle-item .ensures) (p2 .put-record .ensures)))
     (λ t. decode-packet-lts.spec (
       read-start-reads.Asked,
@@ -343,14 +343,23 @@ pub +decode-bundle+decode-packet+read-bundle-element-spec : {M : Type 1} → sta
       bundle-start-in (p7 .args .input .now) (p7 .args .pos) (sym (p2 .used .given .1) ∙ (p4 .read-start .ensures)),
       (p7 .pre .1 .0),
     ))
+    (λ c. let p2 = c .before .before in let p4 = p2 .before .before in let p7 = p4 .before .before .before in
+    omega (
+      arith,
+      bundle-start-in (p7 .args .input .now) (p7 .args .pos) (sym (p2 .used .given .1) ∙ (p4 .read-start .ensures)),
+      (p7 .pre .1 .0),
+    ))
     (λ c κs. let p3 = c .before .before .before in let p5 = p3 .before .before in let p8 = p5 .before .before .before in
     let w = bundle-start-in (p8 .args .input .now) (p8 .args .pos) (sym (p3 .used .given .1) ∙ (p5 .read-start .ensures)) in (
       omega (arith, (c .before .decode-bundle-arg .given .2)),
       (
         omega (arith, (c .before .decode-bundle-arg .given .2), (p8 .pre .1 .0)),
-        bundle-room (p8 .args .base) (p8 .args .input .now) _
-            (p8 .args .pos) (sym (p3 .used .given .1) ∙ (p5 .read-start .ensures)) (tail (p8 .args .input .now) (p3 .used .given .0 .0))
-            (p8 .pre .1 .1),
+        (
+          bundle-room (p8 .args .base) (p8 .args .input .now) _
+              (p8 .args .pos) (sym (p3 .used .given .1) ∙ (p5 .read-start .ensures)) (tail (p8 .args .input .now) (p3 .used .given .0 .0))
+              (p8 .pre .1 .1),
+          omega (arith, (p8 .pre .1 .0)),
+        ),
       ),
     ))
     (λ c. search needs)

@@ -15,7 +15,7 @@ read-osc-args-requires c κs =
     let a = p8 .args in (
       search needs,
       put-room (a .item) (readArgs (a .base) (a .tags .now) (a .input .now) (a .pos)) (p8 .pre .1 .1) (p8 .pre .1 .0)
-          (omega (arith, wrote-length _ _ _ (p3 .put-record .ensures), length-lent (p3 .put-record .last .0) 16)),
+          (omega (arith, wrote-length _ _ _ (p3 .put-record .ensures), length-lent (p3 .put-record .last .0) recordSize)),
     )
 
 returns : tie.Need-returns

@@ -88,6 +88,11 @@ add-decode-bundle c =
     let a = p7 .args in
     omega (arith, bundle-start-in (a .input .now) (a .pos) (sym (p2 .used .given .1) ∙ p4 .read-start .ensures), p7 .pre .0)
 
+add-decode-bundle-2 : tie.Need-add-decode-bundle-2
+add-decode-bundle-2 c =
+    let p7 = c .before .before .before .before .before .before .before in
+    omega (arith, p7 .pre .0)
+
 decode-bundle-requires : tie.Need-decode-bundle-requires
 decode-bundle-requires c κs =
     let p3 = c .before .before .before in
@@ -96,8 +101,11 @@ decode-bundle-requires c κs =
     let a = p8 .args in
     let w = bundle-start-in (a .input .now) (a .pos) (sym (p3 .used .given .1) ∙ p5 .read-start .ensures) in (
       omega (arith, c .before .decode-bundle-arg .given .2, p8 .pre .0),
-      bundle-room (a .base) (a .input .now) _ (a .pos) (sym (p3 .used .given .1) ∙ p5 .read-start .ensures)
-          (tail (a .input .now) (p3 .used .given .0 .0)) (p8 .pre .1 .0),
+      (
+        bundle-room (a .base) (a .input .now) _ (a .pos) (sym (p3 .used .given .1) ∙ p5 .read-start .ensures)
+            (tail (a .input .now) (p3 .used .given .0 .0)) (p8 .pre .1 .0),
+        omega (arith, p8 .pre .0),
+      ),
     )
 
 returns : tie.Need-returns
@@ -144,6 +152,7 @@ write-packet-spec =
     part-decode-bundle-start
     (λ c. search needs)
     add-decode-bundle
+    add-decode-bundle-2
     decode-bundle-requires
     (λ c. search needs)
     (λ c. search needs)
