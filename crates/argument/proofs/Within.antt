@@ -83,12 +83,14 @@ module _ {item : Item} {used : ℕ} (tag : ℕ) (class : Class) (base : ℕ) (l 
       subst (Holds (λ item used. item .start ≡ base + p)) (sym e)
       (arg-holds (λ item used. item .start ≡ base + p) tag base l p (λ h. refl) (λ h. refl) refl (λ n used f. refl) (λ h k. refl) class)
 
-  -- its fields fit in 4 bytes
-  pub given-fits : ((j : ℕ) → getD l j 0 < 256) → base + p + length l < 256 ^ 4 → (item .a < 256 ^ 4) × (item .b < 256 ^ 4)
+  -- its fields and its start fit in 4 bytes
+  pub given-fits : ((j : ℕ) → getD l j 0 < 256) → base + p + length l < 256 ^ 4
+      → (item .a < 256 ^ 4) × (item .b < 256 ^ 4) × (item .start < 256 ^ 4)
   given-fits bytes low =
-      let P : Item → ℕ → Type 0 = λ item used. (item .a < 256 ^ 4) × (item .b < 256 ^ 4) in
+      let P : Item → ℕ → Type 0 = λ item used. (item .a < 256 ^ 4) × (item .b < 256 ^ 4) × (item .start < 256 ^ 4) in
+      let s : base + p < 256 ^ 4 = omega arith in
       let n : number 4 l < 256 ^ 4 = number-small 4 l bytes in
       let m : number 4 (drop 4 l) < 256 ^ 4 = number-small 4 (drop 4 l) (drop-small 4 l bytes) in
       subst (Holds P) (sym e)
-      (arg-holds P tag base l p (λ h. (n, omega arith)) (λ h. (n, m)) (omega arith, omega arith)
-      (λ k used f. (omega arith, omega (arith, found-in l p f))) (λ h k. (omega arith, n)) class)
+      (arg-holds P tag base l p (λ h. (n, omega arith, s)) (λ h. (n, m, s)) (omega arith, omega arith, s)
+      (λ k used f. (s, omega (arith, found-in l p f), s)) (λ h k. (omega arith, n, s)) class)

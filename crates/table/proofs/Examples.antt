@@ -19,26 +19,26 @@ use Rattle.table.proofs.Theorem.{tree-formed, bytes-tree}
 abbrev pub packet : List ℕ
 packet = 0x2F ∷ 0x61 ∷ 0 ∷ 0 ∷ 0x2C ∷ 0x69 ∷ 0 ∷ 0 ∷ 0 ∷ 0 ∷ 0 ∷ 5 ∷ []
 
--- a message and an integer, as P3 has them where length is 2 and end is 2
+-- a message and an integer, as P3 has them where length is 2 and end is 2; their data begins at 0 and at 8
 abbrev pub table : (length end : ℕ) → List ℕ
 table length end =
-    0x2F ∷ 0 ∷ 0 ∷ 0 ∷ 0 ∷ 0 ∷ 0 ∷ 2 ∷ 0 ∷ 0 ∷ 0 ∷ 0 ∷ 0 ∷ 0 ∷ 0 ∷ length
-    ∷ 0x69 ∷ 0 ∷ 0 ∷ 0 ∷ 0 ∷ 0 ∷ 0 ∷ end ∷ 0 ∷ 0 ∷ 0 ∷ 5 ∷ 0 ∷ 0 ∷ 0 ∷ 0 ∷ []
+    0x2F ∷ 0 ∷ 0 ∷ 0 ∷ 0 ∷ 0 ∷ 0 ∷ 2 ∷ 0 ∷ 0 ∷ 0 ∷ 0 ∷ 0 ∷ 0 ∷ 0 ∷ length ∷ 0 ∷ 0 ∷ 0 ∷ 0
+    ∷ 0x69 ∷ 0 ∷ 0 ∷ 0 ∷ 0 ∷ 0 ∷ 0 ∷ end ∷ 0 ∷ 0 ∷ 0 ∷ 5 ∷ 0 ∷ 0 ∷ 0 ∷ 0 ∷ 0 ∷ 0 ∷ 0 ∷ 8 ∷ []
 
 -- P3's message: its address has 2 bytes from 0 on
 abbrev pub message : Item
-message = record { kind = messageKind; a = 0; b = 2 }
+message = record { kind = messageKind; a = 0; b = 2; start = 0 }
 
 -- the integer that it contains
 abbrev pub five : Forest
-five = node (record { kind = 105; a = 5; b = 0 }) nil nil
+five = node (record { kind = 105; a = 5; b = 0; start = 8 }) nil nil
 
 -- P3's table is the tree of a message with one integer
 pub p3-tree : IsTree (table 2 2) 2 packet message five
 unfolding number bytes size classOf sortOf recordOf recordsOf ownRules rangeOk allowed Obeys FieldsFit
 p3-tree =
     bytes-tree (table 2 2) [] packet message five refl
-    (omega arith, omega arith, (omega arith, omega arith, tt, tt), tt) (omega arith)
+    (omega arith, omega arith, omega arith, (omega arith, omega arith, omega arith, tt, tt), tt) (omega arith)
     (refl, refl, refl, (refl, refl, refl, tt, tt), tt)
 
 -- so it is well formed

@@ -12,7 +12,7 @@ use Rattle.wire.specs.Number.{number, bytes}
 use Rattle.wire.proofs.Choices.{lt-or-le}
 use Rattle.wire.proofs.Numbers.{length-bytes, read-written, number-bytes}
 use Rattle.node.specs.Forest.{Forest, nil, node, size}
-use Rattle.node.specs.Records.{recordSize, recordStart, recordOf, recordsOf, kindAt, zerosAt, fieldAt, endAt, aAt, itemAt}
+use Rattle.node.specs.Records.{recordSize, recordStart, recordOf, recordsOf, kindAt, zerosAt, fieldAt, endAt, aAt, bAt, itemAt}
 use Rattle.node.proofs.Recorded.{length-record, length-records, item-read}
 use Rattle.node.specs.declared.record.Item.{Item}
 use Rattle.table.specs.Tree.{Spans, FieldsFit}
@@ -20,7 +20,8 @@ use Rattle.table.proofs.Spanned.{spans-size}
 
 -- a record before other bytes, field by field
 record-before : (item : Item) (e : ℕ) (more : List ℕ)
-    → recordOf item e ++ more ≡ item .kind ∷ 0 ∷ 0 ∷ 0 ∷ (bytes 4 e ++ (bytes 4 (item .a) ++ (bytes 4 (item .b) ++ more)))
+    → recordOf item e ++ more
+    ≡ item .kind ∷ 0 ∷ 0 ∷ 0 ∷ (bytes 4 e ++ (bytes 4 (item .a) ++ (bytes 4 (item .b) ++ (bytes 4 (item .start) ++ more))))
 unfolding recordOf
 record-before item e more = simp append-assoc
 
@@ -47,11 +48,13 @@ module _ (t : List ℕ) (small : (i : ℕ) → getD t i 0 < 256) where
       = number-bytes t small 3 (p + 1) (p + 4) (omega arith) (omega arith) ∙ rw (z, three-zeros) in
       let e = number-bytes t small 4 (p + 4) (p + 8) (omega arith) (omega arith) in
       let a = number-bytes t small 4 (p + 8) (p + 12) (omega arith) (omega arith) in
-      let b = number-bytes t small 4 (p + 12) (recordStart (i + 1)) (omega arith) h in
+      let b = number-bytes t small 4 (p + 12) (p + 16) (omega arith) (omega arith) in
+      let s = number-bytes t small 4 (p + 16) (recordStart (i + 1)) (omega arith) h in
       drop-cons t p 0 (omega arith)
       ∙ ap (λ (l : List ℕ). getD t p 0 ∷ l) (ap (λ (n : ℕ). drop n t) (sym (add-one p)) ∙ x)
       ∙ ap (λ (l : List ℕ). getD t p 0 ∷ 0 ∷ 0 ∷ 0 ∷ l)
-      (e ∙ ap (λ (l : List ℕ). bytes 4 (endAt t i) ++ l) (a ∙ ap (λ (l : List ℕ). bytes 4 (aAt t i) ++ l) b))
+      (e ∙ ap (λ (l : List ℕ). bytes 4 (endAt t i) ++ l)
+      (a ∙ ap (λ (l : List ℕ). bytes 4 (aAt t i) ++ l) (b ∙ ap (λ (l : List ℕ). bytes 4 (bAt t i) ++ l) s)))
       ∙ sym (record-before (itemAt t i) (endAt t i) (drop (recordStart (i + 1)) t))
 
   -- the bytes from record lo on are those of the forest, and then those from record hi on
@@ -82,18 +85,20 @@ further : (t xs ys : List ℕ) (p n q : ℕ) → p + n ≡ q → length xs ≡ n
 further t xs ys p n q e l h = rw (← e, ← drop-drop, h) (drop-at xs ys n l)
 
 record-read : (t more : List ℕ) (i : ℕ) (item : Item) (end : ℕ) → end < 256 ^ 4 → item .a < 256 ^ 4 → item .b < 256 ^ 4
-    → drop (recordStart i) t ≡ recordOf item end ++ more → Read t i item end
+    → item .start < 256 ^ 4 → drop (recordStart i) t ≡ recordOf item end ++ more → Read t i item end
 unfolding kindAt zerosAt fieldAt number
-record-read t more i item end he ha hb h =
+record-read t more i item end he ha hb hs h =
     let p = recordStart i in
     let h₀ = h ∙ record-before item end more in
     let h₁ = further t (item .kind ∷ []) _ p 1 (p + 1) refl refl h₀ in
     let h₄ = further t (item .kind ∷ 0 ∷ 0 ∷ 0 ∷ []) _ p 4 (p + 4) refl refl h₀ in
     let h₈ = further t (bytes 4 end) _ (p + 4) 4 (p + 8) (omega arith) (length-bytes 4 end) h₄ in
     let h₁₂ = further t (bytes 4 (item .a)) _ (p + 8) 4 (p + 12) (omega arith) (length-bytes 4 (item .a)) h₈ in
+    let h₁₆ = further t (bytes 4 (item .b)) _ (p + 12) 4 (p + 16) (omega arith) (length-bytes 4 (item .b)) h₁₂ in
     record {
       same = sym (item-read t i (sym (sym (rw add-zero at (getD-drop p t 0 0)) ∙ ap (λ (l : List ℕ). getD l 0 0) h₀))
-          (sym (ap (number 4) h₈ ∙ read-written 4 (item .a) _ ha)) (sym (ap (number 4) h₁₂ ∙ read-written 4 (item .b) _ hb)));
+          (sym (ap (number 4) h₈ ∙ read-written 4 (item .a) _ ha)) (sym (ap (number 4) h₁₂ ∙ read-written 4 (item .b) _ hb))
+          (sym (ap (number 4) h₁₆ ∙ read-written 4 (item .start) _ hs)));
       zeros = ap (number 3) h₁;
       ends = ap (number 4) h₄ ∙ read-written 4 end _ he;
     }
@@ -114,9 +119,9 @@ records-held t more lo hi (node item inside rest) f n small h =
     let h₁ = further t (recordOf item end) _ (recordStart lo) recordSize (recordStart (lo + 1)) (omega arith) (length-record item end) h₀ in
     let h₂ = further t (recordsOf (lo + 1) inside) _ (recordStart (lo + 1)) (recordStart (size inside)) (recordStart end) (omega arith)
     (length-records (lo + 1) inside) h₁ in
-    let r = record-read t _ lo item end (omega arith) (f .0) (f .1) h₀ in
-    let x = records-held t _ (lo + 1) end inside (f .2) refl (omega arith) h₁ in
-    let y = records-held t more end hi rest (f .3) (omega arith) small h₂ in
+    let r = record-read t _ lo item end (omega arith) (f .0) (f .1) (f .2) h₀ in
+    let x = records-held t _ (lo + 1) end inside (f .3) refl (omega arith) h₁ in
+    let y = records-held t more end hi rest (f .4) (omega arith) small h₂ in
     record {
       spans = (r .same, rw (r .ends) (x .spans), rw (r .ends) (y .spans));
       zeros = λ i l m.

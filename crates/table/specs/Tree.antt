@@ -38,7 +38,8 @@ pub record Row (t : List ℕ) (lo hi : ℕ) : Type 0 where
   pub spans : Spans t lo hi forest
   pub table : recordSize * hi ≤ length t
 
--- the fields a and b of every node fit the four bytes of a record
+-- the fields a and b and the start of every node fit the four bytes of a record
 unfoldable pub FieldsFit : Forest → Type 0
 FieldsFit nil = Unit {0}
-FieldsFit (node item inside rest) = (item .a < 256 ^ 4) × (item .b < 256 ^ 4) × FieldsFit inside × FieldsFit rest
+FieldsFit (node item inside rest) =
+    (item .a < 256 ^ 4) × (item .b < 256 ^ 4) × (item .start < 256 ^ 4) × FieldsFit inside × FieldsFit rest

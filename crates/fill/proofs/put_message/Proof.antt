@@ -2,6 +2,7 @@
 use Rattle.wire.proofs.Parts.{length-lent}
 use Rattle.wire.proofs.Writers.{wrote-length}
 use Rattle.fill.proofs.Fills.{put-room, put-stored}
+use Rattle.node.specs.Records.{recordSize}
 use Rattle.arguments.specs.Arguments.{readArgs}
 use native.Mathlib.Omega.{arith}
 use borrow.Author.Needs.{needs}
