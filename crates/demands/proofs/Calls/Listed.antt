@@ -20,16 +20,15 @@ use Rattle.wire.specs.declared.Padded.{Padded}
 use Rattle.packet.specs.Packet.{Out, fault, one, readPacket}
 use Rattle.decoder.specs.Framing.{Whole, trees, waiting, refusal, single, udp, Frame, wait, read, readFrame, tcp, before, afterFrame}
 use Rattle.decoder.specs.Framing.{framesAt, readFrames, tcpVec}
-use Rattle.decoder.specs.Framing.{Whole, trees, waiting, refusal, single, udp, Frame, wait, read, readFrame, tcp, before, afterFrame}
-use Rattle.decoder.specs.Framing.{framesAt, readFrames, tcpVec}
 use Rattle.decoder.specs.declared.Framing.the-variants.{Udp, Tcp, TcpVec}
-use Rattle.decoder.specs.Limits.{limited, decoded}
+use Rattle.decoder.specs.Limits.{decodeOrder, limited, decoded}
 use Rattle.decoder.specs.declared.Decoded.{Decoded}
 use Rattle.strings.specs.Atomic.{oscString}
 use Rattle.writers.specs.Osc.{writePacket}
-use Rattle.encoder.specs.Outcome.{Outcome, bytesOutcome, treeOutcome, Encodes, malformed, formed, stringOutcome}
+use Rattle.encoder.specs.Outcome.{encodeOrder, stringOrder, Outcome, bytesOutcome, treeOutcome, Encodes, malformed, formed}
+use Rattle.encoder.specs.Outcome.{stringOutcome}
 use Rattle.demands.specs.Calls.{decode, encode, encode-tcp, encode-string, pad, look, text-of}
-use Rattle.demands.specs.Calls.{byDecoded, byEncoded, byPadded, byLooked, decodeOrder, encodeOrder, numbersOf, Listed}
+use Rattle.demands.specs.Calls.{byDecoded, byEncoded, byPadded, byLooked, numbersOf, Listed}
 use Rattle.demands.specs.Calls.{AnswersListed}
 use Rattle.wire.proofs.Choices.{by-test, by-le}
 use Rattle.decoder.proofs.Chosen.{by-decoded, by-trees}
@@ -118,11 +117,10 @@ encodes-listed {frame} {source = source} {out = out} (formed item inside w e) =
     (by-le (Encoding encodeOrder) (depth (node item inside nil)) deepest
     (λ h. write-listed encodeOrder (frame (item .kind) (writePacket source item inside)) out refl refl) (λ h. refl))
 
-string-listed : (text out : List ℕ) → Encoding (numbersOf (encode-string text out)) (stringOutcome text out)
+string-listed : (text out : List ℕ) → Encoding stringOrder (stringOutcome text out)
 unfolding stringOutcome
 string-listed text out =
-    let numbers = numbersOf (encode-string text out) in
-    by-test (Encoding numbers) (utf8 text) (λ h. write-listed numbers (oscString text) out refl refl) (λ h. refl)
+    by-test (Encoding stringOrder) (utf8 text) (λ h. write-listed stringOrder (oscString text) out refl refl) (λ h. refl)
 
 -- ---- `pad` and `look`
 
@@ -150,7 +148,7 @@ listed (decode Tcp msg table limit) e m = decoded-listed true tcp _ limit msg (m
 listed (decode TcpVec msg table limit) e m = decoded-listed false tcpVec _ limit msg (m .answered) (vec-never msg)
 listed (encode table count source out) e m = encodes-listed m
 listed (encode-tcp table count source out) e m = encodes-listed m
-listed (encode-string text out) e m = subst (Encoding (numbersOf (encode-string text out))) (sym m) (string-listed text out)
+listed (encode-string text out) e m = subst (Encoding stringOrder) (sym m) (string-listed text out)
 listed (pad pos) e m = subst (Padding pos) (sym m) (pad-listed pos)
 listed (look table index) e m = subst (Looking table index) (sym m) (look-listed table index)
 listed (text-of value packet label) e m = tt
