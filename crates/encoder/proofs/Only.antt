@@ -8,8 +8,8 @@ use Rattle.table.proofs.Spanned.{spans-unique}
 use Rattle.table.proofs.Theorem.{tree-formed}
 use Rattle.encoder.specs.Outcome.{Outcome, unframed, prefixed, treeOutcome, Encodes, malformed, formed, stringOutcome}
 
--- a table has one tree, or none
-encodes-only : (frame : ℕ → List ℕ → List ℕ) (t : List ℕ) (count : ℕ) (source out : List ℕ) (r s : Outcome)
+-- an encoder has one outcome, whatever its frame: a table has one tree, or none
+pub encodes-only : (frame : ℕ → List ℕ → List ℕ) (t : List ℕ) (count : ℕ) (source out : List ℕ) (r s : Outcome)
     → Encodes frame t count source out r → Encodes frame t count source out s → r ≡ s
 encodes-only frame t count source out r s (malformed n e) (malformed m f) = one-outcome e f
 encodes-only frame t count source out r s (malformed n e) (formed item inside tree f) = absurd (n (tree-formed tree))

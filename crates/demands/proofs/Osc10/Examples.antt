@@ -4,6 +4,7 @@ use mathlib.Core.List.{List, [], _∷_}
 use Prim.Native.Nat.{ℕ}
 use native.Mathlib.Omega.{arith}
 use Rattle.wire.specs.Number.{bytes}
+use Rattle.decoder.specs.Framing.{udp}
 use Rattle.demands.specs.Words.{NoNul}
 use Rattle.demands.specs.Osc10.{end, atom, word, Packet, message, bundle, none, also, ArgumentsAllowed, Allowed, AllAllowed, deep}
 use Rattle.demands.specs.Osc10.{tagsOf, as-word, no-argument, one-atom, Spells, as-message, as-bundle, no-element, element}
@@ -33,7 +34,7 @@ p3-spelled =
     (one-atom as-word no-argument)
 
 -- P3 is accepted
-pub p3-accepted : AcceptedAs p3 p3-bytes
+pub p3-accepted : AcceptedAs udp p3 p3-bytes
 unfolding deep
 p3-accepted = osc10-accepted p3 p3-bytes p3-allowed p3-spelled (omega arith) (omega arith)
 
@@ -55,6 +56,6 @@ held-spelled =
     as-bundle (record { additional = 0; few = omega arith; spelled = refl; multiple = refl }) (element refl p3-spelled no-element)
 
 -- so is the bundle that holds it
-pub held-accepted : AcceptedAs held held-bytes
+pub held-accepted : AcceptedAs udp held held-bytes
 unfolding deep
 held-accepted = osc10-accepted held held-bytes held-allowed held-spelled (omega arith) (omega arith)

@@ -44,7 +44,7 @@ record Back (t : List ℕ) (count : ℕ) (source l table : List ℕ) : Type 0 wh
 
 module _ {t : List ℕ} {count : ℕ} {source : List ℕ} {item : Item} {inside : Forest} (w : IsTree t count source item inside) where
   read-back : (l table : List ℕ) → length l ≤ longest → count ≤ capacity table → (S : Spelled source item inside l)
-      → AcceptedAs (S .packet) l
+      → AcceptedAs udp (S .packet) l
       → Back t count source l table
   read-back l table low room S A =
       let F = node item inside nil in
@@ -68,9 +68,9 @@ round-trip t count source item inside w out room r e table enough =
     (omega (arith, w .shallow, tree-deep (S .packet) (S .stands))) in
     let B = read-back (w .formed) bs table (w .fits) enough S A in
     let written = written-all source out item inside (w .shallow) (w .fits) room in
-    let held : take (length bs) (treeOutcome unframed source out item inside .out) ≡ bs = written-held source out item inside (length bs)
+    let held : take (length bs) (treeOutcome unframed source out item inside .out) ≡ bs = written-held unframed source out item inside (length bs)
     written in
-    rw (outcome-is (w .formed) e)
+    rw (outcome-is unframed (w .formed) e)
     (record {
       n = length bs;
       written = written;
