@@ -15,6 +15,7 @@ pub mod Parts
 pub mod Arguments
 pub mod Packets
 pub mod Accepted
+pub mod Seen
 pub mod Strict
 pub mod Spelled
 pub mod Written

@@ -1,12 +1,12 @@
 -- OSC 1.0's own packets are allowed; a tree that has only what OSC 1.0 has is clean, and the packet that it is is OSC 1.0's own.
-use mathlib.Core.Path.{_≡_, refl, sym}
-use mathlib.Core.Bool.{Bool, true, false, cond}
+use mathlib.Core.Path.{_≡_, refl}
+use mathlib.Core.Bool.{Bool, true, false}
 use mathlib.Core.List.{List, [], _∷_}
-use Prim.Native.Nat.{ℕ, _<_}
+use Prim.Native.Nat.{ℕ}
 use native.Mathlib.Omega.{arith}
 use borrow.Author.Tests.{lt-ltb}
 use lib.Dec.{eqb}
-use Rattle.node.specs.Tags.{messageKind, isScalar}
+use Rattle.node.specs.Tags.{messageKind}
 use Rattle.node.specs.Forest.{Forest, nil, node}
 use Rattle.node.specs.declared.record.Item.{Item}
 use Rattle.demands.specs.Words.{NoNul, bytesNamed, CleanNode, Clean}
