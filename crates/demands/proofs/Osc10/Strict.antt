@@ -6,15 +6,17 @@ use Prim.Native.Nat.{ℕ}
 use native.Mathlib.Omega.{arith}
 use borrow.Author.Tests.{lt-ltb}
 use lib.Dec.{eqb}
-use Rattle.node.specs.Tags.{messageKind}
+use Rattle.node.specs.Tags.{messageKind, among}
 use Rattle.node.specs.Forest.{Forest, nil, node}
 use Rattle.node.specs.declared.record.Item.{Item}
 use Rattle.demands.specs.Words.{NoNul, bytesNamed, CleanNode, Clean}
 use Rattle.demands.specs.Osc10.{Atom, word, long, bare, string, blob, char, OscArguments, end, atom, array, Packet, message, bundle}
 use Rattle.demands.specs.Osc10.{Packets, none, also, IsText, AtomAllowed, ArgumentsAllowed, Allowed, AllAllowed, AtomIs, ArgumentsAre}
-use Rattle.demands.specs.Osc10.{no-node, leaf, branch, StandsFor, is-message, is-bundle, StandFor, no-packet, packet}
+use Rattle.demands.specs.Osc10.{words, longs, bares, no-node, leaf, branch, StandsFor, is-message, is-bundle, StandFor, no-packet, packet}
 use Rattle.demands.specs.Strict.{All, Ascii, AddressCharacter, AtomStrict, ArgumentsStrict, StrictIn, AllStrict, Strict, StrictNode}
 use Rattle.demands.specs.Strict.{StrictForest}
+use Rattle.demands.specs.Standards.{StrictTree}
+use Rattle.demands.proofs.Osc10.Tags.{of-among}
 use Rattle.demands.proofs.Osc10.Packets.{ascii-text, no-text}
 
 -- ---- what is OSC 1.0's own is allowed
@@ -80,6 +82,12 @@ strict-clean source time (node item inside rest) h =
     (clean-node source time item (h .0), strict-clean source _ inside (h .1), strict-clean source time rest (h .2))
 
 module _ (source : List ℕ) where
+  -- a node of a kind of which nothing is asked
+  plain-node : (time : ℕ) (item : Item) (tag : ℕ) (tags : List ℕ)
+      → All (λ k. StrictNode source time (record { kind = k; a = item .a; b = item .b })) tags → among tag tags ≡ true
+      → StrictNode source time (record { kind = tag; a = item .a; b = item .b })
+  plain-node time item = of-among (λ k. StrictNode source time (record { kind = k; a = item .a; b = item .b }))
+
   atom-strict : (time : ℕ) (v : Atom) {item : Item} → AtomAllowed v → AtomIs source v item → StrictNode source time item → AtomStrict v
   unfolding StrictNode
   atom-strict time (word tag x) h w s = h
@@ -113,3 +121,40 @@ module _ (source : List ℕ) where
         → AllStrict time Ps
     strict-packets time none h no-packet s = tt
     strict-packets time (also P Ps) h (packet {g = g} x r) s = (strict-packet time P g (h .0) x s, strict-packets time Ps (h .1) r (s .2))
+
+  -- ---- and back
+
+  atom-node : (time : ℕ) (v : Atom) {item : Item} → AtomIs source v item → AtomStrict v → StrictNode source time item
+  unfolding StrictNode
+  atom-node time (word tag x) {item} w h = rw (w .kind) (plain-node time item tag words (tt, (tt, (tt, (tt, tt)))) (h .0))
+  atom-node time (long tag high low) {item} w h = rw (w .kind) (plain-node time item tag longs (tt, (tt, (tt, tt))) (h .0))
+  atom-node time (bare tag) {item} w h = rw (w .kind) (plain-node time item tag bares (tt, (tt, (tt, (tt, tt)))) h)
+  atom-node time (string text) w h = rw (w .kind, w .numbers .holds) h
+  atom-node time (blob content) w h = rw (w .kind) tt
+  atom-node time (char x) w h = rw (w .kind, w .numbers .0) h
+
+  arguments-node : (time : ℕ) (A : OscArguments) {F : Forest} → ArgumentsAre source A F → ArgumentsStrict A → StrictForest source time F
+  unfolding ArgumentsStrict StrictForest StrictNode
+  arguments-node time end no-node h = tt
+  arguments-node time (atom v rest) (leaf x r) h = (atom-node time v x (h .0), tt, arguments-node time rest r (h .1))
+  arguments-node time (array within rest) (branch w x r) h =
+      (rw (w .kind) tt, arguments-node _ within x (h .0), arguments-node time rest r (h .1))
+
+  mutual
+    unfolding StrictIn AllStrict StrictNode StrictForest
+
+    tree-strict : (time : ℕ) (P : Packet) {item : Item} {f : Forest} (g : Forest) → StandsFor source P item f → StrictIn time P
+        → StrictForest source time g → StrictForest source time (node item f g)
+    tree-strict time (message address A) g (is-message m x) h s =
+        (rw (m .kind, m .range .holds) (h .0, h .1), arguments-node _ A x (h .2), s)
+    tree-strict time (bundle x y Ps) g (is-bundle b r) h s =
+        (rw (b .kind, b .first, b .second) (h .0), rw (b .first, b .second) (trees-strict _ Ps r (h .3)), s)
+
+    trees-strict : (time : ℕ) (Ps : Packets) {F : Forest} → StandFor source Ps F → AllStrict time Ps → StrictForest source time F
+    trees-strict time none no-packet h = tt
+    trees-strict time (also P Ps) (packet {g = g} x r) h = tree-strict time P g x (h .0) (trees-strict time Ps r (h .1))
+
+  -- a tree that stands for a packet of OSC 1.0's own has only what OSC 1.0 has
+  pub strict-tree : (P : Packet) {item : Item} {f : Forest} → StandsFor source P item f → Strict P → StrictTree source item f
+  unfolding StrictForest
+  strict-tree P x h = tree-strict 0 P nil x h tt
