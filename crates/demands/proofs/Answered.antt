@@ -1,18 +1,20 @@
 -- What an answer with packets shows of the input and of the table.
-use mathlib.Core.Path.{_≡_, sym, ap, _∙_}
+use mathlib.Core.Path.{_≡_, sym, ap, subst, _∙_}
 use mathlib.Core.List.{List, _++_}
-use Prim.Native.Nat.{ℕ, _*_}
+use Prim.Native.Nat.{ℕ, _*_, _^_, _≤_, _<_}
 use native.Mathlib.Omega.{arith}
-use lib.ListN.{take, drop}
+use lib.ListN.{length, take, drop, length-append}
 use lib.Seq.{take-at}
-use Rattle.node.specs.Forest.{size}
+use Rattle.node.specs.Forest.{Forest, size}
 use Rattle.node.specs.Records.{recordSize, recordsOf, stored}
 use Rattle.decoder.specs.Framing.{Whole, trees, waiting, refusal}
 use Rattle.decoder.specs.Limits.{limited, decoded, forestOf, tabled}
 use Rattle.decoder.specs.declared.Decoded.{Decoded}
 use Rattle.decoder.specs.declared.Decoded.the-variants.{Packets}
+use Rattle.table.specs.Tree.{FieldsFit}
 use Rattle.demands.specs.Demands.{answerTo, tableAfter}
 use Rattle.node.proofs.Recorded.{length-records}
+use Rattle.table.proofs.Held.{Holds, records-held}
 use Rattle.decoder.proofs.Chosen.{by-decoded, by-trees}
 use Rattle.decoder.proofs.Answers.{no-packets}
 
@@ -44,6 +46,21 @@ module _ {count left : ℕ} where
         table
     unfolding stored
     after-is = ap (λ (r : Decoded). tabled r (forestOf (rule msg)) table) e
+
+    -- it has room for them
+    pub after-fits : recordSize * count ≤ length (tableAfter rule limit msg table)
+    after-fits =
+        let f = forestOf (rule msg) in
+        let c = accepted rule _ limit msg e .counts in
+        omega (arith, ap length after-is, length-append (recordsOf 0 f) (drop (recordSize * size f) table), length-records 0 f)
+
+    -- where their numbers fit, the trees stand in it
+    pub after-held : (F : Forest) → forestOf (rule msg) ≡ F → FieldsFit F → count < 256 ^ 4
+        → Holds (tableAfter rule limit msg table) 0 count F
+    after-held F p f n =
+        let t = tableAfter rule limit msg table in
+        let c = accepted rule _ limit msg e .counts in
+        subst (λ (x : Forest). Holds t 0 count x) p (records-held t _ 0 count (forestOf (rule msg)) (rw p f) (omega arith) n after-is)
 
     -- the records that were counted are the trees'
     pub after-records : take (recordSize * count) (tableAfter rule limit msg table) ≡ recordsOf 0 (forestOf (rule msg))

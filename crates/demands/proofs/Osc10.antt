@@ -4,9 +4,10 @@
 --     Parts       what is spelled, read: texts, blobs and the data of one argument
 --     Arguments   what is spelled, read: arguments
 --     Packets     what is spelled, read: packets
---     Accepted    every packet that OSC 1.0 allows is accepted as what it is
+--     Accepted    every packet that OSC 1.0 allows is accepted as what it is, bare and in its frame
+--     Strict      the narrower grammar of OSC 1.0's own packets and the wider; trees that have only what OSC 1.0 has
 --     Spelled     the bytes of a tree spell the packet that the tree is
---     Written     what `encode` writes is a packet that OSC 1.0 allows
+--     Written     what `encode` writes is a packet that OSC 1.0 allows, and what `encode_tcp` writes for a message is its frame
 --     Examples    packets that meet the hypotheses
 pub mod Tags
 pub mod Trees
@@ -14,6 +15,8 @@ pub mod Parts
 pub mod Arguments
 pub mod Packets
 pub mod Accepted
+pub mod Seen
+pub mod Strict
 pub mod Spelled
 pub mod Written
 pub mod Examples

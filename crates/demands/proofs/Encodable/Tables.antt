@@ -2,16 +2,16 @@
 -- table that was answered for one packet is well formed.
 use mathlib.Core.Path.{_≡_, refl, sym, ap, subst}
 use mathlib.Core.Logic.{⊎-elim}
-use mathlib.Core.List.{List, _++_}
-use Prim.Native.Nat.{ℕ, zero, suc, _+_, _*_, _^_, _≤_, _<_}
+use mathlib.Core.List.{List}
+use Prim.Native.Nat.{ℕ, zero, suc, _+_, _^_, _≤_, _<_}
 use native.Mathlib.Omega.{arith}
 use borrow.Author.Tests.{le-leb, lt-leb}
-use lib.ListN.{length, drop, length-append}
+use lib.ListN.{length, drop}
 use Rattle.wire.specs.Limits.{longest, deepest}
 use Rattle.refusal.specs.declared.Refusal.the-variants.{TableFull}
 use Rattle.node.specs.Forest.{Forest, nil, node, size, depth}
 use Rattle.node.specs.Tags.{bundleKind}
-use Rattle.node.specs.Records.{recordSize, recordsOf, itemAt, capacity}
+use Rattle.node.specs.Records.{itemAt, capacity}
 use Rattle.node.specs.declared.record.Item.{Item}
 use Rattle.packet.specs.Heads.{prefixOf}
 use Rattle.packet.specs.Packet.{Out, fault, one, readPacket}
@@ -28,14 +28,12 @@ use Rattle.demands.specs.Words.{Bytes}
 use Rattle.demands.specs.Demands.{tableAfter, RecordsHold, AreTrees, GivesTrees, Encodable}
 use Rattle.wire.proofs.Choices.{by-le, lt-or-le}
 use Rattle.packet.proofs.Heads.{prefix-in}
-use Rattle.node.proofs.Recorded.{length-records}
 use Rattle.table.proofs.Grown.{kept-of}
-use Rattle.table.proofs.Held.{records-held}
 use Rattle.table.proofs.Theorem.{tree-formed}
 use Rattle.demands.proofs.Placed.{At, at-all, at-drop}
 use Rattle.decoder.proofs.Chosen.{by-decoded, by-trees}
 use Rattle.decoder.proofs.Answers.{no-packets}
-use Rattle.demands.proofs.Answered.{accepted, after-is}
+use Rattle.demands.proofs.Answered.{accepted, after-fits, after-held}
 use Rattle.demands.proofs.Room.RecordsHold.{records-hold}
 use Rattle.demands.proofs.Encodable.Arguments.{Sound, NodeSound, sound-nil, sound-node}
 use Rattle.demands.proofs.Encodable.Packets.{OutSound, after-sound, packet-sound}
@@ -148,18 +146,16 @@ gives-trees framing msg small limit table count left q =
     let rule = ruleOf framing in
     let F = forestOf (rule msg) in
     let t = tableAfter rule limit msg table in
-    let more = drop (recordSize * size F) table in
     let a = accepted rule (capacity table) limit msg q in
     let w = within rule limit msg F left (a .read) (capacity table) q in
     let n = few rule limit msg F left (a .read) (records-hold framing) w in
     let s : Sound msg bundleKind F = subst (WholeSound msg) (a .read) (whole-sound msg small (omega (arith, w .short)) framing) in
-    let is : t ≡ recordsOf 0 F ++ more = after-is rule limit msg table q in
-    let h = records-held t more 0 count F (s .fits) (omega (arith, a .counts)) (omega (arith, w .short, a .counts)) is in
+    let h = after-held rule limit msg table q F refl (s .fits) (omega (arith, w .short, a .counts)) in
     record {
       spans = h .spans;
       obeys = s .obeys;
       few = omega (arith, w .short, a .counts);
-      fits = omega (arith, ap length is, length-append (recordsOf 0 F) more, length-records 0 F, a .counts);
+      fits = after-fits rule limit msg table q;
       zeros = λ i l. h .zeros i (omega arith) (omega arith);
       reliable = λ i l.
           let k = kept-of t msg bundleKind 0 count F (h .spans) (s .obeys) i (omega arith) (omega arith) in

@@ -1,16 +1,42 @@
--- Examples, computed, that meet the hypotheses of `osc10-accepted`: document 01's P3, and a bundle that holds it.
-use mathlib.Core.Path.{refl}
-use mathlib.Core.List.{List, [], _∷_}
+-- Examples, computed, that meet the hypotheses of `osc10-accepted`, `frame-accepted`, `osc10-seen`, `strict-written` and
+-- `strict-frame-written`: document 01's P3 and a bundle that holds it; a message of OSC 1.0's own with a blob, a double, a character, a
+-- negative integer and a text; a bundle in a bundle that holds it.
+use mathlib.Core.Path.{refl, sym}
+use mathlib.Core.List.{List, [], _∷_, append-nil}
 use Prim.Native.Nat.{ℕ}
 use native.Mathlib.Omega.{arith}
+use lib.ListN.{take, replicate}
 use Rattle.wire.specs.Number.{bytes}
+use Rattle.node.specs.Tags.{messageKind, bundleKind, classOf, sortOf}
+use Rattle.node.specs.Forest.{Forest, nil, node, size, depth}
+use Rattle.node.specs.Records.{recordOf, recordsOf}
+use Rattle.node.specs.Rules.{ownRules}
+use Rattle.node.specs.declared.record.Item.{Item}
+use Rattle.argument.specs.Argument.{argItem}
+use Rattle.packet.specs.Packet.{messageItem}
+use Rattle.decoder.specs.Framing.{udp, tcp}
+use Rattle.table.specs.Formed.{rangeOk, allowed}
+use Rattle.table.specs.Tree.{IsTree, Obeys, FieldsFit}
+use Rattle.strings.specs.Atomic.{oscString, oscBlob}
+use Rattle.writers.specs.Osc.{writeData, writeTags, writeMessage, writeBundle, writeElements, writePacket}
+use Rattle.encoder.specs.Outcome.{formed, unframed, prefixed, treeOutcome, bytesOutcome}
 use Rattle.demands.specs.Words.{NoNul}
-use Rattle.demands.specs.Osc10.{end, atom, word, Packet, message, bundle, none, also, ArgumentsAllowed, Allowed, AllAllowed, deep}
-use Rattle.demands.specs.Osc10.{tagsOf, as-word, no-argument, one-atom, Spells, as-message, as-bundle, no-element, element}
-use Rattle.demands.specs.Standards.{AcceptedAs}
+use Rattle.demands.specs.Osc10.{end, atom, word, long, string, blob, char, Packet, message, bundle, none, also, ArgumentsAllowed}
+use Rattle.demands.specs.Osc10.{Allowed, AllAllowed, deep, tagsOf, as-word, as-long, as-string, as-blob, as-char, no-argument}
+use Rattle.demands.specs.Osc10.{one-atom, Spells, as-message, as-bundle, no-element, element}
+use Rattle.demands.specs.Strict.{ArgumentsStrict, StrictIn, Strict, StrictNode, StrictForest}
+use Rattle.demands.specs.Seen.{argumentEntries, entriesOf}
+use Rattle.demands.specs.Standards.{oscFrame, AcceptedAs, SeenIn, SpelledStrictly, FrameOf}
 use Rattle.utf8.proofs.Grammar.{octets}
+use Rattle.table.proofs.Theorem.{bytes-tree}
 use Rattle.table.proofs.Examples.{packet as p3-bytes}
-use Rattle.demands.proofs.Osc10.Accepted.{osc10-accepted}
+use Rattle.demands.proofs.Osc10.Accepted.{osc10-accepted, frame-accepted}
+use Rattle.demands.proofs.Osc10.Seen.{osc10-seen}
+use Rattle.demands.proofs.Osc10.Strict.{strict-allowed}
+use Rattle.demands.proofs.Osc10.Written.{strict-written, strict-frame-written}
+use Rattle.demands.proofs.Trip.Examples.{small-bytes}
+
+-- ---- P3, and a bundle that holds it
 
 -- /a with the integer 5
 abbrev p3 : Packet
@@ -33,7 +59,7 @@ p3-spelled =
     (one-atom as-word no-argument)
 
 -- P3 is accepted
-pub p3-accepted : AcceptedAs p3 p3-bytes
+pub p3-accepted : AcceptedAs udp p3 p3-bytes
 unfolding deep
 p3-accepted = osc10-accepted p3 p3-bytes p3-allowed p3-spelled (omega arith) (omega arith)
 
@@ -55,6 +81,155 @@ held-spelled =
     as-bundle (record { additional = 0; few = omega arith; spelled = refl; multiple = refl }) (element refl p3-spelled no-element)
 
 -- so is the bundle that holds it
-pub held-accepted : AcceptedAs held held-bytes
+pub held-accepted : AcceptedAs udp held held-bytes
 unfolding deep
 held-accepted = osc10-accepted held held-bytes held-allowed held-spelled (omega arith) (omega arith)
+
+-- ---- a message of OSC 1.0's own
+
+-- /a with a blob of one byte, the double 1.5, the character x, the integer -1 and the text hi
+abbrev mixed : Packet
+mixed =
+    message (0x2F ∷ 0x61 ∷ [])
+    (atom (blob (0xFF ∷ []))
+    (atom (long 100 0x3FF80000 0) (atom (char 0x78) (atom (word 105 0xFFFFFFFF) (atom (string (0x68 ∷ 0x69 ∷ [])) end)))))
+
+-- 2F610000 2C626463 69730000 00000001 FF000000 3FF80000 00000000 00000078 FFFFFFFF 68690000
+abbrev mixed-bytes : List ℕ
+mixed-bytes =
+    0x2F ∷ 0x61 ∷ 0 ∷ 0 ∷ 0x2C ∷ 0x62 ∷ 0x64 ∷ 0x63 ∷ 0x69 ∷ 0x73 ∷ 0 ∷ 0 ∷ 0 ∷ 0 ∷ 0 ∷ 1 ∷ 0xFF ∷ 0 ∷ 0 ∷ 0
+    ∷ 0x3F ∷ 0xF8 ∷ 0 ∷ 0 ∷ 0 ∷ 0 ∷ 0 ∷ 0 ∷ 0 ∷ 0 ∷ 0 ∷ 0x78 ∷ 0xFF ∷ 0xFF ∷ 0xFF ∷ 0xFF ∷ 0x68 ∷ 0x69 ∷ 0 ∷ 0 ∷ []
+
+mixed-strict : Strict mixed
+unfolding StrictIn ArgumentsStrict
+mixed-strict = (
+  refl,
+  ((omega arith, omega arith, refl), ((omega arith, omega arith, refl), tt)),
+  (
+    small-bytes (0xFF ∷ []) tt,
+    (
+      (refl, omega arith, omega arith),
+      (omega arith, ((refl, omega arith), (((omega arith, omega arith), ((omega arith, omega arith), tt)), tt))),
+    ),
+  ),
+)
+
+mixed-spelled : Spells mixed mixed-bytes
+unfolding bytes tagsOf
+mixed-spelled =
+    as-message
+    (record { additional = 1; few = omega arith; spelled = refl; multiple = refl })
+    (record { additional = 1; few = omega arith; spelled = refl; multiple = refl })
+    (one-atom (as-blob (record { additional = 3; few = omega arith; spelled = refl; multiple = refl }))
+    (one-atom as-long
+    (one-atom as-char
+    (one-atom as-word
+    (one-atom (as-string (record { additional = 1; few = omega arith; spelled = refl; multiple = refl })) no-argument)))))
+
+-- its frame is accepted by `decode_tcp`
+pub mixed-accepted : AcceptedAs tcp mixed (oscFrame mixed-bytes)
+unfolding deep bytes
+mixed-accepted = frame-accepted mixed mixed-bytes (strict-allowed mixed mixed-strict) mixed-spelled (omega arith) (omega arith)
+
+-- a table of six records shows it
+pub mixed-seen : SeenIn udp mixed mixed-bytes (replicate 96 0)
+unfolding deep entriesOf argumentEntries
+mixed-seen =
+    osc10-seen mixed mixed-bytes (strict-allowed mixed mixed-strict) mixed-spelled (omega arith) (omega arith) (replicate 96 0)
+    (omega arith)
+
+-- its tree over its own bytes
+abbrev address : Item
+address = messageItem 0 2
+
+abbrev arguments : Forest
+arguments =
+    node (argItem 98 16 1) nil
+    (node (argItem 100 0x3FF80000 0) nil
+    (node (argItem 99 0x78 0) nil (node (argItem 105 0xFFFFFFFF 0) nil (node (argItem 115 36 2) nil nil))))
+
+-- the records of a tree
+tableOf : Item → Forest → List ℕ
+tableOf item inside = recordsOf 0 (node item inside nil)
+
+-- what a table asks of the arguments
+
+arguments-fit : FieldsFit arguments
+unfolding FieldsFit
+arguments-fit = (omega arith, omega arith, tt, (omega arith, omega arith, tt, (omega arith, omega arith, tt, (omega arith, omega arith, tt, (omega arith, omega arith, tt, tt)))))
+
+arguments-obey : Obeys mixed-bytes messageKind arguments
+unfolding Obeys ownRules rangeOk allowed sortOf classOf
+arguments-obey = (refl, refl, refl, tt, (refl, refl, refl, tt, (refl, refl, refl, tt, (refl, refl, refl, tt, (refl, refl, refl, tt, tt)))))
+
+arguments-own : (time : ℕ) → StrictForest mixed-bytes time arguments
+unfolding StrictNode StrictForest
+arguments-own time = (tt, tt, (tt, tt, (omega arith, tt, (tt, tt, (((omega arith, omega arith), ((omega arith, omega arith), tt)), tt, tt)))))
+
+-- what it asks of the message
+message-fits : FieldsFit (node address arguments nil)
+unfolding FieldsFit
+message-fits = (omega arith, omega arith, arguments-fit, tt)
+
+message-obeys : Obeys mixed-bytes bundleKind (node address arguments nil)
+unfolding Obeys ownRules rangeOk allowed
+message-obeys = (refl, refl, refl, arguments-obey, tt)
+
+message-own : (time : ℕ) → StrictForest mixed-bytes time (node address arguments nil)
+unfolding StrictNode StrictForest
+message-own time = ((refl, ((omega arith, omega arith, refl), ((omega arith, omega arith, refl), tt))), arguments-own 2, tt)
+
+mixed-is : IsTree (tableOf address arguments) 6 mixed-bytes address arguments
+unfolding tableOf size
+mixed-is =
+    bytes-tree (tableOf address arguments) [] mixed-bytes address arguments (sym (append-nil (tableOf address arguments))) message-fits
+    (omega arith) message-obeys
+
+-- `encode` of it, into 40 bytes, is a packet of OSC 1.0's own
+pub mixed-written : SpelledStrictly mixed-bytes address arguments
+    (take 40 (treeOutcome unframed mixed-bytes (replicate 40 0) address arguments .out))
+unfolding tableOf depth bytes recordOf recordsOf size oscString oscBlob writeData writeTags writeMessage writePacket sortOf classOf
+    treeOutcome bytesOutcome
+mixed-written =
+    strict-written (tableOf address arguments) 6 mixed-bytes address arguments (small-bytes (tableOf address arguments) tt)
+    (small-bytes mixed-bytes tt) mixed-is (message-own 0) (replicate 40 0) _ (formed _ _ mixed-is refl) 40 refl
+
+-- `encode_tcp` of it, into 44 bytes, is its frame
+pub mixed-framed : FrameOf SpelledStrictly mixed-bytes address arguments
+    (take 44 (treeOutcome prefixed mixed-bytes (replicate 44 0) address arguments .out))
+unfolding tableOf depth bytes recordOf recordsOf size oscString oscBlob writeData writeTags writeMessage writePacket sortOf classOf
+    treeOutcome bytesOutcome
+mixed-framed =
+    strict-frame-written (tableOf address arguments) 6 mixed-bytes address arguments (small-bytes (tableOf address arguments) tt)
+    (small-bytes mixed-bytes tt) mixed-is (record { message = refl; given = message-own 0 }) (replicate 44 0) _
+    (formed _ _ mixed-is refl) 44 refl
+
+-- ---- a bundle in a bundle that holds it
+
+-- to be played at once, and a fraction of a second later
+abbrev outer : Item
+outer = record { kind = bundleKind; a = 0; b = 1 }
+
+abbrev inner : Item
+inner = record { kind = bundleKind; a = 0; b = 2 }
+
+-- what the outer bundle contains
+abbrev nested : Forest
+nested = node inner (node address arguments nil) nil
+
+nested-is : IsTree (tableOf outer nested) 8 mixed-bytes outer nested
+unfolding tableOf size FieldsFit Obeys ownRules rangeOk allowed
+nested-is =
+    bytes-tree (tableOf outer nested) [] mixed-bytes outer nested (sym (append-nil (tableOf outer nested)))
+    (omega arith, omega arith, (omega arith, omega arith, message-fits, tt), tt) (omega arith)
+    (refl, refl, refl, (refl, refl, refl, message-obeys, tt), tt)
+
+-- `encode` of it, into 80 bytes, is a packet of OSC 1.0's own
+pub nested-written : SpelledStrictly mixed-bytes outer nested
+    (take 80 (treeOutcome unframed mixed-bytes (replicate 80 0) outer nested .out))
+unfolding tableOf depth bytes recordOf recordsOf size oscString oscBlob writeData writeTags writeMessage writeBundle writeElements
+    writePacket sortOf classOf treeOutcome bytesOutcome StrictNode StrictForest
+nested-written =
+    strict-written (tableOf outer nested) 8 mixed-bytes outer nested (small-bytes (tableOf outer nested) tt)
+    (small-bytes mixed-bytes tt) nested-is (omega arith, (omega arith, message-own 2, tt), tt) (replicate 80 0) _
+    (formed _ _ nested-is refl) 80 refl

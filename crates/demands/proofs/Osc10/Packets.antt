@@ -32,7 +32,7 @@ use Rattle.demands.proofs.Osc10.Arguments.{Argued, arguments-read}
 -- ---- type tags are text
 
 -- an ASCII character before a text
-ascii-text : {x : ℕ} {text : List ℕ} → 0 < x → x < 128 → IsText text → IsText (x ∷ text)
+pub ascii-text : {x : ℕ} {text : List ℕ} → 0 < x → x < 128 → IsText text → IsText (x ∷ text)
 unfolding NoNul
 ascii-text {x} h k t =
     record {
@@ -60,7 +60,8 @@ tags-text (array within rest) h more t =
     (rw append-assoc (tags-text within (h .0) (93 ∷ (tagsOf rest ++ more))
     (ascii-text (omega arith) (omega arith) (tags-text rest (h .1) more t))))
 
-no-text : IsText []
+-- no characters are text
+pub no-text : IsText []
 unfolding NoNul
 no-text = record { non-null = tt; valid = Rattle.utf8.specs.Utf8.none }
 

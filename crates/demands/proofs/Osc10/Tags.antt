@@ -12,14 +12,10 @@ use Rattle.node.specs.declared.tags.Class.the-variants.{Four, Eight, Bare, Text
 use Rattle.node.specs.declared.tags.Sort.{Sort}
 use Rattle.node.specs.declared.tags.Sort.the-variants.{Opens, Closes, Leaf}
 use Rattle.demands.specs.Osc10.{Atom, word, long, bare, string, blob, char, words, longs, bares, AtomAllowed, tagOf}
+use Rattle.demands.specs.Strict.{All}
 use Rattle.wire.proofs.Choices.{by-test}
 
 -- ---- one of a list
-
--- what holds of each of a list
-abbrev pub All : (ℕ → Type 0) → List ℕ → Type 0
-All P [] = Unit {0}
-All P (x ∷ xs) = P x × All P xs
 
 -- what holds of each of a list holds of one of them
 pub of-among : (P : ℕ → Type 0) (t : ℕ) (xs : List ℕ) → All P xs → among t xs ≡ true → P t

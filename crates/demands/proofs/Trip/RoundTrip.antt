@@ -1,41 +1,32 @@
 -- The round trip of demand 2: what `encode` writes for a table is a packet that OSC 1.0 allows; that packet is accepted as what it is; and
 -- trees that stand for one packet are the same.
-use mathlib.Core.Path.{_≡_, sym, _∙_}
-use mathlib.Core.List.{List, _++_}
-use Prim.Native.Nat.{ℕ, _*_, _≤_}
+use mathlib.Core.Path.{_≡_, sym, ap, _∙_}
+use mathlib.Core.List.{List}
+use Prim.Native.Nat.{ℕ, _≤_}
 use native.Mathlib.Omega.{arith}
-use lib.ListN.{length, take, drop}
+use lib.ListN.{length, take}
 use Rattle.wire.specs.Limits.{longest, deepest}
 use Rattle.node.specs.Forest.{Forest, nil, node, size, depth}
-use Rattle.node.specs.Records.{recordSize, recordsOf, stored, capacity}
+use Rattle.node.specs.Records.{capacity}
 use Rattle.node.specs.declared.record.Item.{Item}
-use Rattle.decoder.specs.Framing.{trees, udp}
-use Rattle.decoder.specs.Limits.{decoded}
+use Rattle.decoder.specs.Framing.{udp}
+use Rattle.decoder.specs.Limits.{decoded, forestOf}
 use Rattle.decoder.specs.declared.Decoded.the-variants.{Packets}
-use Rattle.table.specs.Tree.{Spans, IsTree, FieldsFit}
+use Rattle.table.specs.Tree.{IsTree, FieldsFit}
 use Rattle.writers.specs.Osc.{writePacket}
 use Rattle.encoder.specs.Outcome.{unframed, treeOutcome}
 use Rattle.demands.specs.Words.{Same, SameTable}
 use Rattle.demands.specs.Words as words
 use Rattle.demands.specs.Demands.{tableAfter, answerTo, RoundTrip}
 use Rattle.demands.specs.Standards.{AcceptedAs, Spelled}
-use Rattle.table.proofs.Held.{records-held}
 use Rattle.table.proofs.Theorem.{tree-size}
 use Rattle.writers.proofs.Lengths.{packet-even}
+use Rattle.demands.proofs.Answered.{after-held}
 use Rattle.demands.proofs.Osc10.Trees.{same-tree, same-size, packet-fits, tree-deep}
 use Rattle.demands.proofs.Osc10.Accepted.{osc10-accepted}
 use Rattle.demands.proofs.Osc10.Spelled.{packet-is}
 use Rattle.demands.proofs.Trip.Tables.{spans-fit, same-table}
 use Rattle.demands.proofs.Osc10.Written.{outcome-is, written-held, written-all}
-
--- a tree that was read stands in the table
-stands-in : (l table : List ℕ) (F : Forest) → FieldsFit F → size F ≤ longest → udp l ≡ trees F 0
-    → answerTo udp deepest l table ≡ Packets (size F) 0
-    → Spans (tableAfter udp deepest l table) 0 (size F) F
-unfolding stored
-stands-in l table F f n e d =
-    let q : tableAfter udp deepest l table ≡ recordsOf 0 F ++ drop (recordSize * size F) table = rw (d, e) in
-    records-held (tableAfter udp deepest l table) (drop (recordSize * size F) table) 0 (size F) F f (omega arith) (omega arith) q .spans
 
 -- bytes that spell the packet of a table's tree are decoded to a table that holds the same
 record Back (t : List ℕ) (count : ℕ) (source l table : List ℕ) : Type 0 where
@@ -44,17 +35,17 @@ record Back (t : List ℕ) (count : ℕ) (source l table : List ℕ) : Type 0 wh
 
 module _ {t : List ℕ} {count : ℕ} {source : List ℕ} {item : Item} {inside : Forest} (w : IsTree t count source item inside) where
   read-back : (l table : List ℕ) → length l ≤ longest → count ≤ capacity table → (S : Spelled source item inside l)
-      → AcceptedAs (S .packet) l
+      → AcceptedAs udp (S .packet) l
       → Back t count source l table
   read-back l table low room S A =
       let F = node item inside nil in
       let T = node (A .item) (A .inside) nil in
       let same : Same source l F T = same-tree (S .packet) (S .allowed) (S .stands) (A .stands) words.Same.none in
       let n : size T ≡ count = sym (same-size same) ∙ tree-size w in
-      let d : answerTo udp deepest l table ≡ Packets (size T) 0 = A .decodes (capacity table) (omega arith) in
+      let d : answerTo udp deepest l table ≡ Packets count 0 = rw n at (A .decodes (capacity table) (omega arith)) in
       let f : FieldsFit T = packet-fits (omega arith) (S .packet) (S .allowed) (A .stands) in
-      let s = stands-in l table T f (omega (arith, w .few)) (A .read) d in
-      record { decodes = rw n at d; same = same-table t (tableAfter udp deepest l table) count same (w .spans) (rw n at s) }
+      let s = after-held udp deepest l table d T (ap forestOf (A .read)) f (omega (arith, w .few)) .spans in
+      record { decodes = d; same = same-table t (tableAfter udp deepest l table) count same (w .spans) s }
 
 -- what `encode` writes for a playable table decodes to the same table, with nothing left
 pub round-trip : RoundTrip
@@ -68,9 +59,9 @@ round-trip t count source item inside w out room r e table enough =
     (omega (arith, w .shallow, tree-deep (S .packet) (S .stands))) in
     let B = read-back (w .formed) bs table (w .fits) enough S A in
     let written = written-all source out item inside (w .shallow) (w .fits) room in
-    let held : take (length bs) (treeOutcome unframed source out item inside .out) ≡ bs = written-held source out item inside (length bs)
+    let held : take (length bs) (treeOutcome unframed source out item inside .out) ≡ bs = written-held unframed source out item inside (length bs)
     written in
-    rw (outcome-is (w .formed) e)
+    rw (outcome-is unframed (w .formed) e)
     (record {
       n = length bs;
       written = written;

@@ -27,7 +27,7 @@ module _ (t : List ℕ) (count : ℕ) (source out : List ℕ) {e : Encoded} {out
       → length (writePacket source item inside) ≤ length out
       → e ≡ Written (length (writePacket source item inside))
   all-written {item} {inside} p h =
-      ap (λ (o : Outcome). o .answer) (outcome-is (p .formed) enc) ∙ written-all source out item inside (p .shallow) (p .fits) h
+      ap (λ (o : Outcome). o .answer) (outcome-is unframed (p .formed) enc) ∙ written-all source out item inside (p .shallow) (p .fits) h
 
   -- `encode` with room does not refuse a playable table, so what comes back then is not spoken of
   pub not-refused : {x : Refusal} {r : Decoded} (back back' : List ℕ) → e ≡ Refused x → Returns t count source out back r out' back'
