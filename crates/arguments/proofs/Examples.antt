@@ -20,13 +20,13 @@ one-tag : Balanced (105 ∷ [])
 one-tag = another 105 (λ e. omega arith) (λ e. omega arith) nothing
 
 -- P6, i[i: the second integer is kept, and the bytes of both are consumed
-p6 : readArgs 0 (105 ∷ 91 ∷ 105 ∷ []) two 12 ≡ args (node (argItem 105 2 0) nil nil) 8
+p6 : readArgs 0 (105 ∷ 91 ∷ 105 ∷ []) two 12 ≡ args (node (argItem 105 16 2 0) nil nil) 8
 unfolding number snoc classOf sortOf readArg readTags
 p6 = since-last 0 (105 ∷ []) (105 ∷ []) two 12 one-tag
 
 -- [i[T[i]: what stands before the last unclosed '[' has an open array, and what stands after it a closed one
 nested : readArgs 0 (91 ∷ 105 ∷ 91 ∷ 84 ∷ 91 ∷ 105 ∷ 93 ∷ []) two 12
-    ≡ args (node (argItem 84 0 0) nil (node arrayItem (node (argItem 105 2 0) nil nil) nil)) 8
+    ≡ args (node (argItem 84 16 0 0) nil (node (arrayItem 16) (node (argItem 105 16 2 0) nil nil) nil)) 8
 unfolding number snoc classOf sortOf readArg readTags
 nested =
     since-last 0 (91 ∷ 105 ∷ []) (84 ∷ 91 ∷ 105 ∷ 93 ∷ []) two 12

@@ -72,7 +72,7 @@ module _ (base : ℕ) (post rest : List ℕ)
       (below : List Open)
       → ((m : List ℕ) (q : ℕ) (f : Forest) (b : List Open) → all m q f b ≡ sinceLast base post m q (go m q f b))
       → act s all base tag l p frame below ≡ sinceLast base post l p (act s go base tag l p frame below)
-  act-front Opens all go tag l p frame below h = h l p nil (waits frame arrayItem ∷ below)
+  act-front Opens all go tag l p frame below h = h l p nil (waits frame (arrayItem (base + p)) ∷ below)
   act-front Closes all go tag l p frame [] h = refl
   act-front Closes all go tag l p frame (waits outer item ∷ below) h = h l p (snoc outer item frame) below
   act-front (Leaf class) all go tag l p frame below h = by-arg (readArg tag class base l p)
@@ -97,7 +97,7 @@ module _ (base : ℕ) (post rest : List ℕ)
 pub since-last : KeptSinceLast
 unfolding readTags sortOf
 since-last base pre post l p b =
-    front base post (arrayKind ∷ post) (λ m q frame below. alone base post m q (waits frame arrayItem ∷ below) b) pre l p nil []
+    front base post (arrayKind ∷ post) (λ m q frame below. alone base post m q (waits frame (arrayItem (base + q)) ∷ below) b) pre l p nil []
 
 -- ---- every row of tags that is accepted ends so
 

@@ -1,5 +1,5 @@
 -- Document 01's "Proved examples" and the readings that are easily got wrong, as calls: whatever a decoder answers and leaves by its
--- contract. The table that is lent has 128 bytes, none of them zero, so room for 8 records; the depth limit is 64. Where nothing else is said,
+-- contract. The table that is lent has 160 bytes, none of them zero, so room for 8 records; the depth limit is 64. Where nothing else is said,
 -- both are ample.
 use mathlib.Core.Path.{_≡_, ap}
 use mathlib.Core.List.{List, [], _∷_, _++_}
@@ -46,15 +46,15 @@ pub data Case : Type 0 where
 
 -- packets: the records that are written, and the bytes left over
 abbrev gives : Framing → List ℕ → ℕ → List ℕ → Case
-gives framing msg left records = call framing msg 128 64 (packets (capacity records) left) records
+gives framing msg left records = call framing msg 160 64 (packets (capacity records) left) records
 
 -- a refusal by its number
 abbrev refuses : Framing → List ℕ → ℕ → Case
-refuses framing msg n = call framing msg 128 64 (refused n) []
+refuses framing msg n = call framing msg 160 64 (refused n) []
 
 -- Waiting
 abbrev waits : Framing → List ℕ → Case
-waits framing msg = call framing msg 128 64 waiting []
+waits framing msg = call framing msg 160 64 waiting []
 
 -- the table that is lent
 abbrev lent : ℕ → List ℕ
@@ -81,8 +81,8 @@ ends r after m = let x = decodes-only m decodes-met in (ap told (x .0), x .1)
 -- P3's records, and P4's
 abbrev five : List ℕ
 five =
-    hex (0x2F000000 ∷ 0x00000002 ∷ 0x00000000 ∷ 0x00000002
-    ∷ 0x69000000 ∷ 0x00000002 ∷ 0x00000005 ∷ 0x00000000 ∷ [])
+    hex (0x2F000000 ∷ 0x00000002 ∷ 0x00000000 ∷ 0x00000002 ∷ 0x00000000
+    ∷ 0x69000000 ∷ 0x00000002 ∷ 0x00000005 ∷ 0x00000000 ∷ 0x00000008 ∷ [])
 
 -- P1 to P14, in their order
 abbrev pub examples : List Case
@@ -91,17 +91,17 @@ examples =
     ∷ refuses Udp (hex (0x2F000000 ∷ [])) 3
     ∷ gives Udp (hex (0x2F610000 ∷ 0x2C690000 ∷ 0x00000005 ∷ [])) 0 five
     ∷ gives Udp (hex (0x2F610000 ∷ 0x58690000 ∷ 0x00000005 ∷ [])) 0 five
-    ∷ gives Udp (hex (0x2F610000 ∷ 0x00000000 ∷ [])) 0 (hex (0x2F000000 ∷ 0x00000001 ∷ 0x00000000 ∷ 0x00000002 ∷ []))
+    ∷ gives Udp (hex (0x2F610000 ∷ 0x00000000 ∷ [])) 0 (hex (0x2F000000 ∷ 0x00000001 ∷ 0x00000000 ∷ 0x00000002 ∷ 0x00000000 ∷ []))
     ∷ gives Udp (hex (0x2F610000 ∷ 0x2C695B69 ∷ 0x00000000 ∷ 0x00000001 ∷ 0x00000002 ∷ [])) 0
-    (hex (0x2F000000 ∷ 0x00000002 ∷ 0x00000000 ∷ 0x00000002
-    ∷ 0x69000000 ∷ 0x00000002 ∷ 0x00000002 ∷ 0x00000000 ∷ []))
+    (hex (0x2F000000 ∷ 0x00000002 ∷ 0x00000000 ∷ 0x00000002 ∷ 0x00000000
+    ∷ 0x69000000 ∷ 0x00000002 ∷ 0x00000002 ∷ 0x00000000 ∷ 0x00000010 ∷ []))
     ∷ refuses Udp (hex (0x2F610000 ∷ 0x2C5D0000 ∷ [])) 6
     ∷ refuses Udp (hex (0x2F610000 ∷ 0x2C780000 ∷ [])) 7
     ∷ refuses Udp (hex (0x2F610000 ∷ 0x2C630000 ∷ 0x0000D800 ∷ [])) 8
     ∷ refuses Udp (hex (0x2FFF0000 ∷ [])) 4
     ∷ refuses Udp (hex (0x61000000 ∷ [])) 5
     ∷ gives Udp (hex (0x2362756E ∷ 0x646C6500 ∷ 0x00000000 ∷ 0x00000001 ∷ 0x00000000 ∷ [])) 4
-    (hex (0x23000000 ∷ 0x00000001 ∷ 0x00000000 ∷ 0x00000001 ∷ []))
+    (hex (0x23000000 ∷ 0x00000001 ∷ 0x00000000 ∷ 0x00000001 ∷ 0x00000000 ∷ []))
     ∷ refuses Tcp (hex (0x00000008 ∷ 0x2F610000 ∷ [])) 3
     ∷ waits Tcp (hex (0x00000009 ∷ 0x2F610000 ∷ []))
     ∷ []
@@ -124,26 +124,26 @@ misread =
     -- padding counts from the call and not from the element, whose leftover byte is dropped
     gives Udp (hex (0x2362756E ∷ 0x646C6500 ∷ 0x00000000 ∷ 0x00000001
     ∷ 0x00000009 ∷ 0x2F610000 ∷ 0x2C000000 ∷ 0x55000000 ∷ 0x072F00AA ∷ 0x2C00BBBB ∷ [])) 0
-    (hex (0x23000000 ∷ 0x00000003 ∷ 0x00000000 ∷ 0x00000001
-    ∷ 0x2F000000 ∷ 0x00000002 ∷ 0x00000014 ∷ 0x00000002
-    ∷ 0x2F000000 ∷ 0x00000003 ∷ 0x00000021 ∷ 0x00000001 ∷ []))
+    (hex (0x23000000 ∷ 0x00000003 ∷ 0x00000000 ∷ 0x00000001 ∷ 0x00000000
+    ∷ 0x2F000000 ∷ 0x00000002 ∷ 0x00000014 ∷ 0x00000002 ∷ 0x00000014
+    ∷ 0x2F000000 ∷ 0x00000003 ∷ 0x00000021 ∷ 0x00000001 ∷ 0x00000021 ∷ []))
     -- a length cuts nothing; it is compared with the whole input, prefix included
-    ∷ gives Tcp (hex (0x00000000 ∷ 0x2F610000 ∷ 0x00000000 ∷ [])) 0 (hex (0x2F000000 ∷ 0x00000001 ∷ 0x00000004 ∷ 0x00000002 ∷ []))
+    ∷ gives Tcp (hex (0x00000000 ∷ 0x2F610000 ∷ 0x00000000 ∷ [])) 0 (hex (0x2F000000 ∷ 0x00000001 ∷ 0x00000004 ∷ 0x00000002 ∷ 0x00000004 ∷ []))
     ∷ refuses Tcp (hex (0x00000004 ∷ [])) 2
     ∷ waits Tcp (hex (0x00000005 ∷ []))
     ∷ refuses Tcp [] 3
     -- two frames: padding afresh from each prefix, offsets from the call's first byte
     ∷ gives TcpVec (hex (0x00000008 ∷ 0x2F610000 ∷ 0x00000000 ∷ 0x00000008 ∷ 0x2F620000 ∷ 0x00000000 ∷ [])) 0
-    (hex (0x2F000000 ∷ 0x00000001 ∷ 0x00000004 ∷ 0x00000002
-    ∷ 0x2F000000 ∷ 0x00000002 ∷ 0x00000010 ∷ 0x00000002 ∷ []))
+    (hex (0x2F000000 ∷ 0x00000001 ∷ 0x00000004 ∷ 0x00000002 ∷ 0x00000004
+    ∷ 0x2F000000 ∷ 0x00000002 ∷ 0x00000010 ∷ 0x00000002 ∷ 0x00000010 ∷ []))
     -- a frame that waits is left over; no records if it is the first; 1 to 3 trailing bytes refuse the call
     ∷ gives TcpVec (hex (0x00000008 ∷ 0x2F610000 ∷ 0x00000000 ∷ 0x00000009 ∷ 0x2F620000 ∷ [])) 8
-    (hex (0x2F000000 ∷ 0x00000001 ∷ 0x00000004 ∷ 0x00000002 ∷ []))
+    (hex (0x2F000000 ∷ 0x00000001 ∷ 0x00000004 ∷ 0x00000002 ∷ 0x00000004 ∷ []))
     ∷ gives TcpVec (hex (0x00000005 ∷ [])) 4 []
     ∷ refuses TcpVec (hex (0x00000008 ∷ 0x2F610000 ∷ 0x00000000 ∷ []) ++ (0x00 ∷ 0x00 ∷ 0x00 ∷ [])) 3
     ∷ refuses TcpVec [] 3
     -- the first character of the type text is skipped, whatever it is; a tag that is not ASCII is 7, after the data before it
-    ∷ gives Udp (hex (0x2F610000 ∷ 0xC3A90000 ∷ [])) 0 (hex (0x2F000000 ∷ 0x00000001 ∷ 0x00000000 ∷ 0x00000002 ∷ []))
+    ∷ gives Udp (hex (0x2F610000 ∷ 0xC3A90000 ∷ [])) 0 (hex (0x2F000000 ∷ 0x00000001 ∷ 0x00000000 ∷ 0x00000002 ∷ 0x00000000 ∷ []))
     ∷ gives Udp (hex (0x2F610000 ∷ 0xC3A96900 ∷ 0x00000005 ∷ [])) 0 five
     ∷ refuses Udp (hex (0x2F610000 ∷ 0x2CC3A900 ∷ [])) 7
     ∷ refuses Udp (hex (0x2F610000 ∷ 0x2C69C3A9 ∷ 0x00000000 ∷ [])) 3
@@ -152,26 +152,26 @@ misread =
     ∷ refuses Udp (hex (0x00000000 ∷ [])) 5
     ∷ refuses Udp (hex (0x2F610000 ∷ 0x2C530000 ∷ [])) 7
     -- an unclosed array: what stands outside it is lost, its data consumed
-    ∷ call Udp (hex (0x2F610000 ∷ 0x2C695B00 ∷ 0x00000005 ∷ [])) 16 64 (packets 1 0)
-    (hex (0x2F000000 ∷ 0x00000001 ∷ 0x00000000 ∷ 0x00000002 ∷ []))
+    ∷ call Udp (hex (0x2F610000 ∷ 0x2C695B00 ∷ 0x00000005 ∷ [])) 20 64 (packets 1 0)
+    (hex (0x2F000000 ∷ 0x00000001 ∷ 0x00000000 ∷ 0x00000002 ∷ 0x00000000 ∷ []))
     ∷ gives Udp (hex (0x2F610000 ∷ 0x2C5B5B54 ∷ 0x5D000000 ∷ []) ++ (0x00 ∷ [])) 1
-    (hex (0x2F000000 ∷ 0x00000003 ∷ 0x00000000 ∷ 0x00000002
-    ∷ 0x5B000000 ∷ 0x00000003 ∷ 0x00000000 ∷ 0x00000000
-    ∷ 0x54000000 ∷ 0x00000003 ∷ 0x00000000 ∷ 0x00000000 ∷ []))
+    (hex (0x2F000000 ∷ 0x00000003 ∷ 0x00000000 ∷ 0x00000002 ∷ 0x00000000
+    ∷ 0x5B000000 ∷ 0x00000003 ∷ 0x00000000 ∷ 0x00000000 ∷ 0x0000000C
+    ∷ 0x54000000 ∷ 0x00000003 ∷ 0x00000000 ∷ 0x00000000 ∷ 0x0000000C ∷ []))
     -- an empty blob at the very end; a size that wraps nothing
     ∷ gives Udp (hex (0x2F610000 ∷ 0x2C620000 ∷ 0x00000000 ∷ [])) 0
-    (hex (0x2F000000 ∷ 0x00000002 ∷ 0x00000000 ∷ 0x00000002
-    ∷ 0x62000000 ∷ 0x00000002 ∷ 0x0000000C ∷ 0x00000000 ∷ []))
+    (hex (0x2F000000 ∷ 0x00000002 ∷ 0x00000000 ∷ 0x00000002 ∷ 0x00000000
+    ∷ 0x62000000 ∷ 0x00000002 ∷ 0x0000000C ∷ 0x00000000 ∷ 0x00000008 ∷ []))
     ∷ refuses Udp (hex (0x2F610000 ∷ 0x2C620000 ∷ 0xFFFFFFFF ∷ [])) 3
-    -- an inner leftover is dropped; 13, then 9, then 10, which 31 bytes give for two records
+    -- an inner leftover is dropped; 13, then 9, then 10, which 39 bytes give for two records
     ∷ gives Udp nested 0
-    (hex (0x23000000 ∷ 0x00000002 ∷ 0x00000000 ∷ 0x00000001
-    ∷ 0x23000000 ∷ 0x00000002 ∷ 0x00000000 ∷ 0x00000002 ∷ []))
-    ∷ call Udp nested 128 65 (refused 13) []
-    ∷ call Udp nested 31 1 (refused 9) []
-    ∷ call Udp nested 31 2 (refused 10) []
+    (hex (0x23000000 ∷ 0x00000002 ∷ 0x00000000 ∷ 0x00000001 ∷ 0x00000000
+    ∷ 0x23000000 ∷ 0x00000002 ∷ 0x00000000 ∷ 0x00000002 ∷ 0x00000014 ∷ []))
+    ∷ call Udp nested 160 65 (refused 13) []
+    ∷ call Udp nested 39 1 (refused 9) []
+    ∷ call Udp nested 39 2 (refused 10) []
     -- a late frame's 2 comes before an early one's 9
-    ∷ call TcpVec (hex (0x00000000 ∷ []) ++ (nested ++ hex (0x00000000 ∷ []))) 128 1 (refused 2) []
+    ∷ call TcpVec (hex (0x00000000 ∷ []) ++ (nested ++ hex (0x00000000 ∷ []))) 160 1 (refused 2) []
     ∷ []
 
 -- all of them hold
