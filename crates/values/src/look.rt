@@ -1,4 +1,4 @@
-// Looking at a record of a table, and at the text that its value names.
+// Looking at a record of a table, at the text that its value names and at where its data begins.
 use crate::value;
 use crate::value::OscType;
 use node::record;
@@ -7,7 +7,7 @@ use refusal::Refusal;
 use wire::lies_in;
 use wire::range;
 ghost use mathlib.Core.Path.{_≡_};
-ghost use Rattle.values.specs.Look.{lookAt, partOr, textNamed};
+ghost use Rattle.values.specs.Look.{lookAt, startedAt, partOr, textNamed};
 
 // What `look` answers.
 pub enum Looked {
@@ -32,6 +32,25 @@ pub fn look(table: &[u8], index: usize) -> Looked
         return Looked::Value(value::value_of(item));
     }
     Looked::Refused(Refusal::BadTable)
+}
+
+// What `start_of` answers.
+pub enum Started {
+    // The offset, from the decoder's first byte, where the item's data begins.
+    At(u32),
+    Refused(Refusal),
+}
+
+// Where the data of record `index` begins: its fifth number. No rule tests it, so a table may have any.
+//
+// Ruled out: a start for a part of a record at the table's end; 11 for a record whose own rules do not hold.
+pub fn start_of(table: &[u8], index: usize) -> Started
+    ensures { λ r. ⌜ r ≡ startedAt (now (table .entry)) index ⌝ }
+{
+    if index < record::capacity_of(table) {
+        return Started::At(record::field_at(table, index, record::START));
+    }
+    Started::Refused(Refusal::BadTable)
 }
 
 // `count` bytes of the packet from `offset` on, where they lie in it; else the label.
