@@ -48,7 +48,7 @@ pub record NodeSound (s : List ℕ) (container : ℕ) (item : Item) (inside : Fo
   pub rules : ownRules item ≡ true
   pub range : rangeOk s item ≡ true
   pub may : allowed container (item .kind) ≡ true
-  pub low : (item .a < 256 ^ 4) × (item .b < 256 ^ 4)
+  pub low : (item .a < 256 ^ 4) × (item .b < 256 ^ 4) × (item .start < 256 ^ 4)
   pub in-sound : Sound s (item .kind) inside
 
 module _ {s : List ℕ} {container : ℕ} where
@@ -63,7 +63,7 @@ module _ {s : List ℕ} {container : ℕ} where
   sound-node n r =
       record {
         obeys = (n .rules, n .range, n .may, n .in-sound .obeys, r .obeys);
-        fits = (n .low .0, n .low .1, n .in-sound .fits, r .fits);
+        fits = (n .low .0, n .low .1, n .low .2, n .in-sound .fits, r .fits);
       }
 
   sound-snoc : (F : Forest) {item : Item} {f : Forest} → NodeSound s container item f → Sound s container F
@@ -71,10 +71,10 @@ module _ {s : List ℕ} {container : ℕ} where
   unfolding Obeys FieldsFit snoc
   sound-snoc nil n w = sound-node n w
   sound-snoc (node item' f' rest) n w =
-      let r = sound-snoc rest n (record { obeys = w .obeys .4; fits = w .fits .3 }) in
+      let r = sound-snoc rest n (record { obeys = w .obeys .4; fits = w .fits .4 }) in
       record {
         obeys = (w .obeys .0, w .obeys .1, w .obeys .2, w .obeys .3, r .obeys);
-        fits = (w .fits .0, w .fits .1, w .fits .2, r .fits);
+        fits = (w .fits .0, w .fits .1, w .fits .2, w .fits .3, r .fits);
       }
 
 -- what may stand in an array may stand in a message
@@ -82,8 +82,11 @@ in-message : {s : List ℕ} (F : Forest) → Sound s arrayKind F → Sound s mes
 unfolding Obeys FieldsFit allowed
 in-message nil w = record { obeys = tt; fits = tt }
 in-message (node item f rest) w =
-    let r = in-message rest (record { obeys = w .obeys .4; fits = w .fits .3 }) in
-    record { obeys = (w .obeys .0, w .obeys .1, w .obeys .2, w .obeys .3, r .obeys); fits = (w .fits .0, w .fits .1, w .fits .2, r .fits) }
+    let r = in-message rest (record { obeys = w .obeys .4; fits = w .fits .4 }) in
+    record {
+      obeys = (w .obeys .0, w .obeys .1, w .obeys .2, w .obeys .3, r .obeys);
+      fits = (w .fits .0, w .fits .1, w .fits .2, w .fits .3, r .fits);
+    }
 
 -- ---- one argument
 
@@ -94,7 +97,7 @@ LeafSound s class (arg.Refused k) = Unit {0}
 
 -- a text that was found is one of the source
 pub text-range : {s l : List ℕ} {q n : ℕ} (tag : ℕ) → among tag (messageKind ∷ 115 ∷ []) ≡ true → At s q l → n ≤ length l
-    → utf8 (take n l) ≡ true → rangeOk s (argItem tag q n) ≡ true
+    → utf8 (take n l) ≡ true → rangeOk s (argItem tag q q n) ≡ true
 unfolding rangeOk
 text-range {s} {l} {q} {n} tag t at h v =
     let e : length (take n l) ≡ n = length-take-le n l h in
@@ -107,12 +110,12 @@ module _ {s : List ℕ} (base : ℕ) {l : List ℕ} (p : ℕ) (at : At s (base +
   unfolding readArg rangeOk
   leaf-sound Four tag t =
       by-le (LeafSound s Four) 4 (length l)
-      (λ _. (refl, of-among (λ k. rangeOk s (argItem k (number 4 l) 0) ≡ true) tag words (refl, (refl, (refl, (refl, tt)))) t)) (λ _. tt)
+      (λ _. (refl, of-among (λ k. rangeOk s (argItem k (base + p) (number 4 l) 0) ≡ true) tag words (refl, (refl, (refl, (refl, tt)))) t)) (λ _. tt)
   leaf-sound Eight tag t =
       by-le (LeafSound s Eight) 8 (length l)
-      (λ _. (refl, of-among (λ k. rangeOk s (argItem k (number 4 l) (number 4 (drop 4 l))) ≡ true) tag longs (refl, (refl, (refl, tt))) t))
+      (λ _. (refl, of-among (λ k. rangeOk s (argItem k (base + p) (number 4 l) (number 4 (drop 4 l))) ≡ true) tag longs (refl, (refl, (refl, tt))) t))
       (λ _. tt)
-  leaf-sound Bare tag t = (refl, of-among (λ k. rangeOk s (argItem k 0 0) ≡ true) tag bares (refl, (refl, (refl, (refl, tt)))) t)
+  leaf-sound Bare tag t = (refl, of-among (λ k. rangeOk s (argItem k (base + p) 0 0) ≡ true) tag bares (refl, (refl, (refl, (refl, tt)))) t)
   leaf-sound String tag t = by-text (readText l p) refl
     where
       by-text : (x : Text) → x ≡ readText l p → LeafSound s String (textArg tag (base + p) x)
@@ -148,7 +151,7 @@ not-packet tag class e n = go (isPacket tag) refl
 
 -- an array that is open: what it and the frame that waits for it may hold
 abbrev OpenSound : List ℕ → Open → Type 0
-OpenSound s (waits outer item) = Sound s arrayKind outer × (item ≡ arrayItem)
+OpenSound s (waits outer item) = Sound s arrayKind outer × ((f : Forest) → Sound s arrayKind f → NodeSound s arrayKind item f)
 
 abbrev AllSound : List ℕ → List Open → Type 0
 AllSound s [] = Unit {0}
@@ -183,9 +186,10 @@ module _ {s : List ℕ} (small : Bytes s) (low : length s < 256 ^ 4) (base : ℕ
       refused : arg.Given item used ≡ readArg tag Unknown base l p → ⊥
       refused q = let z : _≡_ {A = ℕ} 0 1 = cc in omega arith
 
-  array-node : {F : Forest} → Sound s arrayKind F → NodeSound s arrayKind arrayItem F
+  array-node : {l : List ℕ} (p : ℕ) → At s (base + p) l → (F : Forest) → Sound s arrayKind F → NodeSound s arrayKind (arrayItem (base + p)) F
   unfolding ownRules rangeOk allowed sortOf
-  array-node w = record { rules = refl; range = refl; may = refl; low = (omega arith, omega arith); in-sound = w }
+  array-node p at F w = record
+      { rules = refl; range = refl; may = refl; low = (omega arith, omega arith, omega (arith, at .within)); in-sound = w }
 
   -- ---- the arguments of a message
 
@@ -195,10 +199,11 @@ module _ {s : List ℕ} (small : Bytes s) (low : length s < 256 ^ 4) (base : ℕ
       → ((m : List ℕ) (q : ℕ) (f : Forest) (b : List Open) → At s (base + q) m → Sound s arrayKind f → AllSound s b
       → ArgsSound s (go m q f b))
       → ArgsSound s (act sort go base tag l p frame below)
-  act-sound Opens tag e t go {l} p frame below at w v h = h l p nil (waits frame arrayItem ∷ below) at sound-nil ((w, refl), v)
+  act-sound Opens tag e t go {l} p frame below at w v h =
+      h l p nil (waits frame (arrayItem (base + p)) ∷ below) at sound-nil ((w, array-node p at), v)
   act-sound Closes tag e t go p frame [] at w v h = tt
   act-sound Closes tag e t go {l} p frame (waits outer item ∷ below) at w v h =
-      h l p (snoc outer item frame) below at (sound-snoc outer (rw (v .0 .1) (array-node w)) (v .0 .0)) (v .1)
+      h l p (snoc outer item frame) below at (sound-snoc outer (v .0 .1 frame w) (v .0 .0)) (v .1)
   act-sound (Leaf class) tag e t go {l} p frame below at w v h = by-arg (readArg tag class base l p) refl
     where
       by-arg : (x : Arg) → x ≡ readArg tag class base l p → ArgsSound s (argTaken (λ m q f. go m q f below) l p frame x)

@@ -61,7 +61,7 @@ module _ {s : List ℕ} (small : Bytes s) (low : length s < 256 ^ 4) (base : ℕ
     unfolding ownRules allowed
     with-sound (refused k) h = tt
     with-sound (args kept used) h = record
-        { rules = refl; range = address; may = refl; low = (omega arith, omega arith); in-sound = h kept used refl }
+        { rules = refl; range = address; may = refl; low = (omega arith, omega arith, omega arith); in-sound = h kept used refl }
 
     types-sound : (l : List ℕ) (p : ℕ) (t : Text) → At s (base + p) l → t ≡ readText l p
         → OutSound s (typesThen base (messageItem q n) l p t)
@@ -78,21 +78,21 @@ module _ {s : List ℕ} (small : Bytes s) (low : length s < 256 ^ 4) (base : ℕ
 
   -- ---- bundles
 
-  bundle-sound : (es : List ℕ → ℕ → Elements) {l : List ℕ} (p : ℕ) → At s (base + p) l
+  bundle-sound : (start : ℕ) → start ≤ length s → (es : List ℕ → ℕ → Elements) {l : List ℕ} (p : ℕ) → At s (base + p) l
       → ((m : List ℕ) (q : ℕ) → At s (base + q) m → ElementsSound s (es m q))
-      → OutSound s (bundleBy es l p)
+      → OutSound s (bundleBy start es l p)
   unfolding bundleBy ownRules rangeOk allowed
-  bundle-sound es {l} p at h = by-le (OutSound s) 8 (length l)
+  bundle-sound start le es {l} p at h = by-le (OutSound s) 8 (length l)
       (λ k. with-elements (es (drop 8 l) (p + 8)) (h (drop 8 l) (p + 8) (at-on base p 8 k at))) (λ _. tt)
     where
-      with-elements : (x : Elements) → ElementsSound s x → OutSound s (bundleWith (bundleItem l) x)
+      with-elements : (x : Elements) → ElementsSound s x → OutSound s (bundleWith (bundleItem start l) x)
       with-elements (upto f used) w =
           let b = at-bytes small at in
           record {
             rules = refl;
             range = refl;
             may = refl;
-            low = (number-small 4 l b, number-small 4 (drop 4 l) (drop-small 4 l b));
+            low = (number-small 4 l b, number-small 4 (drop 4 l) (drop-small 4 l b), omega arith);
             in-sound = w;
           }
 
@@ -116,7 +116,8 @@ module _ {s : List ℕ} (small : Bytes s) (low : length s < 256 ^ 4) (base : ℕ
           (message-sound (base + p) n (text-range messageKind refl at (omega arith) (w .2)) (omega (arith, at .within))
           (drop used l) (p + used) next))
           (λ _. by-test P (sameBytes (take n l) bundleWord)
-          (λ _. after-sound s used (bundleBy es (drop used l) (p + used)) (bundle-sound es (p + used) next h))
+          (λ _. after-sound s used (bundleBy (base + p) es (drop used l) (p + used))
+          (bundle-sound (base + p) (omega (arith, at .within)) es (p + used) next h))
           (λ _. tt))
 
   -- ---- elements

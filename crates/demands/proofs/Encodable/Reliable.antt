@@ -30,7 +30,8 @@ module _ (source : List ℕ) (item : Item) where
   pub node-reliable : ownRules item ≡ true → rangeOk source item ≡ true → Reliable source item
   unfolding ownRules rangeOk sortOf classOf
   node-reliable rules range =
-      let P : ℕ → Type 0 = λ k. rangeOk source (record { kind = k; a = item .a; b = item .b }) ≡ true → item .a + item .b ≤ length source in
+      let P : ℕ → Type 0 = λ k.
+      rangeOk source (record { kind = k; a = item .a; b = item .b; start = item .start }) ≡ true → item .a + item .b ≤ length source in
       record {
         lies = λ k.
             omega (
