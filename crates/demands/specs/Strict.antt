@@ -44,7 +44,7 @@ AtomStrict (string text) = All Ascii text
 AtomStrict (blob content) = AtomAllowed (blob content)
 AtomStrict (char x) = x < 128
 
--- every argument is
+-- every argument is one of OSC 1.0 itself
 unfoldable pub ArgumentsStrict : OscArguments → Type 0
 ArgumentsStrict end = Unit {0}
 ArgumentsStrict (atom value rest) = AtomStrict value × ArgumentsStrict rest
