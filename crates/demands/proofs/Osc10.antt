@@ -5,7 +5,8 @@
 --     Arguments   what is spelled, read: arguments
 --     Packets     what is spelled, read: packets
 --     Accepted    every packet that OSC 1.0 allows is accepted as what it is, bare and in its frame
---     Strict      the narrower grammar of OSC 1.0's own packets and the wider; trees that have only what OSC 1.0 has
+--     Seen        what is decoded is seen by `look` and `text_of` as what OSC 1.0 says
+--     Strict      the packets of OSC 1.0 itself among those that are allowed, and the trees that have only what OSC 1.0 has
 --     Spelled     the bytes of a tree spell the packet that the tree is
 --     Written     what `encode` writes is a packet that OSC 1.0 allows, and what `encode_tcp` writes for a message is its frame
 --     Examples    packets that meet the hypotheses

@@ -1,7 +1,7 @@
 -- What the OSC 1.0 specification allows, in its own terms: packets as a syntax, the rules on them, and the bytes that spell them.
--- Nothing here speaks of the decoder or the encoder. The type tags are document 01's, so without S; text is UTF-8 (RFC 3629)
--- where OSC 1.0 says ASCII. OSC 1.0 also asks that an enclosed bundle's time tag is not before the enclosing one's: no rule
--- here, so more is allowed.
+-- Nothing here speaks of the decoder or the encoder. The type tags are document 01's, so without S. In four ways `Allowed` is wider than
+-- OSC 1.0, as document 01 is: text and addresses are UTF-8 (RFC 3629) and not ASCII only; an address has any characters after its '/';
+-- c is any scalar number; an enclosed bundle has any time tag. Strict.antt has the narrower rules of OSC 1.0 itself.
 use mathlib.Core.Path.{_≡_}
 use mathlib.Core.Bool.{true}
 use mathlib.Core.List.{List, [], _∷_, _++_}

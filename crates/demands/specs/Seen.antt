@@ -1,4 +1,4 @@
--- What a caller sees of a packet that was decoded: each record by `look`, and what it names by `text_of`, in OSC 1.0's words.
+-- What a caller sees of a packet that was decoded, by `look` at each record and by `text_of`, in OSC 1.0's words.
 use mathlib.Core.Path.{_≡_}
 use mathlib.Core.Bool.{true, false}
 use mathlib.Core.List.{List, [], _∷_, _++_}
@@ -45,7 +45,7 @@ unfoldable mutual
 abbrev pub Names : List ℕ → OscType → List ℕ → Type 0
 Names l value text = (label : List ℕ) → textNamed value l label ≡ text
 
--- the value of each kind of argument over the bytes l, as OSC 1.0 has it
+-- the value of a record over the bytes l, as OSC 1.0 describes what it stands for
 pub data Seen (l : List ℕ) : Entry → OscType → Type 0 where
   -- "32-bit big-endian two's complement integer"
   as-i : {x : ℕ} → Seen l (argument (word 105 x)) (Int (toZ w32 x))
@@ -83,7 +83,7 @@ pub data Seen (l : List ℕ) : Entry → OscType → Type 0 where
   -- an OSC Time Tag
   as-time : {seconds fractional : ℕ} → Seen l (time seconds fractional) (Bundle (timeOf seconds fractional))
 
--- `look` answers of record i a value that is this entry's
+-- `look` at record i answers a value of this entry
 pub record LooksAs (l t : List ℕ) (i : ℕ) (entry : Entry) : Type 0 where
   pub value : OscType
   pub looked : lookAt t i ≡ Value value

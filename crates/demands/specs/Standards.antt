@@ -1,6 +1,6 @@
 -- The order's demand 2, "what OSC 1.0 and RFC 3629 define is proved from them": what is claimed of the decoders and the encoders. What is
--- accepted is over the wider grammar (`Allowed`); what is written is over it for trees with '/'-led addresses and no NUL (`Clean`), and
--- over OSC 1.0's own (`Strict`) for trees that have only what OSC 1.0 has.
+-- read is every packet of the wider grammar (`Allowed`). What is written is of the wider grammar for trees with '/'-led addresses and
+-- without NUL in text or address, and of the narrower (`Strict`) for trees that have only what OSC 1.0 has.
 use mathlib.Core.Path.{_≡_}
 use mathlib.Core.List.{List, _++_}
 use Prim.Native.Nat.{ℕ, _≤_}
@@ -28,7 +28,7 @@ oscFrame l = oscInt32 (length l) ++ l
 
 -- ---- what is read
 
--- of every packet that is allowed, of at most 64 bundles deep, and its bytes, at most 65,535 as they are handed to a decoder
+-- what holds of every packet that is allowed and at most 64 bundles deep, and of its bytes as a decoder is handed them, at most 65,535
 abbrev pub OfAllowed : (List ℕ → List ℕ) → (Packet → List ℕ → Type 0) → Type 0
 OfAllowed handed Is =
     (packet : Packet) (l : List ℕ) → Allowed packet → Spells packet l → length (handed l) ≤ longest → deep packet ≤ deepest
@@ -44,11 +44,11 @@ pub record AcceptedAs (rule : List ℕ → Whole) (packet : Packet) (l : List �
   pub decodes : (room : ℕ) → size (node item inside nil) ≤ room
       → decoded rule room deepest l ≡ decoder.Packets (size (node item inside nil)) 0
 
--- the bytes of every packet that is allowed are accepted by `decode_udp` as what they are
+-- every packet that is allowed is accepted by `decode_udp` as what it is
 abbrev pub Osc10Accepted : Type 0
 Osc10Accepted = OfAllowed (λ l. l) (AcceptedAs udp)
 
--- its frame, as the whole input, is accepted by `decode_tcp` as what it is, and the ranges of its tree count from the frame's first byte
+-- its frame, as the whole input, is accepted by `decode_tcp` as what it holds; ranges are in the frame, so they count its prefix
 abbrev pub FrameAccepted : Type 0
 FrameAccepted = OfAllowed oscFrame (AcceptedAs tcp)
 
@@ -61,17 +61,17 @@ pub record SeenIn (rule : List ℕ → Whole) (packet : Packet) (l table : List 
 abbrev pub SeenAs : (List ℕ → Whole) → Packet → List ℕ → Type 0
 SeenAs rule packet l = (table : List ℕ) → length (entriesOf packet) ≤ capacity table → SeenIn rule packet l table
 
--- every packet that is allowed is seen by the caller of `decode_udp` and `look` as what it is
+-- every packet that is allowed is seen as what it is by who calls `decode_udp`, `look` and `text_of`
 abbrev pub Osc10Seen : Type 0
 Osc10Seen = OfAllowed (λ l. l) (SeenAs udp)
 
--- and its frame by the caller of `decode_tcp`
+-- and in its frame by who calls `decode_tcp`
 abbrev pub FrameSeen : Type 0
 FrameSeen = OfAllowed oscFrame (SeenAs tcp)
 
 -- ---- what is written
 
--- whatever an encoder writes, by its contract, for a table whose tree is as given
+-- what holds of whatever an encoder writes, by its contract, for a table whose tree is as given
 abbrev pub OfWritten : (ℕ → List ℕ → List ℕ) → (List ℕ → Item → Forest → Type 0) → (List ℕ → Item → Forest → List ℕ → Type 0) → Type 0
 OfWritten frame Given Is =
     (t : List ℕ) (count : ℕ) (source : List ℕ) (item : Item) (inside : Forest) → Bytes t → Bytes source
@@ -93,19 +93,19 @@ pub record GivenMessage (Given : List ℕ → Item → Forest → Type 0) (sourc
   pub message : item .kind ≡ messageKind
   pub given : Given source item inside
 
--- bytes spell a packet that is allowed, and a tree stands for it
+-- bytes spell a packet that is allowed, and the tree stands for it
 pub record Spelled (source : List ℕ) (item : Item) (inside : Forest) (l : List ℕ) : Type 0 where
   pub packet : Packet
   pub allowed : Allowed packet
   pub spells : Spells packet l
   pub stands : StandsFor source packet item inside
 
--- and the packet is OSC 1.0's own
+-- and the packet is one of OSC 1.0 itself
 pub record SpelledStrictly (source : List ℕ) (item : Item) (inside : Forest) (l : List ℕ) : Type 0 where
   pub spelled : Spelled source item inside l
   pub strict : Strict (spelled .packet)
 
--- bytes are a frame, and what it holds is such
+-- bytes are a frame, and what stands in it is such
 pub record FrameOf (Is : List ℕ → Item → Forest → List ℕ → Type 0) (source : List ℕ) (item : Item) (inside : Forest) (bs : List ℕ)
     : Type 0 where
   pub content : List ℕ
@@ -116,14 +116,14 @@ pub record FrameOf (Is : List ℕ → Item → Forest → List ℕ → Type 0) (
 abbrev pub Osc10Written : Type 0
 Osc10Written = OfWritten unframed CleanTree Spelled
 
--- for a table that has only what OSC 1.0 has it is OSC 1.0's own
+-- for a table that has only what OSC 1.0 has, it is a packet of OSC 1.0 itself
 abbrev pub StrictWritten : Type 0
 StrictWritten = OfWritten unframed StrictTree SpelledStrictly
 
--- what `encode_tcp` writes for a message is its length and such a packet
+-- what `encode_tcp` writes for a clean table of a message is the frame of such a packet
 abbrev pub FrameWritten : Type 0
 FrameWritten = OfWritten prefixed (GivenMessage CleanTree) (FrameOf Spelled)
 
--- and OSC 1.0's own where the table has only what OSC 1.0 has
+-- and of a packet of OSC 1.0 itself where the table has only what OSC 1.0 has
 abbrev pub StrictFrameWritten : Type 0
 StrictFrameWritten = OfWritten prefixed (GivenMessage StrictTree) (FrameOf SpelledStrictly)

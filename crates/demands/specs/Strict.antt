@@ -1,5 +1,5 @@
--- OSC 1.0's own packets, and the trees that have only what it has. `Allowed` of Osc10.antt is wider: there text and addresses are UTF-8,
--- an address has any characters after its '/', `c` is any scalar number, and a bundle in a bundle has any time tag.
+-- The packets of OSC 1.0 itself, a part of those that Osc10.antt allows, and the trees that have only what OSC 1.0 has: addresses of
+-- printable ASCII without the reserved characters, ASCII text and c, and bundles in bundles in the order of time.
 use mathlib.Core.Path.{_≡_}
 use mathlib.Core.Bool.{false, cond}
 use mathlib.Core.List.{List, [], _∷_}
@@ -23,18 +23,19 @@ All P (x ∷ xs) = P x × All P xs
 abbrev pub Ascii : ℕ → Type 0
 Ascii x = (0 < x) × (x < 128)
 
--- the printable characters that no name in an address has: space # * , ? [ ] { }; a '/' leads each name
+-- the printable characters that no name in an address has: space # * , ? [ ] { }. A '/' leads each name; OSC 1.0 does not say whether a
+-- name may be empty, so here it may
 abbrev pub reserved : List ℕ
 reserved = 32 ∷ 35 ∷ 42 ∷ 44 ∷ 63 ∷ 91 ∷ 93 ∷ 123 ∷ 125 ∷ []
 
--- a character of an address: printable ASCII that is not reserved. So it is the address of one method: a pattern, which has * , ? [ ] { }
--- too and names several, is allowed but not counted here
+-- a character of an address: printable ASCII and not reserved. So this is the address of one method; a pattern for several, which has
+-- * , ? [ ] { } too, is allowed by Osc10.antt and left out here
 abbrev pub AddressCharacter : ℕ → Type 0
 AddressCharacter x = (32 ≤ x) × (x < 127) × (among x reserved ≡ false)
 
 -- ---- of a packet
 
--- s is of ASCII characters, and c is "an ascii character"; the others are as they are allowed
+-- s has ASCII characters, and c is "an ascii character"; the others are as Osc10.antt allows them
 abbrev pub AtomStrict : Atom → Type 0
 AtomStrict (word tag x) = AtomAllowed (word tag x)
 AtomStrict (long tag high low) = AtomAllowed (long tag high low)
@@ -43,15 +44,15 @@ AtomStrict (string text) = All Ascii text
 AtomStrict (blob content) = AtomAllowed (blob content)
 AtomStrict (char x) = x < 128
 
--- every argument is OSC 1.0's own
+-- every argument is one of OSC 1.0 itself
 unfoldable pub ArgumentsStrict : OscArguments → Type 0
 ArgumentsStrict end = Unit {0}
 ArgumentsStrict (atom value rest) = AtomStrict value × ArgumentsStrict rest
 ArgumentsStrict (array within rest) = ArgumentsStrict within × ArgumentsStrict rest
 
 unfoldable mutual
-  -- in a bundle with time tag `time`: "the OSC Time Tag of the enclosed bundle must be greater than or equal to the OSC Time Tag of the
-  -- enclosing bundle"
+  -- a packet in a bundle with this time tag: "the OSC Time Tag of the enclosed bundle must be greater than or equal to the OSC Time Tag
+  -- of the enclosing bundle"
   pub StrictIn : (time : ℕ) → Packet → Type 0
   StrictIn time (message address arguments) =
       (getD address 0 0 ≡ slash) × All AddressCharacter address × ArgumentsStrict arguments
@@ -64,13 +65,13 @@ unfoldable mutual
   AllStrict time none = Unit {0}
   AllStrict time (also packet rest) = StrictIn time packet × AllStrict time rest
 
--- a packet that stands in no bundle, so that no time tag goes before its own
+-- a packet in no bundle: any time tag is at least 0
 abbrev pub Strict : Packet → Type 0
 Strict packet = StrictIn 0 packet
 
 -- ---- of a tree
 
--- the same of one node, by its kind
+-- one node in a bundle with this time tag, by its kind: a message, text, c, a bundle
 unfoldable pub StrictNode : List ℕ → (time : ℕ) → Item → Type 0
 StrictNode source time item =
     cond (eqb (item .kind) messageKind) ((getD (bytesNamed source item) 0 0 ≡ slash) × All AddressCharacter (bytesNamed source item))
@@ -78,8 +79,8 @@ StrictNode source time item =
     (cond (eqb (item .kind) 99) (item .a < 128)
     (cond (eqb (item .kind) bundleKind) (time ≤ joinedOf (item .a) (item .b)) (Unit {0}))))
 
--- the same of every node of a forest, which stands in a bundle with this time tag. A message or an array contains no bundle, so that the
--- time tag handed on to what it contains says nothing
+-- the same of every node of a forest in a bundle with this time tag. A message or an array contains no bundle, so what is handed on there
+-- is never asked for
 unfoldable pub StrictForest : List ℕ → (time : ℕ) → Forest → Type 0
 StrictForest source time nil = Unit {0}
 StrictForest source time (node item inside rest) =

@@ -1,17 +1,25 @@
 -- Examples, computed, that meet the hypotheses of `osc10-accepted`, `frame-accepted`, `osc10-seen`, `strict-written` and
--- `strict-frame-written`: document 01's P3 and a bundle that holds it; a message of OSC 1.0's own with a blob, a double, a character, a
+-- `strict-frame-written`: document 01's P3 and a bundle that holds it; a message of OSC 1.0 itself with a blob, a double, a character, a
 -- negative integer and a text; a bundle in a bundle that holds it.
-use mathlib.Core.Path.{refl, sym}
+use mathlib.Core.Path.{_≡_, refl, sym, ap, _∙_}
 use mathlib.Core.List.{List, [], _∷_, append-nil}
 use Prim.Native.Nat.{ℕ}
 use native.Mathlib.Omega.{arith}
+use mir.Syntax.{w32}
+use mir.Val.{toZ}
+use lib.IntN.{negsuc}
 use lib.ListN.{take, replicate}
 use Rattle.wire.specs.Number.{bytes}
+use Rattle.wire.specs.Limits.{deepest}
 use Rattle.node.specs.Tags.{messageKind, bundleKind, classOf, sortOf}
 use Rattle.node.specs.Forest.{Forest, nil, node, size, depth}
 use Rattle.node.specs.Records.{recordOf, recordsOf}
 use Rattle.node.specs.Rules.{ownRules}
 use Rattle.node.specs.declared.record.Item.{Item}
+use Rattle.values.specs.Look.{lookAt}
+use Rattle.values.specs.declared.value.OscType.{OscType}
+use Rattle.values.specs.declared.value.OscType.the-variants.{Int}
+use Rattle.values.specs.declared.look.Looked.the-variants.{Value}
 use Rattle.argument.specs.Argument.{argItem}
 use Rattle.packet.specs.Packet.{messageItem}
 use Rattle.decoder.specs.Framing.{udp, tcp}
@@ -21,11 +29,12 @@ use Rattle.strings.specs.Atomic.{oscString, oscBlob}
 use Rattle.writers.specs.Osc.{writeData, writeTags, writeMessage, writeBundle, writeElements, writePacket}
 use Rattle.encoder.specs.Outcome.{formed, unframed, prefixed, treeOutcome, bytesOutcome}
 use Rattle.demands.specs.Words.{NoNul}
+use Rattle.demands.specs.Demands.{tableAfter}
 use Rattle.demands.specs.Osc10.{end, atom, word, long, string, blob, char, Packet, message, bundle, none, also, ArgumentsAllowed}
 use Rattle.demands.specs.Osc10.{Allowed, AllAllowed, deep, tagsOf, as-word, as-long, as-string, as-blob, as-char, no-argument}
 use Rattle.demands.specs.Osc10.{one-atom, Spells, as-message, as-bundle, no-element, element}
 use Rattle.demands.specs.Strict.{ArgumentsStrict, StrictIn, Strict, StrictNode, StrictForest}
-use Rattle.demands.specs.Seen.{argumentEntries, entriesOf}
+use Rattle.demands.specs.Seen.{argument, argumentEntries, entriesOf, Seen, as-i, LookAs}
 use Rattle.demands.specs.Standards.{oscFrame, AcceptedAs, SeenIn, SpelledStrictly, FrameOf}
 use Rattle.utf8.proofs.Grammar.{octets}
 use Rattle.table.proofs.Theorem.{bytes-tree}
@@ -85,7 +94,7 @@ pub held-accepted : AcceptedAs udp held held-bytes
 unfolding deep
 held-accepted = osc10-accepted held held-bytes held-allowed held-spelled (omega arith) (omega arith)
 
--- ---- a message of OSC 1.0's own
+-- ---- a message of OSC 1.0 itself
 
 -- /a with a blob of one byte, the double 1.5, the character x, the integer -1 and the text hi
 abbrev mixed : Packet
@@ -138,6 +147,15 @@ mixed-seen =
     osc10-seen mixed mixed-bytes (strict-allowed mixed mixed-strict) mixed-spelled (omega arith) (omega arith) (replicate 96 0)
     (omega arith)
 
+-- an i is seen as one number
+i-seen : {l : List ℕ} {x : ℕ} {v : OscType} → Seen l (argument (word 105 x)) v → v ≡ Int (toZ w32 x)
+i-seen as-i = refl
+
+-- so record 4 is -1
+minus-one : lookAt (tableAfter udp deepest mixed-bytes (replicate 96 0)) 4 ≡ Value (Int (negsuc 0))
+unfolding LookAs entriesOf argumentEntries
+minus-one = let r = mixed-seen .looks .1 .1 .1 .1 .0 in r .looked ∙ ap (λ (v : OscType). Value v) (i-seen (r .seen))
+
 -- its tree over its own bytes
 abbrev address : Item
 address = messageItem 0 2
@@ -156,7 +174,12 @@ tableOf item inside = recordsOf 0 (node item inside nil)
 
 arguments-fit : FieldsFit arguments
 unfolding FieldsFit
-arguments-fit = (omega arith, omega arith, tt, (omega arith, omega arith, tt, (omega arith, omega arith, tt, (omega arith, omega arith, tt, (omega arith, omega arith, tt, tt)))))
+arguments-fit = (
+  omega arith,
+  omega arith,
+  tt,
+  (omega arith, omega arith, tt, (omega arith, omega arith, tt, (omega arith, omega arith, tt, (omega arith, omega arith, tt, tt)))),
+)
 
 arguments-obey : Obeys mixed-bytes messageKind arguments
 unfolding Obeys ownRules rangeOk allowed sortOf classOf
@@ -164,7 +187,8 @@ arguments-obey = (refl, refl, refl, tt, (refl, refl, refl, tt, (refl, refl, refl
 
 arguments-own : (time : ℕ) → StrictForest mixed-bytes time arguments
 unfolding StrictNode StrictForest
-arguments-own time = (tt, tt, (tt, tt, (omega arith, tt, (tt, tt, (((omega arith, omega arith), ((omega arith, omega arith), tt)), tt, tt)))))
+arguments-own time =
+    (tt, tt, (tt, tt, (omega arith, tt, (tt, tt, (((omega arith, omega arith), ((omega arith, omega arith), tt)), tt, tt)))))
 
 -- what it asks of the message
 message-fits : FieldsFit (node address arguments nil)
@@ -185,7 +209,7 @@ mixed-is =
     bytes-tree (tableOf address arguments) [] mixed-bytes address arguments (sym (append-nil (tableOf address arguments))) message-fits
     (omega arith) message-obeys
 
--- `encode` of it, into 40 bytes, is a packet of OSC 1.0's own
+-- `encode` of it, into 40 bytes, is a packet of OSC 1.0 itself
 pub mixed-written : SpelledStrictly mixed-bytes address arguments
     (take 40 (treeOutcome unframed mixed-bytes (replicate 40 0) address arguments .out))
 unfolding tableOf depth bytes recordOf recordsOf size oscString oscBlob writeData writeTags writeMessage writePacket sortOf classOf
@@ -224,7 +248,7 @@ nested-is =
     (omega arith, omega arith, (omega arith, omega arith, message-fits, tt), tt) (omega arith)
     (refl, refl, refl, (refl, refl, refl, message-obeys, tt), tt)
 
--- `encode` of it, into 80 bytes, is a packet of OSC 1.0's own
+-- `encode` of it, into 80 bytes, is a packet of OSC 1.0 itself
 pub nested-written : SpelledStrictly mixed-bytes outer nested
     (take 80 (treeOutcome unframed mixed-bytes (replicate 80 0) outer nested .out))
 unfolding tableOf depth bytes recordOf recordsOf size oscString oscBlob writeData writeTags writeMessage writeBundle writeElements

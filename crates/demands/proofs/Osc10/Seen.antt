@@ -25,7 +25,8 @@ use Rattle.decoder.specs.declared.Decoded.the-variants.{Packets}
 use Rattle.demands.specs.Demands.{tableAfter, answerTo}
 use Rattle.demands.specs.Osc10.{Atom, word, long, bare, string, blob, char, OscArguments, end, atom, array, Packet, message, bundle}
 use Rattle.demands.specs.Osc10.{none, also, words, longs, bares, AtomAllowed, ArgumentsAllowed, Allowed, AllAllowed, RangeHolds}
-use Rattle.demands.specs.Osc10.{AtomIs, ArrayIs, ArgumentsAre, no-node, leaf, branch, StandsFor, is-message, is-bundle, StandFor, no-packet}
+use Rattle.demands.specs.Osc10.{AtomIs, ArrayIs, ArgumentsAre, no-node, leaf, branch, StandsFor, is-message, is-bundle, StandFor}
+use Rattle.demands.specs.Osc10.{no-packet}
 use Rattle.demands.specs.Osc10 as osc
 use Rattle.demands.specs.Seen.{Entry, argument, argumentEntries, entriesOf, elementEntries, Seen, LooksAs, LookAs}
 use Rattle.demands.specs.Seen as seen

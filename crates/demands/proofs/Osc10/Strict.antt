@@ -1,4 +1,4 @@
--- OSC 1.0's own packets are allowed; a tree that has only what OSC 1.0 has is clean, and the packet that it is is OSC 1.0's own.
+-- The packets of OSC 1.0 itself are allowed; a tree that has only what OSC 1.0 has is clean, and stands for such a packet and no other.
 use mathlib.Core.Path.{_≡_, refl}
 use mathlib.Core.Bool.{Bool, true, false}
 use mathlib.Core.List.{List, [], _∷_}
@@ -12,14 +12,15 @@ use Rattle.node.specs.declared.record.Item.{Item}
 use Rattle.demands.specs.Words.{NoNul, bytesNamed, CleanNode, Clean}
 use Rattle.demands.specs.Osc10.{Atom, word, long, bare, string, blob, char, OscArguments, end, atom, array, Packet, message, bundle}
 use Rattle.demands.specs.Osc10.{Packets, none, also, IsText, AtomAllowed, ArgumentsAllowed, Allowed, AllAllowed, AtomIs, ArgumentsAre}
-use Rattle.demands.specs.Osc10.{words, longs, bares, no-node, leaf, branch, StandsFor, is-message, is-bundle, StandFor, no-packet, packet}
+use Rattle.demands.specs.Osc10.{words, longs, bares, no-node, leaf, branch, StandsFor, is-message, is-bundle, StandFor, no-packet}
+use Rattle.demands.specs.Osc10.{packet}
 use Rattle.demands.specs.Strict.{All, Ascii, AddressCharacter, AtomStrict, ArgumentsStrict, StrictIn, AllStrict, Strict, StrictNode}
 use Rattle.demands.specs.Strict.{StrictForest}
 use Rattle.demands.specs.Standards.{StrictTree}
 use Rattle.demands.proofs.Osc10.Tags.{of-among}
 use Rattle.demands.proofs.Osc10.Packets.{ascii-text, no-text}
 
--- ---- what is OSC 1.0's own is allowed
+-- ---- the narrower grammar is part of the wider
 
 -- ASCII characters are text
 ascii-all : (text : List ℕ) → All Ascii text → IsText text
@@ -56,7 +57,7 @@ mutual
   all-allowed time none h = tt
   all-allowed time (also P Ps) h = (in-allowed time P (h .0), all-allowed time Ps (h .1))
 
--- the narrower grammar is part of the wider
+-- a packet of OSC 1.0 itself is allowed
 pub strict-allowed : (P : Packet) → Strict P → Allowed P
 strict-allowed = in-allowed 0
 
@@ -108,7 +109,7 @@ module _ (source : List ℕ) where
   mutual
     unfolding Allowed AllAllowed StrictIn AllStrict StrictNode StrictForest
 
-    -- the packet that its first node stands for is OSC 1.0's own
+    -- the packet that its first node stands for is one of OSC 1.0 itself
     pub strict-packet : (time : ℕ) (P : Packet) {item : Item} {f : Forest} (g : Forest) → Allowed P → StandsFor source P item f
         → StrictForest source time (node item f g) → StrictIn time P
     strict-packet time (message address A) g h (is-message m x) s =
@@ -154,7 +155,7 @@ module _ (source : List ℕ) where
     trees-strict time none no-packet h = tt
     trees-strict time (also P Ps) (packet {g = g} x r) h = tree-strict time P g x (h .0) (trees-strict time Ps r (h .1))
 
-  -- a tree that stands for a packet of OSC 1.0's own has only what OSC 1.0 has
+  -- a tree that stands for a packet of OSC 1.0 itself has only what OSC 1.0 has
   pub strict-tree : (P : Packet) {item : Item} {f : Forest} → StandsFor source P item f → Strict P → StrictTree source item f
   unfolding StrictForest
   strict-tree P x h = tree-strict 0 P nil x h tt

@@ -1,5 +1,5 @@
 -- What an encoder writes for a table, by its contract, is the bytes of the table's tree, and so a packet that OSC 1.0 allows: bare by
--- `encode`, and a message in a frame by `encode_tcp`.
+-- `encode`, and a message's in its frame by `encode_tcp`.
 use mathlib.Core.Path.{_≡_, refl}
 use mathlib.Core.List.{List}
 use Prim.Native.Nat.{ℕ, _≤_}
@@ -69,7 +69,8 @@ written-all source out item inside d n h =
 abbrev OfBytes : (ℕ → List ℕ → List ℕ) → (List ℕ → Item → Forest → Type 0) → (List ℕ → Item → Forest → List ℕ → Type 0) → Type 0
 OfBytes frame Given Is =
     (source : List ℕ) → Bytes source → (item : Item) (inside : Forest) → Obeys source bundleKind (node item inside nil)
-    → FieldsFit (node item inside nil) → Given source item inside → Is source item inside (frame (item .kind) (writePacket source item inside))
+    → FieldsFit (node item inside nil) → Given source item inside
+    → Is source item inside (frame (item .kind) (writePacket source item inside))
 
 module _ (Given : List ℕ → Item → Forest → Type 0) (Is : List ℕ → Item → Forest → List ℕ → Type 0) where
   -- holds of what is written
@@ -100,14 +101,15 @@ strict-bytes source bytes item inside o f s =
 pub osc10-written : Osc10Written
 osc10-written = of-written CleanTree Spelled unframed clean-bytes
 
--- for a tree that has only what OSC 1.0 has, the packet is OSC 1.0's own
+-- for a tree that has only what OSC 1.0 has, it is a packet of OSC 1.0 itself
 pub strict-written : StrictWritten
 strict-written = of-written StrictTree SpelledStrictly unframed strict-bytes
 
--- what `encode_tcp` writes for a message is its length and such a packet
+-- what `encode_tcp` writes for a clean table of a message is the frame of such a packet
 pub frame-written : FrameWritten
 frame-written = of-written (GivenMessage CleanTree) (FrameOf Spelled) prefixed (in-frame CleanTree Spelled clean-bytes)
 
--- and OSC 1.0's own where the tree has only what OSC 1.0 has
+-- and of a packet of OSC 1.0 itself where the tree has only what OSC 1.0 has
 pub strict-frame-written : StrictFrameWritten
-strict-frame-written = of-written (GivenMessage StrictTree) (FrameOf SpelledStrictly) prefixed (in-frame StrictTree SpelledStrictly strict-bytes)
+strict-frame-written =
+    of-written (GivenMessage StrictTree) (FrameOf SpelledStrictly) prefixed (in-frame StrictTree SpelledStrictly strict-bytes)

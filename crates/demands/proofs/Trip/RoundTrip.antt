@@ -59,8 +59,8 @@ round-trip t count source item inside w out room r e table enough =
     (omega (arith, w .shallow, tree-deep (S .packet) (S .stands))) in
     let B = read-back (w .formed) bs table (w .fits) enough S A in
     let written = written-all source out item inside (w .shallow) (w .fits) room in
-    let held : take (length bs) (treeOutcome unframed source out item inside .out) ≡ bs = written-held unframed source out item inside (length bs)
-    written in
+    let held : take (length bs) (treeOutcome unframed source out item inside .out) ≡ bs
+    = written-held unframed source out item inside (length bs) written in
     rw (outcome-is unframed (w .formed) e)
     (record {
       n = length bs;
