@@ -7,6 +7,7 @@
 --     Room        demand 3: more room; n records hold what n bytes decode to
 --     Longer      demand 3: more bytes
 --     Encodable   what is decoded can be read without testing it again, and encoded
+--     Starts      where each item began
 pub mod Placed
 pub mod Answered
 pub mod Calls
@@ -15,3 +16,4 @@ pub mod Trip
 pub mod Room
 pub mod Longer
 pub mod Encodable
+pub mod Starts

@@ -6,3 +6,4 @@ pub mod Strict
 pub mod Seen
 pub mod Standards
 pub mod There
+pub mod Starts

@@ -37,7 +37,8 @@ Within m (one item f u) = (1 + size f ≤ u) × (u ≤ m)
 abbrev ElementsIn : ℕ → Elements → Type 0
 ElementsIn m (upto f u) = (size f ≤ u) × (u ≤ m)
 
-after-in : (n m : ℕ) (o : Out) → n ≤ m → Within (m - n) o → Within m (after n o)
+-- a tree that was read after n bytes
+pub after-in : (n m : ℕ) (o : Out) → n ≤ m → Within (m - n) o → Within m (after n o)
 after-in n m (fault k) h w = tt
 after-in n m (one item f u) h w = omega arith
 
@@ -132,7 +133,8 @@ module _ (base : ℕ) where
   mutual
     unfolding packetAt elementsBy size
 
-    packet-at-in : (n : ℕ) (l : List ℕ) (p : ℕ) → Within (length l) (packetAt base n l p)
+    -- a packet takes no more than there is, at most n deep
+    pub packet-at-in : (n : ℕ) (l : List ℕ) (p : ℕ) → Within (length l) (packetAt base n l p)
     packet-at-in zero l p = tt
     packet-at-in (suc n) l p = packet-by-in base _ l p (λ m q. elements-at-in n m q)
 

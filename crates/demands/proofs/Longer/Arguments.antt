@@ -101,11 +101,12 @@ module _ (more : List ℕ) where
   arg-longer tag String base l p = text-arg-longer tag (base + p) (readText l p) (readText (l ++ more) p) (text-longer l p)
   arg-longer tag Blob base l p =
       let n = number 4 l in
-      having-longer 4 l (having (reach p (4 + n)) l (Given (argItem tag (base + (p + 4)) n) (reach p (4 + n)))) _
+      having-longer 4 l (having (reach p (4 + n)) l (Given (argItem tag (base + p) (base + (p + 4)) n) (reach p (4 + n)))) _
       (λ h. rw (number-longer 4 l h) (having-longer (reach p (4 + n)) l _ _ (λ k. refl)))
   arg-longer tag Scalar base l p =
       let n = number 4 l in
-      having-longer 4 l _ _ (λ h. rw (number-longer 4 l h) (same-arg (cond (isScalar n) (Given (argItem tag n 0) 4) (Refused NotScalar))))
+      having-longer 4 l _ _
+      (λ h. rw (number-longer 4 l h) (same-arg (cond (isScalar n) (Given (argItem tag (base + p) n 0) 4) (Refused NotScalar))))
   arg-longer tag Unknown base l p = tt
 
   -- ---- arguments
@@ -118,7 +119,7 @@ module _ (more : List ℕ) where
       (below : List Open)
       → ((m : List ℕ) (q : ℕ) (f : Forest) (b : List Open) → KeptArgs (go m q f b) (go (m ++ more) q f b))
       → KeptArgs (act s go base tag l p frame below) (act s go base tag (l ++ more) p frame below)
-  act-longer Opens go base tag l p frame below h = h l p nil (waits frame arrayItem ∷ below)
+  act-longer Opens go base tag l p frame below h = h l p nil (waits frame (arrayItem (base + p)) ∷ below)
   act-longer Closes go base tag l p frame [] h = tt
   act-longer Closes go base tag l p frame (waits outer item ∷ below) h = h l p (snoc outer item frame) below
   act-longer (Leaf class) go base tag l p frame below h = by-arg (readArg tag class base l p) (readArg tag class base (l ++ more) p) refl

@@ -145,17 +145,17 @@ module _ (base : ℕ) (more : List ℕ) where
       → Grows (bundleWith item x) (bundleWith item y)
   bundle-with-grows item k (upto f used) (upto g used') w = longer-bundle k w
 
-  bundle-grows : (l : List ℕ) (p : ℕ) → Grows (readBundle base l p) (readBundle base (l ++ more) p)
+  bundle-grows : (start : ℕ) (l : List ℕ) (p : ℕ) → Grows (readBundle base start l p) (readBundle base start (l ++ more) p)
   unfolding readBundle bundleBy
-  bundle-grows l p =
-      by-le (λ o. Grows o (readBundle base (l ++ more) p)) 8 (length l)
+  bundle-grows start l p =
+      by-le (λ o. Grows o (readBundle base start (l ++ more) p)) 8 (length l)
       (λ h. let h4 : 4 ≤ length l = omega arith in
       let h4' : 4 ≤ length (drop 4 l) = omega (arith, length-drop 4 l) in
       let eight = le-leb 8 (length (l ++ more)) (omega (arith, length-append l more)) in
       let seconds = number-longer more 4 l h4 in
       let fractional = number-longer more 4 (drop 4 l) h4' in
       rw (readBundle, bundleBy, eight, seconds, drop-append-le 4 l more h4, fractional, drop-append-le 8 l more h)
-      (bundle-with-grows (bundleItem l) refl (readElements base (drop 8 l) (p + 8)) (readElements base (drop 8 l ++ more) (p + 8))
+      (bundle-with-grows (bundleItem start l) refl (readElements base (drop 8 l) (p + 8)) (readElements base (drop 8 l ++ more) (p + 8))
       (elements-begin _ (drop 8 l) (p + 8) refl)))
       (λ h. was-refused)
 
@@ -187,5 +187,5 @@ module _ (base : ℕ) (more : List ℕ) where
           rw (k, drop-append-le used l more (message-start-in l p e .1))
           (after-grows used (message-grows (messageItem (base + p) n) refl (drop used l) (p + used)))
       by-start (start.Bundle used) s' e k =
-          rw (k, drop-append-le used l more (bundle-start-in l p e .1)) (after-grows used (bundle-grows (drop used l) (p + used)))
+          rw (k, drop-append-le used l more (bundle-start-in l p e .1)) (after-grows used (bundle-grows (base + p) (drop used l) (p + used)))
       by-start (start.Refused f) s' e k = was-refused

@@ -39,7 +39,7 @@ join-nil f = refl
 
 -- ---- what a tag does
 module _ (base : ℕ) (ts l : List ℕ) (p : ℕ) (frame : Forest) (below : List Open) where
-  read-opens : readTags base (arrayKind ∷ ts) l p frame below ≡ readTags base ts l p nil (waits frame arrayItem ∷ below)
+  read-opens : readTags base (arrayKind ∷ ts) l p frame below ≡ readTags base ts l p nil (waits frame (arrayItem (base + p)) ∷ below)
   unfolding readTags sortOf
   read-opens = refl
 
@@ -96,16 +96,17 @@ module _ {s : List ℕ} {base : ℕ} {rest : OscArguments} {x y ts more : List �
 
   -- an array, then others
   after-array : {within : OscArguments}
-      (I : ArgsRead s base within x (93 ∷ (tagsOf rest ++ ts)) (y ++ more) p nil (waits frame arrayItem ∷ below))
-      → ArgsRead s base rest y ts more (p + length x) (snoc frame arrayItem (I .forest)) below
+      (I : ArgsRead s base within x (93 ∷ (tagsOf rest ++ ts)) (y ++ more) p nil (waits frame (arrayItem (base + p)) ∷ below))
+      → ArgsRead s base rest y ts more (p + length x) (snoc frame (arrayItem (base + p)) (I .forest)) below
       → ArgsRead s base (array within rest) (x ++ y) ts more p frame below
   unfolding tagsOf
   after-array {within} I R =
-      let close : readTags base (93 ∷ (tagsOf rest ++ ts)) (y ++ more) (p + length x) (join nil (I .forest)) (waits frame arrayItem ∷ below)
-      ≡ readTags base (tagsOf rest ++ ts) (y ++ more) (p + length x) (snoc frame arrayItem (I .forest)) below
-      = rw join-nil (read-closes base (tagsOf rest ++ ts) (y ++ more) (p + length x) (I .forest) below frame arrayItem) in
+      let array = arrayItem (base + p) in
+      let close : readTags base (93 ∷ (tagsOf rest ++ ts)) (y ++ more) (p + length x) (join nil (I .forest)) (waits frame array ∷ below)
+      ≡ readTags base (tagsOf rest ++ ts) (y ++ more) (p + length x) (snoc frame array (I .forest)) below
+      = rw join-nil (read-closes base (tagsOf rest ++ ts) (y ++ more) (p + length x) (I .forest) below frame array) in
       record {
-        forest = node arrayItem (I .forest) (R .forest);
+        forest = node array (I .forest) (R .forest);
         stands = branch (record { kind = refl; first = refl; second = refl }) (I .stands) (R .stands);
         read =
             rw (append-assoc (tagsOf within) (93 ∷ tagsOf rest) ts, append-assoc x y more, sum p x y, length-append x y, ← join-snoc)
@@ -131,9 +132,10 @@ module _ (s : List ℕ) (base : ℕ) where
       (at-next base p x y at) (omega arith))
   args-read (array within rest) (one-array {x = x} {y = y} i r) h ts more p frame below z at low =
       let n = length-append x y in
-      let I = args-read within i (h .0) (93 ∷ (tagsOf rest ++ ts)) (y ++ more) p nil (waits frame arrayItem ∷ below) z (at-front x y at)
+      let array = arrayItem (base + p) in
+      let I = args-read within i (h .0) (93 ∷ (tagsOf rest ++ ts)) (y ++ more) p nil (waits frame array ∷ below) z (at-front x y at)
       (omega arith) in
-      after-array I (args-read rest r (h .1) ts more (p + length x) (snoc frame arrayItem (I .forest)) below
+      after-array I (args-read rest r (h .1) ts more (p + length x) (snoc frame array (I .forest)) below
       (omega (arith, arguments-even i)) (at-next base p x y at) (omega arith))
 
   -- the arguments of a message, whole

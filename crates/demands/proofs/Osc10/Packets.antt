@@ -105,16 +105,16 @@ module _ (base : ℕ) where
       ∙ rw (string-take w d, drop-at t d (length t) refl, e)
 
   -- a time tag and elements
-  bundle-read : (seconds fractional : ℕ) (es : List ℕ) (p : ℕ) → seconds < 256 ^ 4 → fractional < 256 ^ 4 → {F : Forest} {n : ℕ}
+  bundle-read : (start seconds fractional : ℕ) (es : List ℕ) (p : ℕ) → seconds < 256 ^ 4 → fractional < 256 ^ 4 → {F : Forest} {n : ℕ}
       → readElements base es (p + 8) ≡ upto F n
-      → readBundle base (oscInt32 seconds ++ (oscInt32 fractional ++ es)) p
-      ≡ one (record { kind = bundleKind; a = seconds; b = fractional }) F (8 + n)
-  bundle-read x y es p hx hy e =
+      → readBundle base start (oscInt32 seconds ++ (oscInt32 fractional ++ es)) p
+      ≡ one (record { kind = bundleKind; a = seconds; b = fractional; start = start }) F (8 + n)
+  bundle-read start x y es p hx hy e =
       let m = oscInt32 x ++ (oscInt32 y ++ es) in
       let d4 : drop 4 m ≡ oscInt32 y ++ es = drop-at (oscInt32 x) (oscInt32 y ++ es) 4 (length-bytes 4 x) in
       let d8 : drop 8 m ≡ es = sym (drop-drop 4 4 m) ∙ ap (drop 4) d4 ∙ drop-at (oscInt32 y) es 4 (length-bytes 4 y) in
       let h : 8 ≤ length m = simp (length-append, length-bytes) (omega arith) in
-      bundle-long base m p h ∙ rw (read-written 4 x (oscInt32 y ++ es) hx, d4, read-written 4 y es hy, d8, e)
+      bundle-long base start m p h ∙ rw (read-written 4 x (oscInt32 y ++ es) hx, d4, read-written 4 y es hy, d8, e)
 
   -- an element before others
   element-read : (c es : List ℕ) (p : ℕ) {item : Item} {u : ℕ} {f : Forest} → length c < 256 ^ 4 → readPacket base c (p + 4) ≡ one item f u
@@ -187,12 +187,12 @@ module _ (s : List ℕ) (base : ℕ) where
       let same : sameBytes (take (length hashBundle) (w ++ m)) bundleWord ≡ true = rw (string-take v m) in
       let starts = start-bundle (w ++ m) p some (string-read v m p bundle-text z) (λ z. omega arith) same in
       record {
-        item = record { kind = bundleKind; a = x; b = y };
+        item = record { kind = bundleKind; a = x; b = y; start = base + p };
         inside = F .forest;
         read =
             rw n
             (starts-bundle base (w ++ m) p starts
-            ∙ rw (drop-at w m (length w) refl, bundle-read base x y es (p + length w) hx hy q));
+            ∙ rw (drop-at w m (length w) refl, bundle-read base (base + p) x y es (p + length w) hx hy q));
         stands = is-bundle (record { kind = refl; first = refl; second = refl }) (F .stands);
       }
 

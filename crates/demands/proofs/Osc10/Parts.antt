@@ -94,7 +94,7 @@ module _ (s : List ℕ) (base : ℕ) where
   unfolding readArg
   atom-read (as-word {tag = tag} {x = x}) h more p z at low =
       record {
-        item = argItem tag x 0;
+        item = argItem tag (base + p) x 0;
         given = rw length-bytes (four-given _ tag base p (four-long x more) (sym (read-written 4 x more (h .1))));
         is = record { kind = refl; numbers = (refl, refl) };
       }
@@ -104,16 +104,16 @@ module _ (s : List ℕ) (base : ℕ) where
       let d : drop 4 (oscInt32 x ++ (oscInt32 y ++ more)) ≡ oscInt32 y ++ more = drop-at (oscInt32 x) _ 4 (length-bytes 4 x) in
       let k : 8 ≤ length (oscInt32 x ++ (oscInt32 y ++ more)) = simp (length-append, length-bytes) (omega arith) in
       record {
-        item = argItem tag x y;
+        item = argItem tag (base + p) x y;
         given = rw (n, e) (eight-given _ tag base p k (sym (read-written 4 x (oscInt32 y ++ more) (h .1)))
             (sym (ap (number 4) d ∙ read-written 4 y more (h .2))));
         is = record { kind = refl; numbers = (refl, refl) };
       }
   atom-read (as-bare {tag = tag}) h more p z at low =
-      record { item = argItem tag 0 0; given = refl; is = record { kind = refl; numbers = (refl, refl) } }
+      record { item = argItem tag (base + p) 0 0; given = refl; is = record { kind = refl; numbers = (refl, refl) } }
   atom-read (as-string {text = text} w) h more p z at low =
       record {
-        item = argItem 115 (base + p) (length text);
+        item = argItem 115 (base + p) (base + p) (length text);
         given = text-given _ 115 base p (string-read w more p h z);
         is = record { kind = refl; numbers = range-at (at-front text _ (rw (w .spelled) at at)) };
       }
@@ -127,13 +127,13 @@ module _ (s : List ℕ) (base : ℕ) where
       let x : n ≡ number 4 (bs ++ more) = rw e (sym (read-written 4 n _ (omega arith))) in
       let r : (p + 4 + n + 3) / 4 * 4 - p ≡ length bs = omega (arith, w .few, w .multiple) in
       record {
-        item = argItem 98 (base + p + 4) n;
+        item = argItem 98 (base + p + 4 - 4) (base + p + 4) n;
         given = rw r at (blob-given (bs ++ more) 98 base p (omega arith) x (omega arith));
         is = record { kind = refl; numbers = range-at (blob-at w at) };
       }
   atom-read (as-char {x = x}) h more p z at low =
       record {
-        item = argItem 99 x 0;
+        item = argItem 99 (base + p) x 0;
         given = rw length-bytes
             (scalar-given _ 99 base p (four-long x more) (sym (read-written 4 x more (scalar-small x h))) h);
         is = record { kind = refl; numbers = (refl, refl) };

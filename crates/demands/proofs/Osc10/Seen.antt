@@ -37,6 +37,8 @@ use Rattle.decoder.proofs.Sizes.{WholeIn, whole-in}
 use Rattle.demands.proofs.Answered.{after-fits, after-held}
 use Rattle.demands.proofs.Osc10.Tags.{of-among, classIs, atom-sort}
 use Rattle.demands.proofs.Osc10.Trees.{packet-fits}
+use Rattle.demands.proofs.Starts.Forests.{Begun}
+use Rattle.demands.proofs.Starts.Tables.{WholeBegun, whole-begun}
 use Rattle.demands.proofs.Osc10.Accepted.{osc10-accepted, frame-accepted}
 
 -- ---- a record of an argument keeps its own rules
@@ -203,7 +205,9 @@ module _ (framing : Framing) (P : Packet) (l : List ℕ) (h : Allowed P) (low : 
       let q : answerTo rule deepest l table ≡ Packets count 0 = rw c at (A .decodes (capacity table) (omega arith)) in
       let few : size F + 0 ≤ length l = subst (WholeIn (length l)) (A .read) (whole-in framing l) in
       let t = tableAfter rule deepest l table in
-      let w = after-held rule deepest l table q F (ap forestOf (A .read)) (packet-fits (omega arith) P h (A .stands)) (omega arith) in
+      let b : Begun 0 F (length l) = subst (WholeBegun 0 (length l)) (A .read) (whole-begun framing l) in
+      let f = packet-fits (omega arith) P h (A .stands) b (omega arith) in
+      let w = after-held rule deepest l table q F (ap forestOf (A .read)) f (omega arith) in
       let s = w .spans in
       let fits = after-fits rule deepest l table q in
       record {

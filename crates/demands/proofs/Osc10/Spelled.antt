@@ -225,9 +225,9 @@ module _ (source : List ℕ) (small : Bytes source) where
   args-are (node item inside rest) container q o c f =
       let k = item .kind in
       let p : isPacket k ≡ false = not-true (isPacket k) (sym (q k) ∙ o .2) in
-      node-args item inside rest (args-are rest container q (o .4) (c .2) (f .3)) (sortOf k) refl (has-sort k) p (rw p at (o .0)) (o .1)
+      node-args item inside rest (args-are rest container q (o .4) (c .2) (f .4)) (sortOf k) refl (has-sort k) p (rw p at (o .0)) (o .1)
       (c .0) (f .0) (f .1) (o .3)
-      (λ h. args-are inside arrayKind array-allows h (c .1) (f .2))
+      (λ h. args-are inside arrayKind array-allows h (c .1) (f .3))
 
   -- ---- packets
 
@@ -297,13 +297,13 @@ module _ (source : List ℕ) (small : Bytes source) where
     unfolding Obeys Clean FieldsFit writePacket
     packet-by go =
         a-packet (eqb (item .kind) messageKind) item inside refl (o .1) (o .2) (c .0) (f .0) (f .1) (o .3)
-        (λ h. args-are inside messageKind message-allows h (c .1) (f .2)) (λ h. go h (c .1) (f .2))
+        (λ h. args-are inside messageKind message-allows h (c .1) (f .3)) (λ h. go h (c .1) (f .3))
 
   packets-are : (F : Forest) → Obeys source bundleKind F → Clean source F → FieldsFit F → PacketsWritten F
   unfolding Obeys Clean FieldsFit writeElements AllAllowed
   packets-are nil o c f = record { packets = none; allowed = tt; stands = no-packet; spells = no-element }
   packets-are (node item inside rest) o c f =
-      one-more item inside rest (packets-are rest (o .4) (c .2) (f .3)) (packet-by item inside rest o c f (packets-are inside))
+      one-more item inside rest (packets-are rest (o .4) (c .2) (f .4)) (packet-by item inside rest o c f (packets-are inside))
 
   -- the tree's packet, and that its bytes spell it
   pub packet-is : (item : Item) (inside : Forest) → Obeys source bundleKind (node item inside nil) → Clean source (node item inside nil)

@@ -85,9 +85,9 @@ strict-clean source time (node item inside rest) h =
 module _ (source : List ℕ) where
   -- a node of a kind of which nothing is asked
   plain-node : (time : ℕ) (item : Item) (tag : ℕ) (tags : List ℕ)
-      → All (λ k. StrictNode source time (record { kind = k; a = item .a; b = item .b })) tags → among tag tags ≡ true
-      → StrictNode source time (record { kind = tag; a = item .a; b = item .b })
-  plain-node time item = of-among (λ k. StrictNode source time (record { kind = k; a = item .a; b = item .b }))
+      → All (λ k. StrictNode source time (record { kind = k; a = item .a; b = item .b; start = item .start })) tags → among tag tags ≡ true
+      → StrictNode source time (record { kind = tag; a = item .a; b = item .b; start = item .start })
+  plain-node time item = of-among (λ k. StrictNode source time (record { kind = k; a = item .a; b = item .b; start = item .start }))
 
   atom-strict : (time : ℕ) (v : Atom) {item : Item} → AtomAllowed v → AtomIs source v item → StrictNode source time item → AtomStrict v
   unfolding StrictNode

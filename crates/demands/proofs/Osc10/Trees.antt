@@ -10,6 +10,8 @@ use Rattle.node.specs.Tags.{messageKind, bundleKind, arrayKind}
 use Rattle.node.specs.Forest.{Forest, nil, node, size, level, depth}
 use Rattle.node.specs.declared.record.Item.{Item}
 use Rattle.table.specs.Tree.{FieldsFit}
+use Rattle.demands.proofs.Starts.Forests.{Begun, begun-le}
+use Rattle.demands.proofs.Starts.Forests as begun
 use Rattle.demands.specs.Words.{rangedKind, SameItem, Same, both}
 use Rattle.demands.specs.Words as words
 use Rattle.demands.specs.Osc10.{Atom, word, long, bare, string, blob, char, OscArguments, end, atom, array, Packet, message, bundle}
@@ -95,31 +97,45 @@ module _ {s : List ℕ} (low : length s < 256 ^ 4) where
   atom-fits (blob content) h w = (omega (arith, w .numbers .lies), omega (arith, w .numbers .lies))
   atom-fits (char x) h w = (omega (arith, scalar-small x h, w .numbers .0), omega (arith, w .numbers .1))
 
-  arguments-fit : (A : OscArguments) {F : Forest} → ArgumentsAllowed A → ArgumentsAre s A F → FieldsFit F
+  arguments-fit : (A : OscArguments) {from upto : ℕ} {F : Forest} → ArgumentsAllowed A → ArgumentsAre s A F → Begun from F upto
+      → upto < 256 ^ 4 → FieldsFit F
   unfolding ArgumentsAllowed FieldsFit
-  arguments-fit end h no-node = tt
-  arguments-fit (atom v rest) h (leaf x r) = let e = atom-fits v (h .0) x in (e .0, e .1, tt, arguments-fit rest (h .1) r)
-  arguments-fit (array within rest) h (branch w x r) =
-      (omega (arith, w .first), omega (arith, w .second), arguments-fit within (h .0) x, arguments-fit rest (h .1) r)
+  arguments-fit end h no-node b n = tt
+  arguments-fit (atom v rest) h (leaf x r) (begun.Begun.also k g i j) n =
+      let e = atom-fits v (h .0) x in
+      (e .0, e .1, omega (arith, begun-le i, begun-le j), tt, arguments-fit rest (h .1) r j n)
+  arguments-fit (array within rest) h (branch w x r) (begun.Begun.also k g i j) n = (
+    omega (arith, w .first),
+    omega (arith, w .second),
+    omega (arith, begun-le i, begun-le j),
+    arguments-fit within (h .0) x i (omega (arith, begun-le j)),
+    arguments-fit rest (h .1) r j n,
+  )
 
   mutual
     unfolding Allowed AllAllowed FieldsFit
 
-    tree-fits : (P : Packet) {item : Item} {f : Forest} (g : Forest) → Allowed P → StandsFor s P item f → FieldsFit g
-        → FieldsFit (node item f g)
-    tree-fits (message address A) g h (is-message m x) w =
-        (omega (arith, m .range .lies), omega (arith, m .range .lies), arguments-fit A (h .2) x, w)
-    tree-fits (bundle seconds fractional Ps) g h (is-bundle b x) w =
-        (omega (arith, h .0, b .first), omega (arith, h .1, b .second), forest-fits Ps (h .2) x, w)
+    tree-fits : (P : Packet) {from upto : ℕ} {item : Item} {f : Forest} → Allowed P → StandsFor s P item f → Begun from f upto
+        → upto < 256 ^ 4 → (item .a < 256 ^ 4) × (item .b < 256 ^ 4) × FieldsFit f
+    tree-fits (message address A) h (is-message m x) b n =
+        (omega (arith, m .range .lies), omega (arith, m .range .lies), arguments-fit A (h .2) x b n)
+    tree-fits (bundle seconds fractional Ps) h (is-bundle t x) b n =
+        (omega (arith, h .0, t .first), omega (arith, h .1, t .second), forest-fits Ps (h .2) x b n)
 
-    forest-fits : (Ps : Packets) {F : Forest} → AllAllowed Ps → StandFor s Ps F → FieldsFit F
-    forest-fits none h no-packet = tt
-    forest-fits (also P Ps) h (packet {g = g} x r) = tree-fits P g (h .0) x (forest-fits Ps (h .1) r)
+    forest-fits : (Ps : Packets) {from upto : ℕ} {F : Forest} → AllAllowed Ps → StandFor s Ps F → Begun from F upto → upto < 256 ^ 4
+        → FieldsFit F
+    forest-fits none h no-packet b n = tt
+    forest-fits (also P Ps) h (packet x r) (begun.Begun.also k g i j) n =
+        let w = tree-fits P (h .0) x i (omega (arith, begun-le j)) in
+        (w .0, w .1, omega (arith, begun-le i, begun-le j), w .2, forest-fits Ps (h .1) r j n)
 
-  -- the numbers of a tree that stands for a packet fit a record
-  pub packet-fits : (P : Packet) {item : Item} {f : Forest} → Allowed P → StandsFor s P item f → FieldsFit (node item f nil)
+  -- the numbers of a tree that stands for a packet fit a record, where its starts do
+  pub packet-fits : (P : Packet) {from upto : ℕ} {item : Item} {f : Forest} → Allowed P → StandsFor s P item f
+      → Begun from (node item f nil) upto → upto < 256 ^ 4 → FieldsFit (node item f nil)
   unfolding FieldsFit
-  packet-fits P h x = tree-fits P nil h x tt
+  packet-fits P h x (begun.Begun.also k g i j) n =
+      let w = tree-fits P h x i (omega (arith, begun-le j)) in
+      (w .0, w .1, omega (arith, begun-le i, begun-le j), w .2, tt)
 
 -- ---- a packet's depth is its tree's
 

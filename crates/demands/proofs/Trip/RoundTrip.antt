@@ -1,6 +1,6 @@
 -- The round trip of demand 2: what `encode` writes for a table is a packet that OSC 1.0 allows; that packet is accepted as what it is; and
 -- trees that stand for one packet are the same.
-use mathlib.Core.Path.{_≡_, sym, ap, _∙_}
+use mathlib.Core.Path.{_≡_, sym, ap, subst, _∙_}
 use mathlib.Core.List.{List}
 use Prim.Native.Nat.{ℕ, _≤_}
 use native.Mathlib.Omega.{arith}
@@ -11,6 +11,7 @@ use Rattle.node.specs.Records.{capacity}
 use Rattle.node.specs.declared.record.Item.{Item}
 use Rattle.decoder.specs.Framing.{udp}
 use Rattle.decoder.specs.Limits.{decoded, forestOf}
+use Rattle.decoder.specs.declared.Framing.the-variants.{Udp}
 use Rattle.decoder.specs.declared.Decoded.the-variants.{Packets}
 use Rattle.table.specs.Tree.{IsTree, FieldsFit}
 use Rattle.writers.specs.Osc.{writePacket}
@@ -26,6 +27,8 @@ use Rattle.demands.proofs.Osc10.Trees.{same-tree, same-size, packet-fit
 use Rattle.demands.proofs.Osc10.Accepted.{osc10-accepted}
 use Rattle.demands.proofs.Osc10.Spelled.{packet-is}
 use Rattle.demands.proofs.Trip.Tables.{spans-fit, same-table}
+use Rattle.demands.proofs.Starts.Forests.{Begun}
+use Rattle.demands.proofs.Starts.Tables.{WholeBegun, whole-begun}
 use Rattle.demands.proofs.Osc10.Written.{outcome-is, written-held, written-all}
 
 -- bytes that spell the packet of a table's tree are decoded to a table that holds the same
@@ -43,7 +46,8 @@ module _ {t : List ℕ} {count : ℕ} {source : List ℕ} {item : Item} {inside 
       let same : Same source l F T = same-tree (S .packet) (S .allowed) (S .stands) (A .stands) words.Same.none in
       let n : size T ≡ count = sym (same-size same) ∙ tree-size w in
       let d : answerTo udp deepest l table ≡ Packets count 0 = rw n at (A .decodes (capacity table) (omega arith)) in
-      let f : FieldsFit T = packet-fits (omega arith) (S .packet) (S .allowed) (A .stands) in
+      let b : Begun 0 T (length l) = subst (WholeBegun 0 (length l)) (A .read) (whole-begun Udp l) in
+      let f : FieldsFit T = packet-fits (omega arith) (S .packet) (S .allowed) (A .stands) b (omega arith) in
       let s = after-held udp deepest l table d T (ap forestOf (A .read)) f (omega (arith, w .few)) .spans in
       record { decodes = d; same = same-table t (tableAfter udp deepest l table) count same (w .spans) s }
 

@@ -25,6 +25,7 @@ spans-fit t small lo hi (node item inside rest) s =
     let fit : (n : ℕ) → _ = λ n. number-small 4 (drop n t) (drop-small n t small) in (
       rw (← s .0) (fit (recordStart lo + 8)),
       rw (← s .0) (fit (recordStart lo + 12)),
+      rw (← s .0) (fit (recordStart lo + 16)),
       spans-fit t small (lo + 1) (endAt t lo) inside (s .1),
       spans-fit t small (endAt t lo) hi rest (s .2),
     )

@@ -1,0 +1,132 @@
+-- Packets, and the elements of a bundle, begin one after another in the bytes that are read of them.
+use mathlib.Core.Path.{_≡_, refl, subst}
+use mathlib.Core.List.{List}
+use Prim.Native.Nat.{ℕ, zero, suc, _+_, _≤_}
+use native.Mathlib.Omega.{arith}
+use lib.ListN.{length, take, drop, length-drop, length-take}
+use Rattle.wire.proofs.Choices.{by-le}
+use Rattle.node.specs.Forest.{Forest, nil}
+use Rattle.node.specs.declared.record.Item.{Item}
+use Rattle.text.specs.Text.{readText}
+use Rattle.text.specs.declared.Text.{Text}
+use Rattle.text.specs.declared.Text.the-variants.{Found, Lacks}
+use Rattle.arguments.specs.Arguments.{Args, refused, args, readArgs}
+use Rattle.packet.specs.Heads.{startOf, tagsIn, sizeOf}
+use Rattle.packet.specs.Packet.{Out, fault, one, Elements, upto, after, messageItem, messageWith, typesThen, readMessage, bundleItem}
+use Rattle.packet.specs.Packet.{bundleWith, bundleBy, filling, heldBy, elementBy, joined, goOn, elementsBy, startedBy, packetBy}
+use Rattle.packet.specs.Packet.{packetAt, elementsAt, readPacket}
+use Rattle.packet.specs.declared.Start.{Start}
+use Rattle.packet.specs.declared.Start.the-variants as start
+use Rattle.packet.specs.declared.ElementSize.{ElementSize}
+use Rattle.packet.specs.declared.ElementSize.the-variants as size
+use Rattle.packet.proofs.Heads.{size-in}
+use Rattle.packet.proofs.Within.{Within, packet-at-in}
+use Rattle.demands.specs.Starts.{Begins}
+use Rattle.demands.proofs.Starts.Forests.{Begun, none, also, begun-from, begun-to}
+use Rattle.demands.proofs.Starts.Arguments.{no-range, args-begun}
+
+-- a packet that was read from position p on, and what it contains, begin between `low` and the end of what was read
+abbrev pub OutBegun : ℕ → ℕ → ℕ → Out → Type 0
+OutBegun low base p (fault k) = Unit {0}
+OutBegun low base p (one item f used) = (low ≤ item .start) × Begins item × Begun (item .start) f (base + (p + used))
+
+-- the same of the elements of a bundle
+abbrev ElementsBegun : ℕ → ℕ → Elements → Type 0
+ElementsBegun base p (upto f used) = Begun (base + p) f (base + (p + used))
+
+-- so does one with bytes read before it
+pub after-begun : {low : ℕ} (base p n : ℕ) (o : Out) → OutBegun low base (p + n) o → OutBegun low base p (after n o)
+after-begun base p n (fault k) w = tt
+after-begun base p n (one item f used) w = (w .0, w .1, begun-to (omega arith) (w .2))
+
+module _ (base : ℕ) where
+  -- ---- messages
+
+  with-begun : (q n : ℕ) (p : ℕ) (o : Args) → q ≤ base + p
+      → ((kept : Forest) (used : ℕ) → args kept used ≡ o → Begun (base + p) kept (base + (p + used)))
+      → OutBegun q base p (messageWith (messageItem q n) o)
+  with-begun q n p (refused k) le h = tt
+  with-begun q n p (args kept used) le h =
+      (omega arith, record { text = λ _. refl; blob = λ e. absurd (omega arith) }, begun-from le (h kept used refl))
+
+  message-begun : (q n : ℕ) (l : List ℕ) (p : ℕ) → q ≤ base + p → OutBegun q base p (readMessage base (messageItem q n) l p)
+  unfolding readMessage
+  message-begun q n l p le = by-text (readText l p)
+    where
+      by-text : (t : Text) → OutBegun q base p (typesThen base (messageItem q n) l p t)
+      by-text (Lacks k) = tt
+      by-text (Found m used) =
+          let o = readArgs base (tagsIn (take m l)) (drop used l) (p + used) in
+          after-begun base p used (messageWith (messageItem q n) o)
+          (with-begun q n (p + used) o (omega arith)
+          (λ kept v g. args-begun base (tagsIn (take m l)) (drop used l) (p + used) g))
+
+  -- ---- bundles
+
+  bundle-begun : (q : ℕ) (es : List ℕ → ℕ → Elements) (l : List ℕ) (p : ℕ) → q ≤ base + p
+      → ((m : List ℕ) (r : ℕ) → ElementsBegun base r (es m r))
+      → OutBegun q base p (bundleBy q es l p)
+  unfolding bundleBy
+  bundle-begun q es l p le h = by-le (OutBegun q base p) 8 (length l)
+      (λ k. with-elements (es (drop 8 l) (p + 8)) (h (drop 8 l) (p + 8))) (λ _. tt)
+    where
+      with-elements : (x : Elements) → ElementsBegun base (p + 8) x → OutBegun q base p (bundleWith (bundleItem q l) x)
+      with-elements (upto f used) w =
+          (omega arith, no-range (bundleItem q l) refl, begun-from (omega arith) (begun-to (omega arith) w))
+
+  -- ---- packets
+
+  packet-by-begun : (es : List ℕ → ℕ → Elements) (l : List ℕ) (p : ℕ) → ((m : List ℕ) (r : ℕ) → ElementsBegun base r (es m r))
+      → OutBegun (base + p) base p (packetBy base es l p)
+  unfolding packetBy
+  packet-by-begun es l p h = by-start (startOf l p)
+    where
+      by-start : (x : Start) → OutBegun (base + p) base p (startedBy base es l p x)
+      by-start (start.Message n used) =
+          after-begun base p used (readMessage base (messageItem (base + p) n) (drop used l) (p + used))
+          (message-begun (base + p) n (drop used l) (p + used) (omega arith))
+      by-start (start.Bundle used) =
+          after-begun base p used (bundleBy (base + p) es (drop used l) (p + used))
+          (bundle-begun (base + p) es (drop used l) (p + used) (omega arith) h)
+      by-start (start.Refused k) = tt
+
+  -- ---- elements
+
+  joined-begun : (p n : ℕ) (item : Item) (f : Forest) (g : Elements) → base + p ≤ item .start → Begins item
+      → Begun (item .start) f (base + (p + (4 + n))) → ElementsBegun base (p + (4 + n)) g
+      → ElementsBegun base p (joined item f n g)
+  joined-begun p n item f (upto g used) h b w v = also h b w (begun-to (omega arith) v)
+
+  -- an element's packet takes no more than the element
+  filled-begun : (es : List ℕ → ℕ → Elements) → ((m : List ℕ) (r : ℕ) → ElementsBegun base r (es m r))
+      → (l : List ℕ) (p n : ℕ) (o : Out) → Within n o → OutBegun (base + (p + 4)) base (p + 4) o
+      → ElementsBegun base p (goOn es l p (filling n o))
+  filled-begun es h l p n (fault k) v w = none (omega arith)
+  filled-begun es h l p n (one item f used) v w =
+      joined-begun p n item f (es (drop (4 + n) l) (p + (4 + n))) (omega (arith, w .0)) (w .1) (begun-to (omega (arith, v)) (w .2))
+      (h (drop (4 + n) l) (p + (4 + n)))
+
+  mutual
+    unfolding packetAt elementsBy elementBy
+
+    packet-at-begun : (n : ℕ) (l : List ℕ) (p : ℕ) → OutBegun (base + p) base p (packetAt base n l p)
+    packet-at-begun zero l p = tt
+    packet-at-begun (suc n) l p = packet-by-begun _ l p (λ m q. elements-at-begun n m q)
+
+    elements-at-begun : (n : ℕ) (l : List ℕ) (p : ℕ) → ElementsBegun base p (elementsAt base n l p)
+    elements-at-begun zero l p = none (omega arith)
+    elements-at-begun (suc n) l p = by-size (sizeOf l) refl
+      where
+        by-size : (x : ElementSize) → x ≡ sizeOf l
+            → ElementsBegun base p (goOn (λ m q. elementsAt base n m q) l p (heldBy (λ m q. packetAt base n m q) l p x))
+        by-size (size.Holds k) e =
+            let m = take k (drop 4 l) in
+            let same : length m ≡ k = omega (arith, size-in l e, length-take k (drop 4 l), length-drop 4 l) in
+            filled-begun _ (λ m q. elements-at-begun n m q) l p k (packetAt base n m (p + 4)) (rw same at (packet-at-in base n m (p + 4)))
+            (packet-at-begun n m (p + 4))
+        by-size size.RunsOut e = none (omega arith)
+
+  -- a packet and all that it contains begin in the bytes that are read of it
+  pub packet-begun : (l : List ℕ) (p : ℕ) → OutBegun (base + p) base p (readPacket base l p)
+  unfolding readPacket
+  packet-begun l p = packet-at-begun (length l) l p
