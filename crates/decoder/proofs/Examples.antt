@@ -1,6 +1,6 @@
 -- Document 01's "Proved examples" and the readings that are easily got wrong, as calls: whatever a decoder answers and leaves by its
--- contract. The table that is lent has 160 bytes, none of them zero, so room for 8 records; the depth limit is 64. Where nothing else is said,
--- both are ample.
+-- contract. The table that is lent has 160 bytes, none of them zero, and so room for 8 records, and the depth limit is 64, where nothing
+-- else is said.
 use mathlib.Core.Path.{_≡_, ap}
 use mathlib.Core.List.{List, [], _∷_, _++_}
 use Prim.Native.Nat.{ℕ}

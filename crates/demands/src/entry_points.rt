@@ -21,7 +21,8 @@ fn decode_tcp(msg: &[u8], table: &mut [u8], depth: usize) -> Decoded
 }
 
 fn decode_tcp_vec(msg: &[u8], table: &mut [u8], depth: usize) -> Decoded
-    ensures { λ r. ⌜ Meets (decode TcpVec (now (msg .entry)) (now (table .entry)) depth) (record { answer = r; lent = now (table .exit) }) ⌝ }
+    ensures { λ r. ⌜ Meets (decode TcpVec (now (msg .entry)) (now (table .entry)) depth)
+        (record { answer = r; lent = now (table .exit) }) ⌝ }
 {
     decoder::decode_tcp_vec(msg, table, depth)
 }

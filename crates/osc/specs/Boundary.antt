@@ -70,7 +70,9 @@ pub data CEnds (c : CCall) (told : ℕ) (after : List ℕ) : Type 0 where
 
 -- a contract settles the number that is told and every lent byte: no second outcome meets it
 abbrev pub CSettled : Type 0
-CSettled = (c : CCall) (told told′ : ℕ) (after after′ : List ℕ) → CMeets c told after → CMeets c told′ after′ → (told ≡ told′) × (after ≡ after′)
+CSettled =
+    (c : CCall) (told told′ : ℕ) (after after′ : List ℕ) → CMeets c told after → CMeets c told′ after′
+    → (told ≡ told′) × (after ≡ after′)
 
 -- demand 1 for the eight functions: whatever meets the contract ends so
 abbrev pub EndsListed : Type 0

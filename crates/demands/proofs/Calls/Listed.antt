@@ -25,8 +25,7 @@ use Rattle.decoder.specs.Limits.{decodeOrder, limited, decoded}
 use Rattle.decoder.specs.declared.Decoded.{Decoded}
 use Rattle.strings.specs.Atomic.{oscString}
 use Rattle.writers.specs.Osc.{writePacket}
-use Rattle.encoder.specs.Outcome.{encodeOrder, stringOrder, Outcome, bytesOutcome, treeOutcome, Encodes, malformed, formed}
-use Rattle.encoder.specs.Outcome.{stringOutcome}
+use Rattle.encoder.specs.Outcome.{encodeOrder, Outcome, bytesOutcome, treeOutcome, Encodes, malformed, formed, stringOutcome}
 use Rattle.demands.specs.Calls.{decode, encode, encode-tcp, encode-string, pad, look, text-of}
 use Rattle.demands.specs.Calls.{byDecoded, byEncoded, byPadded, byLooked, numbersOf, Listed}
 use Rattle.demands.specs.Calls.{AnswersListed}
@@ -117,10 +116,11 @@ encodes-listed {frame} {source = source} {out = out} (formed item inside w e) =
     (by-le (Encoding encodeOrder) (depth (node item inside nil)) deepest
     (λ h. write-listed encodeOrder (frame (item .kind) (writePacket source item inside)) out refl refl) (λ h. refl))
 
-string-listed : (text out : List ℕ) → Encoding stringOrder (stringOutcome text out)
+string-listed : (text out : List ℕ) → Encoding (numbersOf (encode-string text out)) (stringOutcome text out)
 unfolding stringOutcome
 string-listed text out =
-    by-test (Encoding stringOrder) (utf8 text) (λ h. write-listed stringOrder (oscString text) out refl refl) (λ h. refl)
+    let numbers = numbersOf (encode-string text out) in
+    by-test (Encoding numbers) (utf8 text) (λ h. write-listed numbers (oscString text) out refl refl) (λ h. refl)
 
 -- ---- `pad` and `look`
 
@@ -148,7 +148,7 @@ listed (decode Tcp msg table limit) e m = decoded-listed true tcp _ limit msg (m
 listed (decode TcpVec msg table limit) e m = decoded-listed false tcpVec _ limit msg (m .answered) (vec-never msg)
 listed (encode table count source out) e m = encodes-listed m
 listed (encode-tcp table count source out) e m = encodes-listed m
-listed (encode-string text out) e m = subst (Encoding stringOrder) (sym m) (string-listed text out)
+listed (encode-string text out) e m = subst (Encoding (numbersOf (encode-string text out))) (sym m) (string-listed text out)
 listed (pad pos) e m = subst (Padding pos) (sym m) (pad-listed pos)
 listed (look table index) e m = subst (Looking table index) (sym m) (look-listed table index)
 listed (text-of value packet label) e m = tt
