@@ -3,11 +3,11 @@ use mathlib.Core.Path.{_≡_, refl, sym, subst}
 use mathlib.Core.Bool.{true, false, _&&_, false≢true}
 use mathlib.Core.List.{List, []}
 use mathlib.Core.Logic.{⊎-elim}
-use Prim.Native.Nat.{ℕ, zero, suc, _*_, _≤_, _<_}
+use Prim.Native.Nat.{ℕ, zero, suc, _+_, _*_, _≤_, _<_}
 use native.Mathlib.Omega.{arith}
 use borrow.Author.Tests.{ne-eqb}
 use lib.Dec.{eqb, ltb}
-use lib.ListN.{length}
+use lib.ListN.{length, getD, drop}
 use Rattle.refusal.specs.Refusal.{numberOf}
 use Rattle.refusal.specs.declared.Fault.{Fault}
 use Rattle.refusal.specs.declared.Fault.the-variants.{Empty, RunsOut, NotUtf8, BadStart, NotOpen, UnknownTag, NotScalar}
@@ -16,13 +16,16 @@ use Rattle.wire.specs.Limits.{longest}
 use Rattle.wire.specs.Pad.{padOf}
 use Rattle.wire.specs.declared.Padded.{Padded}
 use Rattle.wire.proofs.Choices.{by-test, by-le, is-or}
+use Rattle.wire.proofs.Numbers.{number-small}
+use Rattle.wire.proofs.Parts.{drop-small}
 use Rattle.node.specs.Rules.{ownRules}
-use Rattle.node.specs.Records.{zerosAt, itemAt, capacity}
+use Rattle.node.specs.Records.{recordStart, zerosAt, fieldAt, itemAt, capacity}
 use Rattle.values.specs.Value.{valueOf}
-use Rattle.values.specs.Look.{lookAt}
+use Rattle.values.specs.Look.{lookAt, startedAt}
 use Rattle.values.specs.declared.value.OscType.{OscType}
 use Rattle.values.specs.declared.value.OscType.the-variants as value
 use Rattle.values.specs.declared.look.Looked.{Looked}
+use Rattle.values.specs.declared.look.Started.{Started}
 use Rattle.decoder.specs.Framing.{Whole, trees, waiting, refusal, ruleOf}
 use Rattle.decoder.specs.Limits.{limited, decoded, forestOf, tabled}
 use Rattle.decoder.specs.declared.Framing.{Framing}
@@ -31,9 +34,9 @@ use Rattle.decoder.specs.declared.Decoded.the-variants as decodes
 use Rattle.decoder.proofs.Chosen.{by-decoded, by-trees}
 use Rattle.encoder.specs.declared.Encoded.{Encoded}
 use Rattle.encoder.specs.declared.Encoded.the-variants as encodes
-use Rattle.osc.specs.Answers.{decodedNumber, Fits, encodedNumber, paddedNumber, kindOf, lookedNumber}
-use Rattle.osc.specs.Boundary.{CCall, osc-decode, osc-encode, osc-encode-string, osc-pad, osc-look, cLent, cRefusals, cRefused}
-use Rattle.osc.specs.Boundary.{CAnswered, CEnds, told-answer, told-refusal, EndsListed, ToldApart}
+use Rattle.osc.specs.Answers.{decodedNumber, Fits, encodedNumber, paddedNumber, kindOf, lookedNumber, startedNumber}
+use Rattle.osc.specs.Boundary.{CCall, osc-decode, osc-encode, osc-encode-string, osc-pad, osc-look, osc-start, cLent, cRefusals}
+use Rattle.osc.specs.Boundary.{cRefused, CAnswered, CEnds, told-answer, told-refusal, EndsListed, ToldApart}
 use Rattle.osc.proofs.Ended.{Ended, encodes-ended, string-ended}
 use Rattle.osc.proofs.Fits.{fits}
 
@@ -80,7 +83,7 @@ encoded-ends : (c : CCall) → ((n : ℕ) → n ≤ longest → CAnswered c n) �
 encoded-ends c f g (encodes.Written n) after h = told-answer (f n h)
 encoded-ends c f g (encodes.Refused r) after h = told-refusal (numberOf r) (h .0) (g (numberOf r)) (h .1)
 
--- ---- `osc_pad` and `osc_look`
+-- ---- `osc_pad`, `osc_look` and `osc_start`
 
 pad-ends : (pos : ℕ) → CEnds (osc-pad pos) (paddedNumber (padOf pos)) []
 pad-ends pos =
@@ -115,6 +118,13 @@ look-ends t i =
     (λ _. told-refusal 11 refl refl refl))
     (λ _. told-refusal 11 refl refl refl)
 
+start-ends : (t : List ℕ) (b : (i : ℕ) → getD t i 0 < 256) (i : ℕ) → CEnds (osc-start t b i) (startedNumber (startedAt t i)) []
+unfolding startedAt fieldAt
+start-ends t b i =
+    let n = recordStart i + 16 in
+    by-test (λ (r : Started). CEnds (osc-start t b i) (startedNumber r) []) (ltb i (capacity t))
+    (λ _. told-answer (number-small 4 (drop n t) (drop-small n t b))) (λ _. told-refusal 11 refl refl refl)
+
 -- ---- every function
 
 -- each function tells an answer, or a refusal that is listed for it, and then every lent byte is as before
@@ -131,6 +141,7 @@ ends-listed (osc-encode-string text out) told after t =
     (encoded-ends (osc-encode-string text out) (λ n h. h) (λ n. refl) (t .answer) after (string-ended text out _ (t .outcome)))
 ends-listed (osc-pad pos) told after t = ends-as (t .0) (t .1) (pad-ends pos)
 ends-listed (osc-look table index) told after t = ends-as (t .0) (t .1) (look-ends table index)
+ends-listed (osc-start table bytes index) told after t = ends-as (t .0) (t .1) (start-ends table bytes index)
 
 -- no refusal is told as an answer: its bits are those that no answer has, and 14 is no multiple of 4
 pub refusals-apart : ToldApart
@@ -143,3 +154,5 @@ refusals-apart (osc-encode-string text out) (suc n) e h = omega arith
 refusals-apart (osc-pad pos) n e h = ⊎-elim (λ p. omega arith) (λ p. absurd (false≢true (rw (ne-eqb n 14 p) at e))) (is-or n 14)
 refusals-apart (osc-look table index) zero e h = absurd (false≢true e)
 refusals-apart (osc-look table index) (suc n) e h = omega arith
+refusals-apart (osc-start table bytes index) zero e h = absurd (false≢true e)
+refusals-apart (osc-start table bytes index) (suc n) e h = omega arith

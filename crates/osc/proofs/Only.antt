@@ -8,7 +8,7 @@ use Rattle.decoder.proofs.Only.{decodes-only}
 use Rattle.encoder.specs.Outcome.{Outcome}
 use Rattle.encoder.proofs.Only.{encodes-only}
 use Rattle.osc.specs.Answers.{decodedNumber, encodedNumber, Tells}
-use Rattle.osc.specs.Boundary.{osc-decode, osc-encode, osc-encode-string, osc-pad, osc-look, CSettled}
+use Rattle.osc.specs.Boundary.{osc-decode, osc-encode, osc-encode-string, osc-pad, osc-look, osc-start, CSettled}
 
 -- one outcome of an encoder gives one number and one output
 tells-only : (Outcomes : Outcome → Type 0) → ((o p : Outcome) → Outcomes o → Outcomes p → o ≡ p) → (r s : ℕ) (out out′ : List ℕ)
@@ -17,7 +17,7 @@ tells-only Outcomes one r s out out′ t u =
     let e = one _ _ (t .outcome) (u .outcome) in
     (t .number ∙ ap (λ (o : Outcome). encodedNumber (o .answer)) e ∙ sym (u .number), ap (λ (o : Outcome). o .out) e)
 
--- no second number and no other lent bytes meet the contract of one of the eight functions
+-- no second number and no other lent bytes meet the contract of one of the nine functions
 pub c-settled : CSettled
 c-settled (osc-decode framing msg table limit) r s after after′ t u =
     let e = decodes-only (t .decodes) (u .decodes) in (t .number ∙ ap (decodedNumber (length msg)) (e .0) ∙ sym (u .number), e .1)
@@ -26,3 +26,4 @@ c-settled (osc-encode frame table count source out) r s after after′ t u =
 c-settled (osc-encode-string text out) r s after after′ t u = tells-only _ (λ o p. one-outcome) r s after after′ t u
 c-settled (osc-pad pos) r s after after′ t u = (one-outcome (t .0) (u .0), one-outcome (t .1) (u .1))
 c-settled (osc-look table index) r s after after′ t u = (one-outcome (t .0) (u .0), one-outcome (t .1) (u .1))
+c-settled (osc-start table bytes index) r s after after′ t u = (one-outcome (t .0) (u .0), one-outcome (t .1) (u .1))

@@ -11,11 +11,13 @@ use Rattle.wire.specs.Pad.{padOf}
 use Rattle.wire.specs.declared.Padded.{Padded}
 use Rattle.wire.specs.declared.Padded.the-variants as padded
 use Rattle.node.specs.Tags.{messageKind, bundleKind, arrayKind}
-use Rattle.values.specs.Look.{lookAt}
+use Rattle.values.specs.Look.{lookAt, startedAt}
 use Rattle.values.specs.declared.value.OscType.{OscType}
 use Rattle.values.specs.declared.value.OscType.the-variants as value
 use Rattle.values.specs.declared.look.Looked.{Looked}
 use Rattle.values.specs.declared.look.Looked.the-variants as looked
+use Rattle.values.specs.declared.look.Started.{Started}
+use Rattle.values.specs.declared.look.Started.the-variants as started
 use Rattle.decoder.specs.Framing.{Whole}
 use Rattle.decoder.specs.Limits.{Decodes}
 use Rattle.decoder.specs.declared.Decoded.{Decoded}
@@ -94,6 +96,15 @@ lookedNumber (looked.Refused r) = refusalNumber r
 abbrev pub TellsLooked : List ℕ → ℕ → ℕ → Type 0
 TellsLooked table index told = told ≡ lookedNumber (lookAt table index)
 
+-- `start_of`: the start in bits 0 to 31
+abbrev pub startedNumber : Started → ℕ
+startedNumber (started.At start) = start
+startedNumber (started.Refused r) = refusalNumber r
+
+-- a call of `osc_start`: the number of its answer is told
+abbrev pub TellsStarted : List ℕ → ℕ → ℕ → Type 0
+TellsStarted table index told = told ≡ startedNumber (startedAt table index)
+
 -- ---- what include/osc.h takes a number apart into
 
 -- `osc_refusal`: bits 56 to 63
@@ -104,7 +115,7 @@ refusalIn x = x / 0x100_0000_0000_0000
 abbrev pub countIn : ℕ → ℕ
 countIn x = x / 0x1_0000_0000 % 0x100_0000
 
--- `osc_left`, `osc_written`: bits 0 to 31
+-- `osc_left`, `osc_written`, `osc_began`: bits 0 to 31
 abbrev pub lowIn : ℕ → ℕ
 lowIn x = x % 0x1_0000_0000
 

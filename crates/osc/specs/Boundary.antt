@@ -1,9 +1,9 @@
--- Demand 1 at the C boundary: what the eight functions of include/osc.h tell, and what they leave of the bytes that they are lent.
+-- Demand 1 at the C boundary: what the nine functions of include/osc.h tell, and what they leave of the bytes that they are lent.
 use mathlib.Core.Path.{_≡_}
 use mathlib.Core.Bool.{true}
 use mathlib.Core.List.{List, [], _∷_}
 use Prim.Native.Nat.{ℕ, _*_, _%_, _≤_, _<_}
-use lib.ListN.{length}
+use lib.ListN.{length, getD}
 use Rattle.wire.specs.Limits.{longest}
 use Rattle.node.specs.Tags.{among}
 use Rattle.decoder.specs.Framing.{ruleOf}
@@ -13,23 +13,26 @@ use Rattle.decoder.specs.declared.Framing.the-variants.{Udp, Tcp, TcpVec}
 use Rattle.decoder.specs.declared.Decoded.{Decoded}
 use Rattle.decoder.specs.declared.Decoded.the-variants as decodes
 use Rattle.encoder.specs.Outcome.{encodeOrder, stringOrder, Encodes, EncodesString}
-use Rattle.osc.specs.Answers.{TellsDecoded, Tells, TellsPadded, TellsLooked}
+use Rattle.osc.specs.Answers.{TellsDecoded, Tells, TellsPadded, TellsLooked, TellsStarted}
 
--- a call from C and what it is handed: the three decoders by their framing, the two encoders of packets by their frame
+-- a call from C and what it is handed: the three decoders by their framing, the two encoders of packets by their frame; `osc_start` tells
+-- four bytes as they stand, so that they are bytes is said
 pub data CCall : Type 0 where
   osc-decode : (framing : Framing) (msg table : List ℕ) (depth : ℕ) → CCall
   osc-encode : (frame : ℕ → List ℕ → List ℕ) (table : List ℕ) (count : ℕ) (source out : List ℕ) → CCall
   osc-encode-string : (text out : List ℕ) → CCall
   osc-pad : (pos : ℕ) → CCall
   osc-look : (table : List ℕ) (index : ℕ) → CCall
+  osc-start : (table : List ℕ) (bytes : (i : ℕ) → getD table i 0 < 256) (index : ℕ) → CCall
 
--- the bytes that it is lent by `&mut`, before the call; `osc_pad` and `osc_look` are lent none
+-- the bytes that it is lent by `&mut`, before the call; `osc_pad`, `osc_look` and `osc_start` are lent none
 abbrev pub cLent : CCall → List ℕ
 cLent (osc-decode framing msg table depth) = table
 cLent (osc-encode frame table count source out) = out
 cLent (osc-encode-string text out) = out
 cLent (osc-pad pos) = []
 cLent (osc-look table index) = []
+cLent (osc-start table bytes index) = []
 
 -- the contract of the function in src/lib.rt: the number that is told, and the lent bytes afterwards
 abbrev pub CMeets : CCall → ℕ → List ℕ → Type 0
@@ -38,6 +41,7 @@ CMeets (osc-encode frame table count source out) told after = Tells (Encodes fra
 CMeets (osc-encode-string text out) told after = Tells (EncodesString text out) told after
 CMeets (osc-pad pos) told after = TellsPadded pos told × (after ≡ [])
 CMeets (osc-look table index) told after = TellsLooked table index told × (after ≡ [])
+CMeets (osc-start table bytes index) told after = TellsStarted table index told × (after ≡ [])
 
 -- the refusals that document 01 has for the call, in the order in which they are given
 abbrev pub cRefusals : CCall → List ℕ
@@ -46,6 +50,7 @@ cRefusals (osc-encode frame table count source out) = encodeOrder
 cRefusals (osc-encode-string text out) = stringOrder
 cRefusals (osc-pad pos) = 14 ∷ []
 cRefusals (osc-look table index) = 11 ∷ []
+cRefusals (osc-start table bytes index) = 11 ∷ []
 
 -- how the refusal with number n is told: in bits 56 to 63, and nothing below; by `osc_pad` as it is, since a position may have those bits
 abbrev pub cRefused : CCall → ℕ → ℕ
@@ -54,14 +59,17 @@ cRefused (osc-encode frame table count source out) n = n * 0x100_0000_0000_0000
 cRefused (osc-encode-string text out) n = n * 0x100_0000_0000_0000
 cRefused (osc-pad pos) n = n
 cRefused (osc-look table index) n = n * 0x100_0000_0000_0000
+cRefused (osc-start table bytes index) n = n * 0x100_0000_0000_0000
 
--- how an answer is told: below bit 56; by an encoder up to 65,535; by `osc_pad` as a multiple of 4; by `osc_look` in the low byte
+-- how an answer is told: below bit 56; by an encoder up to 65,535; by `osc_pad` as a multiple of 4; by `osc_look` in the low byte; by
+-- `osc_start` below bit 32
 abbrev pub CAnswered : CCall → ℕ → Type 0
 CAnswered (osc-decode framing msg table depth) told = told < 0x100_0000_0000_0000
 CAnswered (osc-encode frame table count source out) told = told ≤ longest
 CAnswered (osc-encode-string text out) told = told ≤ longest
 CAnswered (osc-pad pos) told = told % 4 ≡ 0
 CAnswered (osc-look table index) told = told < 256
+CAnswered (osc-start table bytes index) told = told < 0x1_0000_0000
 
 -- how a call ends: an answer is told; or a refusal that document 01 lists for the call, and every lent byte is as before
 pub data CEnds (c : CCall) (told : ℕ) (after : List ℕ) : Type 0 where
@@ -74,7 +82,7 @@ CSettled =
     (c : CCall) (told told′ : ℕ) (after after′ : List ℕ) → CMeets c told after → CMeets c told′ after′
     → (told ≡ told′) × (after ≡ after′)
 
--- demand 1 for the eight functions: whatever meets the contract ends so
+-- demand 1 for the nine functions: whatever meets the contract ends so
 abbrev pub EndsListed : Type 0
 EndsListed = (c : CCall) (told : ℕ) (after : List ℕ) → CMeets c told after → CEnds c told after
 

@@ -5,12 +5,13 @@ use encoder::Encoded;
 use node::record;
 use refusal::Refusal;
 use values::look::Looked;
+use values::look::Started;
 use wire::Padded;
 ghost use mathlib.Core.Path.{_≡_};
 ghost use Rattle.decoder.specs.Framing.{udp, tcp, tcpVec, ruleOf};
 ghost use Rattle.encoder.specs.Outcome.{unframed, prefixed, Encodes, EncodesString};
 ghost use Rattle.osc.specs.Answers.{refusalNumber, decodedNumber, Fits, TellsDecoded, encodedNumber, Tells};
-ghost use Rattle.osc.specs.Answers.{TellsPadded, TellsLooked};
+ghost use Rattle.osc.specs.Answers.{TellsPadded, TellsLooked, TellsStarted};
 
 // A refusal's number, in bits 56 to 63.
 fn refusal_number(refusal: Refusal) -> u64
@@ -134,5 +135,18 @@ pub extern "C" fn osc_look(table: &[u8], index: u64) -> u64
     match values::look::look(table, index as usize) {
         Looked::Value(_) => record::kind_at(table, index as usize) as u64,
         Looked::Refused(refusal) => refusal_number(refusal),
+    }
+}
+
+// `start_of`: the start in bits 0 to 31, or the refusal's number in bits 56 to 63.
+//
+// Ruled out: refusal 11 told as the start 11; the start of the first record for each.
+#[no_mangle]
+pub extern "C" fn osc_start(table: &[u8], index: u64) -> u64
+    ensures { λ r. ⌜ TellsStarted (now (table .entry)) index r ⌝ }
+{
+    match values::look::start_of(table, index as usize) {
+        Started::At(start) => start as u64,
+        Started::Refused(refusal) => refusal_number(refusal),
     }
 }
