@@ -94,7 +94,6 @@ blob label = refl
 
 -- P1's refusal is one of the numbers of a decoder
 p1-listed : (table : List ℕ) → among 2 decodeOrder ≡ true
-unfolding p1
 p1-listed table = listed (decode Udp [] table 64) _ (p1 table)
 
 -- the bundle's call has no other ending
