@@ -83,7 +83,8 @@ deep-law base (t ∷ ts) l p frame below w =
 
 -- ---- frames below those that are closed change nothing
 
-abbrev Closed : Back → ℕ → Type 0
+-- no array stays open, and no more than m are closed that were open before
+abbrev pub Closed : Back → ℕ → Type 0
 Closed (Uncut n c) m = n ≤ m
 Closed (Cut n c) m = ⊥
 
@@ -105,7 +106,8 @@ under-act (Leaf class) (Uncut n c) go base tag l p frame A B h w = by-arg (readA
     by-arg (arg.Refused fault) = refl
     by-arg (arg.Given item used) = ap (later used) (h (drop used l) (p + used) (snoc frame item nil) A w)
 
-under-law : (base : ℕ) (ts l : List ℕ) (p : ℕ) (frame : Forest) (A B : List Open) → Closed (back ts) (length A)
+-- tags that close no more than the first frames read the same whatever waits below these
+pub under-law : (base : ℕ) (ts l : List ℕ) (p : ℕ) (frame : Forest) (A B : List Open) → Closed (back ts) (length A)
     → readTags base ts l p frame (A ++ B) ≡ readTags base ts l p frame A
 unfolding readTags back
 under-law base [] l p frame A B w = refl

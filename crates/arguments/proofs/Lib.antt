@@ -1,5 +1,7 @@
 pub mod Counts
 pub mod Frames
 pub mod Kept
+pub mod Unclosed
+pub mod Examples
 pub mod Filling
 pub mod Only

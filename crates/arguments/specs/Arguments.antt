@@ -1,6 +1,8 @@
 -- The arguments of a message by its tags: document 01, "How bytes are read", rules 2 and 3.
--- rosc's loop word for word: a frame that is filled, and the frames that wait below it.
-use mathlib.Core.List.{List, [], _∷_}
+-- rosc's loop word for word: a frame that is filled, and the frames that wait below it; and rule 3's last sentence in its own words,
+-- which is proved of that loop (`since-last` and `ends-so`, in proofs/Unclosed.antt).
+use mathlib.Core.Path.{_≡_}
+use mathlib.Core.List.{List, [], _∷_, _++_}
 use Prim.Native.Nat.{ℕ, _+_}
 use lib.ListN.{drop}
 use Rattle.refusal.specs.declared.Fault.{Fault}
@@ -53,3 +55,31 @@ readTags base (tag ∷ tags) l p frame below = act (sortOf tag) (λ m q f b. rea
 -- the data of a message's tags, from the first: an empty frame, and none that waits
 abbrev pub readArgs : ℕ → List ℕ → List ℕ → ℕ → Args
 readArgs base tags l p = readTags base tags l p nil []
+
+-- ---- rule 3's last sentence, of tags that end while arrays are open
+
+-- tags that close every array that they open, and no other
+pub data Balanced : List ℕ → Type 0 where
+  nothing : Balanced []
+  another : (tag : ℕ) {tags : List ℕ} → (tag ≡ arrayKind → ⊥) → (tag ≡ 93 → ⊥) → Balanced tags → Balanced (tag ∷ tags)
+  matched : {within tags : List ℕ} → Balanced within → Balanced tags → Balanced (arrayKind ∷ (within ++ (93 ∷ tags)))
+
+-- what is read since the last unclosed '[', once the tags before it were read: those tags give nothing but the bytes of their data
+abbrev pub sinceLast : ℕ → List ℕ → List ℕ → ℕ → Args → Args
+sinceLast base post l p (refused fault) = refused fault
+sinceLast base post l p (args lost n) = later n (readArgs base post (drop n l) (p + n))
+
+-- "only what was read since the last unclosed [ is kept; all outside it is lost, its data consumed": whatever stands before that '['
+abbrev pub KeptSinceLast : Type 0
+KeptSinceLast =
+    (base : ℕ) (pre post l : List ℕ) (p : ℕ) → Balanced post
+    → readArgs base (pre ++ (arrayKind ∷ post)) l p ≡ sinceLast base post l p (readArgs base pre l p)
+
+-- no array is open at the end of the tags; or one is, and these are the tags before and after the last '[' that stays open
+pub data AtEnd : List ℕ → Type 0 where
+  none-open : {tags : List ℕ} → Balanced tags → AtEnd tags
+  last-open : (pre : List ℕ) {post : List ℕ} → Balanced post → AtEnd (pre ++ (arrayKind ∷ post))
+
+-- tags that are accepted end so: the sentence speaks of all of them that leave an array open
+abbrev pub EndsSo : Type 0
+EndsSo = (base : ℕ) (tags l : List ℕ) (p : ℕ) (kept : Forest) (used : ℕ) → readArgs base tags l p ≡ args kept used → AtEnd tags

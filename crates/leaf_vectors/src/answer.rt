@@ -10,7 +10,6 @@ use refusal::Refusal;
 use text::Lack;
 use text::Text;
 use values::look::Looked;
-use values::value::OscType;
 use wire::Padded;
 use words::hex;
 use words::hex::put_bytes;
@@ -184,12 +183,17 @@ fn look_answer(out: &mut Space, index: u64, table: &[u8]) -> usize {
     }
 }
 
-// The text that a value names.
-fn put_text<'a>(out: &mut Space, value: OscType, packet: &'a [u8], label: &'a [u8]) -> usize {
-    put_bytes(out, 0, values::look::text_of(value, packet, label))
+// The text that the value of a record names.
+fn put_text<'a>(out: &mut Space, item: Item, packet: &'a [u8], label: &'a [u8]) -> usize {
+    let mut table = [0u8; record::RECORD_SIZE];
+    record::put_record(&mut table, item, 1);
+    match values::look::look(&table, 0) {
+        Looked::Value(value) => put_bytes(out, 0, values::look::text_of(value, packet, label)),
+        Looked::Refused(refusal) => put_refusal(out, refusal),
+    }
 }
 
-// The text that the value of a kind and two fields names.
+// The text that a record of a kind and two fields names.
 fn name_in<'a>(out: &mut Space, asked: &[u8], packet: &'a [u8], label: &'a [u8]) -> usize {
     let kind = numeral::number(asked, 1);
     let a = numeral::number(asked, 2);
@@ -205,11 +209,11 @@ fn name_in<'a>(out: &mut Space, asked: &[u8], packet: &'a [u8], label: &'a [u8])
     }
     put_text(
         out,
-        values::value::value_of(Item {
+        Item {
             kind: kind as u8,
             a: a as u32,
             b: b as u32,
-        }),
+        },
         packet,
         label,
     )

@@ -1,4 +1,5 @@
--- Examples, computed: what meets the contracts of the boundary and the hypotheses of its theorems.
+-- Examples, computed: what meets the contracts of the boundary and the hypotheses of its theorems, over the packets and tables of
+-- crates/table/proofs/Examples.antt.
 use mathlib.Core.Path.{_≡_, refl}
 use mathlib.Core.List.{List, [], _∷_, _++_}
 use Prim.Native.Nat.{ℕ}
@@ -8,30 +9,33 @@ use Rattle.refusal.specs.declared.Fault.the-variants.{NotUtf8}
 use Rattle.refusal.specs.declared.Refusal.the-variants.{Unreadable, BadTable}
 use Rattle.wire.specs.Number.{number, bytes}
 use Rattle.wire.specs.Pad.{padOf}
-use Rattle.node.specs.Forest.{size, depth}
+use Rattle.node.specs.Forest.{size, depth, snoc}
 use Rattle.node.specs.Records.{recordOf, recordsOf, stored, kindAt, zerosAt, fieldAt, capacity}
 use Rattle.node.specs.Rules.{ownRules}
 use Rattle.node.specs.Tags.{classOf, sortOf}
 use Rattle.values.specs.Value.{bareOf, narrowOf, valueBy}
 use Rattle.values.specs.Look.{lookAt}
 use Rattle.text.specs.Text.{readText}
+use Rattle.argument.specs.Argument.{readArg}
 use Rattle.arguments.specs.Arguments.{readTags}
-use Rattle.packet.specs.Packet.{readMessage, packetBy, packetAt, readPacket}
-use Rattle.packet.specs.Heads.{startOf, prefixOf}
+use Rattle.packet.specs.Packet.{readMessage, bundleBy, elementBy, elementsBy, packetBy, packetAt, readPacket}
+use Rattle.packet.specs.Heads.{startOf, sizeOf, prefixOf}
 use Rattle.decoder.specs.Framing.{udp, readFrame, tcp, framesAt, readFrames, tcpVec}
 use Rattle.decoder.specs.Limits.{decoded}
 use Rattle.decoder.specs.declared.Framing.the-variants.{Udp, Tcp, TcpVec}
 use Rattle.decoder.specs.declared.Decoded.the-variants as decodes
-use Rattle.strings.specs.Atomic.{oscString}
+use Rattle.strings.specs.Atomic.{oscString, oscBlob}
 use Rattle.writers.specs.Osc as osc
 use Rattle.encoder.specs.Outcome.{unframed, prefixed, bytesOutcome, treeOutcome, malformed, formed, stringOutcome}
 use Rattle.encoder.specs.declared.Encoded.{Encoded}
 use Rattle.encoder.specs.declared.Encoded.the-variants as encodes
 use Rattle.table.proofs.Examples as p3
 use Rattle.osc.specs.Answers.{Fits}
-use Rattle.osc.specs.Boundary.{osc-decode, osc-encode, osc-encode-string, osc-pad, osc-look, CMeets}
-use Rattle.osc.proofs.Apart.{Parts, decoded-apart, EncodedParts, told-apart}
+use Rattle.osc.specs.Boundary.{osc-decode, osc-encode, osc-encode-string, osc-pad, osc-look, CMeets, CAnswered, CEnds}
+use Rattle.osc.proofs.Apart.{Parts, decoded-apart, EncodedParts, told-apart, string-told-apart}
+use Rattle.osc.proofs.Boundary.{ends-listed, refusals-apart}
 use Rattle.osc.proofs.Once.{decoded-once, WaitingTold, tcp-none-waits, encoded-once, pad-once}
+use Rattle.osc.proofs.Only.{encode-told-only, encode-tcp-told-only, encode-string-told-only}
 
 -- a lent buffer of n bytes
 abbrev nines : ℕ → List ℕ
@@ -66,6 +70,19 @@ unfolding size depth number bytes readText readTags startOf prefixOf readMessage
     stored recordsOf recordOf
 message = record { number = refl; left = refl }
 
+-- a bundle in a bundle: seven records, and nothing left
+nested : CMeets (osc-decode Udp p3.nested (nines 113) 2) 0x7_0000_0000 (p3.nested-table ++ (9 ∷ []))
+unfolding size depth snoc number bytes classOf sortOf readText readArg readTags startOf sizeOf readMessage bundleBy elementBy elementsBy
+    packetBy packetAt readPacket udp decoded stored recordsOf recordOf p3.nested-table
+nested = record { number = refl; left = refl }
+
+-- the hypotheses of `ends-listed` and of `refusals-apart`: `osc_pad` tells no answer as it tells 14
+ends : CEnds (osc-decode Udp p3.nested (nines 113) 2) 0x7_0000_0000 (p3.nested-table ++ (9 ∷ []))
+ends = ends-listed _ _ _ nested
+
+no-answer : CAnswered (osc-pad 5) 14 → ⊥
+no-answer = refusals-apart (osc-pad 5) 14 refl
+
 -- the hypotheses of `tcp-none-waits`, `decoded-once` and `decoded-apart`
 waits : (table : List ℕ) → WaitingTold unready table 64 8 table
 waits table = tcp-none-waits unready table 64 8 table (p14 table) refl refl
@@ -92,7 +109,35 @@ not-utf8 : (out : List ℕ) → CMeets (osc-encode-string (0xFF ∷ []) out) 0x4
 unfolding stringOutcome
 not-utf8 out = record { answer = encodes.Refused (Unreadable NotUtf8); outcome = refl; number = refl }
 
--- the hypotheses of `told-apart` and `encoded-once`
+-- the bundle in a bundle: its own 76 bytes
+written : CMeets (osc-encode unframed p3.nested-table 7 p3.nested (nines 77)) 76 (p3.nested ++ (9 ∷ []))
+unfolding bytes depth classOf sortOf oscString oscBlob osc.writeData osc.writeTags osc.writeMessage osc.writeBundle osc.writeElements
+    osc.writePacket bytesOutcome treeOutcome
+written = record { answer = encodes.Written 76; outcome = formed p3.once (p3.within 0) p3.nested-tree refl; number = refl }
+
+-- the text é: 4 bytes
+text : CMeets (osc-encode-string (0xC3 ∷ 0xA9 ∷ []) (nines 5)) 4 (0xC3 ∷ 0xA9 ∷ 0 ∷ 0 ∷ 9 ∷ [])
+unfolding oscString bytesOutcome stringOutcome
+text = record { answer = encodes.Written 4; outcome = refl; number = refl }
+
+-- the hypotheses of `encode-told-only`, `encode-tcp-told-only` and `encode-string-told-only`: no other number and no other bytes
+written-only : (told : ℕ) (after : List ℕ) → CMeets (osc-encode unframed p3.nested-table 7 p3.nested (nines 77)) told after
+    → (told ≡ 76) × (after ≡ p3.nested ++ (9 ∷ []))
+written-only told after m = encode-told-only p3.nested-table 7 p3.nested (nines 77) told 76 after _ m written
+
+stream-only : (told : ℕ) (after : List ℕ) → CMeets (osc-encode prefixed (p3.table 2 2) 2 p3.packet (nines 17)) told after
+    → (told ≡ 16) × (after ≡ (0 ∷ 0 ∷ 0 ∷ 12 ∷ []) ++ (p3.packet ++ (9 ∷ [])))
+stream-only told after m = encode-tcp-told-only (p3.table 2 2) 2 p3.packet (nines 17) told 16 after _ m stream
+
+text-only : (told : ℕ) (after : List ℕ) → CMeets (osc-encode-string (0xC3 ∷ 0xA9 ∷ []) (nines 5)) told after
+    → (told ≡ 4) × (after ≡ 0xC3 ∷ 0xA9 ∷ 0 ∷ 0 ∷ 9 ∷ [])
+text-only told after m = encode-string-told-only (0xC3 ∷ 0xA9 ∷ []) (nines 5) told 4 after _ m text
+
+-- the hypotheses of `told-apart`, `string-told-apart` and `encoded-once`
+text-apart : EncodedParts (encodes.Written 4) 4
+unfolding text
+text-apart = string-told-apart (0xC3 ∷ 0xA9 ∷ []) (nines 5) 4 _ text
+
 taken-apart : EncodedParts (encodes.Written 16) 16
 unfolding stream
 taken-apart = told-apart prefixed (p3.table 2 2) 2 p3.packet (nines 17) 16 _ stream
@@ -113,9 +158,9 @@ last = (refl, refl)
 five-six : padOf 5 ≡ padOf 6
 five-six = pad-once 5 6 refl
 
--- the kind of P3's second record; none of an empty table
-kind : CMeets (osc-look (p3.table 2 2) 1) 105 []
-unfolding number kindAt zerosAt fieldAt ownRules classOf sortOf bareOf narrowOf valueBy lookAt
+-- the kind of a double that is no number; none of an empty table
+kind : CMeets (osc-look p3.nested-table 6) 100 []
+unfolding p3.nested-table number bytes size recordOf recordsOf kindAt zerosAt fieldAt ownRules classOf sortOf bareOf narrowOf valueBy lookAt
 kind = (refl, refl)
 
 no-record : CMeets (osc-look [] 0) 0xB00_0000_0000_0000 []

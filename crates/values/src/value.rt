@@ -3,10 +3,12 @@ use node::record::Item;
 use node::tags::BUNDLE;
 use node::tags::MESSAGE;
 ghost use mathlib.Core.Path.{_≡_};
+ghost use mathlib.Core.Bool.{true};
 ghost use Prim.Native.Nat.{_+_, _*_};
 ghost use mir.Syntax.{w32, w64};
 ghost use mir.Val.{toZ};
 ghost use lib.Ieee.{binary32, binary64, ofBits};
+ghost use Rattle.node.specs.Rules.{ownRules};
 ghost use Rattle.values.specs.Value.{colorOf, midiOf, bareOf, narrowOf, valueOf};
 
 // A time tag: seconds since 1900 and fractions of a second.
@@ -173,8 +175,11 @@ fn narrow(kind: u8, a: u32) -> OscType
     }
 }
 
-// The value of a record whose own rules hold.
+// The value of a record whose own rules hold: of these, '[' alone is an array.
+//
+// Ruled out: the halves of an 'h' or 'd' swapped; an infinity for a NaN.
 pub fn value_of(item: Item) -> OscType
+    requires { ⌜ ownRules item ≡ true ⌝ }
     ensures { λ r. ⌜ r ≡ valueOf item ⌝ }
 {
     let kind = item.kind;

@@ -14,6 +14,9 @@ returns-2 c =
     let p2 = c .before .before in
     not-zero _ _ (c .before .zeros-at .ensures) (rw (p2 .before .capacity-of .ensures) at (p2 .if1 .left)) (c .if2 .taken)
 
+value-of-requires : tie.Need-value-of-requires
+value-of-requires c κs = sym (c .before .own-rules .ensures) ∙ c .if3 .taken
+
 returns-3 : tie.Need-returns-3
 returns-3 c =
     let p2 = c .before .before in
@@ -41,6 +44,6 @@ look-spec =
     returns-2
     (λ c κs. search needs)
     (λ c κs. search needs)
-    (λ c κs. search needs)
+    value-of-requires
     returns-3
     returns-4)
