@@ -1,16 +1,21 @@
 -- What the decoders answer and leave in the table: document 01, "Refusal numbers" (the decode order) and "The node table".
+use mathlib.Core.Path.{_≡_}
 use mathlib.Core.Bool.{cond}
-use mathlib.Core.List.{List}
+use mathlib.Core.List.{List, [], _∷_}
 use Prim.Native.Nat.{ℕ}
 use lib.Dec.{leb}
 use lib.ListN.{length}
 use Rattle.refusal.specs.declared.Refusal.the-variants.{TooLong, Unreadable, TooDeep, TableFull, DepthLimit}
 use Rattle.wire.specs.Limits.{longest, deepest}
 use Rattle.node.specs.Forest.{Forest, nil, size, depth}
-use Rattle.node.specs.Records.{stored}
+use Rattle.node.specs.Records.{capacity, stored}
 use Rattle.decoder.specs.Framing.{Whole, trees, waiting, refusal}
 use Rattle.decoder.specs.declared.Decoded.{Decoded}
 use Rattle.decoder.specs.declared.Decoded.the-variants.{Packets, Waiting, Refused}
+
+-- the refusals of a decoder by their numbers: "Decode order: 13, 1, then 2 to 8, then 9, then 10"
+abbrev pub decodeOrder : List ℕ
+decodeOrder = 13 ∷ 1 ∷ 2 ∷ 3 ∷ 4 ∷ 5 ∷ 6 ∷ 7 ∷ 8 ∷ 9 ∷ 10 ∷ []
 
 -- 2 to 8 first, then 9, then 10; both speak of all the trees, and Waiting has none
 abbrev pub limited : ℕ → ℕ → Whole → Decoded
@@ -35,3 +40,8 @@ abbrev pub tabled : Decoded → Forest → List ℕ → List ℕ
 tabled (Packets count left) f table = stored 0 f table
 tabled Waiting f table = table
 tabled (Refused r) f table = table
+
+-- the contract of a decoder, by its rule, msg, table and depth limit: the answer r, and the table after the call
+pub record Decodes (rule : List ℕ → Whole) (msg table : List ℕ) (limit : ℕ) (r : Decoded) (after : List ℕ) : Type 0 where
+  pub answered : r ≡ decoded rule (capacity table) limit msg
+  pub left : after ≡ tabled r (forestOf (rule msg)) table

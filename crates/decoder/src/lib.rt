@@ -4,10 +4,8 @@ mod frames; // frames.rt: both readings of a whole input
 
 use node::record;
 use refusal::Refusal;
-ghost use mathlib.Core.Path.{_≡_};
-ghost use Rattle.node.specs.Records.{capacity};
 ghost use Rattle.decoder.specs.Framing.{udp, tcp, tcpVec, ruleOf};
-ghost use Rattle.decoder.specs.Limits.{decoded, forestOf, tabled};
+ghost use Rattle.decoder.specs.Limits.{Decodes};
 
 // Common MTU size for ethernet.
 pub const MTU: usize = 1536;
@@ -35,8 +33,7 @@ pub enum Decoded {
 //
 // Ruled out: a record count that is invented; records left by a refusal.
 pub fn decode(framing: Framing, msg: &[u8], table: &mut [u8], depth: usize) -> Decoded
-    ensures { λ r. ⌜ r ≡ decoded (ruleOf framing) (capacity (now (table .entry))) depth (now (msg .entry)) ⌝ }
-    ensures { λ r. ⌜ now (table .exit) ≡ tabled r (forestOf (ruleOf framing (now (msg .entry)))) (now (table .entry)) ⌝ }
+    ensures { λ r. ⌜ Decodes (ruleOf framing) (now (msg .entry)) (now (table .entry)) depth r (now (table .exit)) ⌝ }
 {
     let answer = frames::answer(framing, msg, record::capacity_of(table), depth);
     match answer {
@@ -51,8 +48,7 @@ pub fn decode(framing: Framing, msg: &[u8], table: &mut [u8], depth: usize) -> D
 //
 // Ruled out: a bundle that ends quietly where the table is full; a byte of the table changed by a refusal.
 pub fn decode_udp(msg: &[u8], table: &mut [u8], depth: usize) -> Decoded
-    ensures { λ r. ⌜ r ≡ decoded udp (capacity (now (table .entry))) depth (now (msg .entry)) ⌝ }
-    ensures { λ r. ⌜ now (table .exit) ≡ tabled r (forestOf (udp (now (msg .entry)))) (now (table .entry)) ⌝ }
+    ensures { λ r. ⌜ Decodes udp (now (msg .entry)) (now (table .entry)) depth r (now (table .exit)) ⌝ }
 {
     decode(Framing::Udp, msg, table, depth)
 }
@@ -61,8 +57,7 @@ pub fn decode_udp(msg: &[u8], table: &mut [u8], depth: usize) -> Decoded
 //
 // Ruled out: the packet cut at its length; Waiting by a length that is compared with what follows the prefix.
 pub fn decode_tcp(msg: &[u8], table: &mut [u8], depth: usize) -> Decoded
-    ensures { λ r. ⌜ r ≡ decoded tcp (capacity (now (table .entry))) depth (now (msg .entry)) ⌝ }
-    ensures { λ r. ⌜ now (table .exit) ≡ tabled r (forestOf (tcp (now (msg .entry)))) (now (table .entry)) ⌝ }
+    ensures { λ r. ⌜ Decodes tcp (now (msg .entry)) (now (table .entry)) depth r (now (table .exit)) ⌝ }
 {
     decode(Framing::Tcp, msg, table, depth)
 }
@@ -71,8 +66,7 @@ pub fn decode_tcp(msg: &[u8], table: &mut [u8], depth: usize) -> Decoded
 //
 // Ruled out: the first packet repeated; 9 of an early packet where a later one is refused for any of 2 to 8.
 pub fn decode_tcp_vec(msg: &[u8], table: &mut [u8], depth: usize) -> Decoded
-    ensures { λ r. ⌜ r ≡ decoded tcpVec (capacity (now (table .entry))) depth (now (msg .entry)) ⌝ }
-    ensures { λ r. ⌜ now (table .exit) ≡ tabled r (forestOf (tcpVec (now (msg .entry)))) (now (table .entry)) ⌝ }
+    ensures { λ r. ⌜ Decodes tcpVec (now (msg .entry)) (now (table .entry)) depth r (now (table .exit)) ⌝ }
 {
     decode(Framing::TcpVec, msg, table, depth)
 }

@@ -1,4 +1,5 @@
--- Demand 1's public entry points: what each is handed, what it answers and what its contract says, word for word.
+-- Demand 1's public entry points: what each is handed, what it answers and what its contract says, by the definitions that the contract
+-- cites. src/entry_points.rt shows that each call meets what stands here.
 use mathlib.Core.Path.{_≡_}
 use mathlib.Core.Bool.{Bool, true, false}
 use mathlib.Core.List.{List, [], _∷_}
@@ -9,18 +10,17 @@ use Rattle.wire.specs.Pad.{padOf}
 use Rattle.wire.specs.declared.Padded.{Padded}
 use Rattle.wire.specs.declared.Padded.the-variants as padded
 use Rattle.node.specs.Tags.{among}
-use Rattle.node.specs.Records.{capacity}
 use Rattle.values.specs.Look.{lookAt, textNamed}
 use Rattle.values.specs.declared.value.OscType.{OscType}
 use Rattle.values.specs.declared.look.Looked.{Looked}
 use Rattle.values.specs.declared.look.Looked.the-variants as looked
-use Rattle.decoder.specs.Framing.{Whole, ruleOf}
+use Rattle.decoder.specs.Framing.{ruleOf}
 use Rattle.decoder.specs.declared.Framing.{Framing}
 use Rattle.decoder.specs.declared.Framing.the-variants.{Udp, Tcp, TcpVec}
-use Rattle.decoder.specs.Limits.{decoded, forestOf, tabled}
+use Rattle.decoder.specs.Limits.{decodeOrder, Decodes}
 use Rattle.decoder.specs.declared.Decoded.{Decoded}
 use Rattle.decoder.specs.declared.Decoded.the-variants as decodes
-use Rattle.encoder.specs.Outcome.{Encodes, unframed, prefixed, stringOutcome}
+use Rattle.encoder.specs.Outcome.{encodeOrder, stringOrder, Encodes, unframed, prefixed, EncodesString}
 use Rattle.encoder.specs.declared.Encoded.{Encoded}
 use Rattle.encoder.specs.declared.Encoded.the-variants as encodes
 
@@ -69,17 +69,12 @@ pub record Ending (c : Call) : Type 0 where
   pub answer : Answer c
   pub lent : Lent c
 
--- a decoder's contract, by its rule: the answer, and the table afterwards
-pub record Decodes (rule : List ℕ → Whole) (msg table : List ℕ) (depth : ℕ) (r : Decoded) (after : List ℕ) : Type 0 where
-  pub answered : r ≡ decoded rule (capacity table) depth msg
-  pub left : after ≡ tabled r (forestOf (rule msg)) table
-
 -- the contract of the entry point
 abbrev pub Meets : (c : Call) → Ending c → Type 0
 Meets (decode framing msg table depth) e = Decodes (ruleOf framing) msg table depth (e .answer) (e .lent)
 Meets (encode table count source out) e = Encodes unframed table count source out (record { answer = e .answer; out = e .lent })
 Meets (encode-tcp table count source out) e = Encodes prefixed table count source out (record { answer = e .answer; out = e .lent })
-Meets (encode-string text out) e = record { answer = e .answer; out = e .lent } ≡ stringOutcome text out
+Meets (encode-string text out) e = EncodesString text out (record { answer = e .answer; out = e .lent })
 Meets (pad pos) e = e .answer ≡ padOf pos
 Meets (look table index) e = e .answer ≡ lookAt table index
 Meets (text-of value packet label) e = e .answer ≡ textNamed value packet label
@@ -121,20 +116,12 @@ given (pad pos) r = byPadded r
 given (look table index) r = byLooked r
 given (text-of value packet label) r = result
 
--- "Decode order: 13, 1, then 2 to 8, then 9, then 10"
-abbrev pub decodeOrder : List ℕ
-decodeOrder = 13 ∷ 1 ∷ 2 ∷ 3 ∷ 4 ∷ 5 ∷ 6 ∷ 7 ∷ 8 ∷ 9 ∷ 10 ∷ []
-
--- "Encode order: 11, 9 (limit 64), 1, 12"
-abbrev pub encodeOrder : List ℕ
-encodeOrder = 11 ∷ 9 ∷ 1 ∷ 12 ∷ []
-
 -- the refusals that document 01 has for a call, by their numbers
 abbrev pub numbersOf : Call → List ℕ
 numbersOf (decode framing msg table depth) = decodeOrder
 numbersOf (encode table count source out) = encodeOrder
 numbersOf (encode-tcp table count source out) = encodeOrder
-numbersOf (encode-string text out) = 4 ∷ 1 ∷ 12 ∷ []
+numbersOf (encode-string text out) = stringOrder
 numbersOf (pad pos) = 14 ∷ []
 numbersOf (look table index) = 11 ∷ []
 numbersOf (text-of value packet label) = []

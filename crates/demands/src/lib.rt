@@ -1,4 +1,6 @@
 // The order's demands as theorems (specs/ and proofs/), and a function that shows the round trip on lent buffers.
+mod entry_points; // entry_points.rt: each public call meets what the theorems of demand 1 speak of
+
 use decoder::Decoded;
 use encoder::Encoded;
 ghost use Rattle.demands.specs.There.{Returns};

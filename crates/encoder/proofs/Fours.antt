@@ -1,4 +1,4 @@
--- What the encoders bytesOutcome is a multiple of four bytes long.
+-- What the encoders write is a multiple of four bytes long.
 use mathlib.Core.Path.{_≡_}
 use mathlib.Core.Bool.{Bool, true, false, cond}
 use mathlib.Core.List.{List, _++_}
@@ -14,7 +14,7 @@ use Rattle.node.specs.Forest.{Forest, nil, node, depth}
 use Rattle.strings.specs.Atomic.{oscString}
 use Rattle.writers.specs.Osc.{writePacket}
 use Rattle.encoder.specs.Outcome.{Outcome, refuse, bytesOutcome, unframed, prefixed, treeOutcome, stringOutcome}
-use Rattle.encoder.specs.Outcome.{Encodes, malformed, formed}
+use Rattle.encoder.specs.Outcome.{Encodes, malformed, formed, InFours}
 use Rattle.encoder.specs.declared.Encoded.the-variants.{Written}
 use Rattle.strings.proofs.Lengths.{string-even}
 use Rattle.writers.proofs.Lengths.{packet-even, element-even}
@@ -31,18 +31,14 @@ prefixed-even source item inside =
     by-test (λ (bs : List ℕ). length bs % 4 ≡ 0) (eqb (item .kind) messageKind) (λ _. element-even (writePacket source item inside) e)
     (λ _. e)
 
--- an outcome that answers a count answers a multiple of four
-abbrev Even : Outcome → Type 0
-Even r = (n : ℕ) → r .answer ≡ Written n → n % 4 ≡ 0
-
-refuse-even : (x : Refusal) (out : List ℕ) → Even (refuse x out)
+refuse-even : (x : Refusal) (out : List ℕ) → InFours (refuse x out)
 refuse-even x out n e = let z : _≡_ {A = ℕ} 0 1 = cc in absurd (omega arith)
 
-cond-even : (x : Bool) (r s : Outcome) → Even r → Even s → Even (cond x r s)
+cond-even : (x : Bool) (r s : Outcome) → InFours r → InFours s → InFours (cond x r s)
 cond-even true r s p q = p
 cond-even false r s p q = q
 
-write-even : (bs out : List ℕ) → length bs % 4 ≡ 0 → Even (bytesOutcome bs out)
+write-even : (bs out : List ℕ) → length bs % 4 ≡ 0 → InFours (bytesOutcome bs out)
 unfolding bytesOutcome
 write-even bs out h =
     let done : Outcome = record { answer = Written (length bs); out = bs ++ drop (length bs) out } in
@@ -53,7 +49,7 @@ write-even bs out h =
 
 encodes-even : (frame : ℕ → List ℕ → List ℕ)
     → ((source : List ℕ) (item : Item) (inside : Forest) → length (frame (item .kind) (writePacket source item inside)) % 4 ≡ 0)
-    → (t : List ℕ) (count : ℕ) (source out : List ℕ) (r : Outcome) → Encodes frame t count source out r → Even r
+    → (t : List ℕ) (count : ℕ) (source out : List ℕ) (r : Outcome) → Encodes frame t count source out r → InFours r
 unfolding treeOutcome
 encodes-even frame h t count source out r (malformed n e) = rw e (refuse-even BadTable out)
 encodes-even frame h t count source out r (formed item inside tree e) =
@@ -64,17 +60,17 @@ encodes-even frame h t count source out r (formed item inside tree e) =
     (refuse-even TooDeep out))
 
 -- `encode` answers a multiple of four
-pub encode-fours : (t : List ℕ) (count : ℕ) (source out : List ℕ) (r : Outcome) → Encodes unframed t count source out r → (n : ℕ)
-    → r .answer ≡ Written n → n % 4 ≡ 0
+pub encode-fours : (t : List ℕ) (count : ℕ) (source out : List ℕ) (r : Outcome) → Encodes unframed t count source out r
+    → InFours r
 encode-fours = encodes-even unframed packet-even
 
 -- `encode_tcp` answers a multiple of four
-pub encode-tcp-fours : (t : List ℕ) (count : ℕ) (source out : List ℕ) (r : Outcome) → Encodes prefixed t count source out r → (n : ℕ)
-    → r .answer ≡ Written n → n % 4 ≡ 0
+pub encode-tcp-fours : (t : List ℕ) (count : ℕ) (source out : List ℕ) (r : Outcome) → Encodes prefixed t count source out r
+    → InFours r
 encode-tcp-fours = encodes-even prefixed prefixed-even
 
 -- `encode_string` answers a multiple of four
-pub encode-string-fours : (text out : List ℕ) (n : ℕ) → stringOutcome text out .answer ≡ Written n → n % 4 ≡ 0
+pub encode-string-fours : (text out : List ℕ) → InFours (stringOutcome text out)
 unfolding stringOutcome
 encode-string-fours text out =
     cond-even (utf8 text) (bytesOutcome (oscString text) out) (refuse (Unreadable NotUtf8) out)

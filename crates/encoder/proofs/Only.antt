@@ -1,4 +1,5 @@
--- No second outcome, of answer and output together, meets the contract of `encoder::encode`, of `encode_tcp`, or of `encode_string`.
+-- No second outcome, of answer and output together, meets the contract of `encoder::encode` or of `encode_tcp`; that of `encode_string` is
+-- an equation.
 use mathlib.Core.Path.{_≡_, sym, _∙_}
 use mathlib.Core.List.{List}
 use Prim.Native.Nat.{ℕ}
@@ -6,7 +7,7 @@ use Rattle.wire.proofs.Only.{one-outcome}
 use Rattle.node.specs.Forest.{nil, node}
 use Rattle.table.proofs.Spanned.{spans-unique}
 use Rattle.table.proofs.Theorem.{tree-formed}
-use Rattle.encoder.specs.Outcome.{Outcome, unframed, prefixed, treeOutcome, Encodes, malformed, formed, stringOutcome}
+use Rattle.encoder.specs.Outcome.{Outcome, unframed, treeOutcome, Encodes, malformed, formed}
 
 -- an encoder has one outcome, whatever its frame: a table has one tree, or none
 pub encodes-only : (frame : ℕ → List ℕ → List ℕ) (t : List ℕ) (count : ℕ) (source out : List ℕ) (r s : Outcome)
@@ -23,12 +24,3 @@ encodes-only frame t count source out r s (formed item inside tree e) (formed it
 pub encode-only : (t : List ℕ) (count : ℕ) (source out : List ℕ) (r s : Outcome) → Encodes unframed t count source out r
     → Encodes unframed t count source out s → r ≡ s
 encode-only = encodes-only unframed
-
--- `encode_tcp` has one outcome
-pub encode-tcp-only : (t : List ℕ) (count : ℕ) (source out : List ℕ) (r s : Outcome)
-    → Encodes prefixed t count source out r → Encodes prefixed t count source out s → r ≡ s
-encode-tcp-only = encodes-only prefixed
-
--- `encode_string` has one outcome
-pub encode-string-only : (text out : List ℕ) (r s : Outcome) → r ≡ stringOutcome text out → s ≡ stringOutcome text out → r ≡ s
-encode-string-only text out r s = one-outcome

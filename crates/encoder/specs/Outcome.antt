@@ -1,8 +1,8 @@
 -- What the encoders answer and leave in the output: document 01, "Refusal numbers" (the encode order) and "How bytes are written".
 use mathlib.Core.Path.{_≡_}
 use mathlib.Core.Bool.{cond}
-use mathlib.Core.List.{List, _++_}
-use Prim.Native.Nat.{ℕ}
+use mathlib.Core.List.{List, [], _∷_, _++_}
+use Prim.Native.Nat.{ℕ, _%_}
 use lib.Dec.{eqb, leb}
 use lib.ListN.{length, drop}
 use Rattle.refusal.specs.declared.Refusal.{Refusal}
@@ -19,6 +19,14 @@ use Rattle.node.specs.Tags.{messageKind}
 use Rattle.wire.specs.Limits.{longest, deepest}
 use Rattle.node.specs.declared.record.Item.{Item}
 use Rattle.encoder.specs.declared.Encoded.the-variants.{Written, Refused}
+
+-- the refusals of `encode` and `encode_tcp` by their numbers: "Encode order: 11, 9 (limit 64), 1, 12"
+abbrev pub encodeOrder : List ℕ
+encodeOrder = 11 ∷ 9 ∷ 1 ∷ 12 ∷ []
+
+-- those of `encode_string`: "`encode_string` takes bytes: 4, 1, 12"
+abbrev pub stringOrder : List ℕ
+stringOrder = 4 ∷ 1 ∷ 12 ∷ []
 
 -- an answer, and what the output then holds
 pub record Outcome : Type 0 where
@@ -52,7 +60,7 @@ treeOutcome frame source out item inside =
     (bytesOutcome (frame (item .kind) (writePacket source item inside)) out)
     (refuse TooDeep out)
 
--- the outcome of an encoder: 11 for a table that is not well formed; else what its tree gives
+-- the contract of an encoder, by its frame: 11 for a table that is not well formed; else what its tree gives
 pub data Encodes (frame : ℕ → List ℕ → List ℕ) (t : List ℕ) (count : ℕ) (source out : List ℕ) (r : Outcome) : Type 0 where
   malformed : (WellFormed t count source → ⊥) → r ≡ refuse BadTable out → Encodes frame t count source out r
   formed : (item : Item) (inside : Forest) → IsTree t count source item inside → r ≡ treeOutcome frame source out item inside
@@ -61,3 +69,11 @@ pub data Encodes (frame : ℕ → List ℕ → List ℕ) (t : List ℕ) (count :
 -- the outcome of `encode_string`: 4, then 1, then 12
 unfoldable pub stringOutcome : List ℕ → List ℕ → Outcome
 stringOutcome text out = cond (utf8 text) (bytesOutcome (oscString text) out) (refuse (Unreadable NotUtf8) out)
+
+-- the contract of `encode_string`
+abbrev pub EncodesString : List ℕ → List ℕ → Outcome → Type 0
+EncodesString text out r = r ≡ stringOutcome text out
+
+-- demand 2, "encodes to a multiple of four bytes": an outcome that answers a count answers a multiple of four
+abbrev pub InFours : Outcome → Type 0
+InFours r = (n : ℕ) → r .answer ≡ Written n → n % 4 ≡ 0

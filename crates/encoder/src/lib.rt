@@ -15,9 +15,8 @@ use wire::LONGEST_FRAMED;
 use wire::put_u32;
 use writers::LONGEST_ELEMENT;
 use writers::encode_packet;
-ghost use mathlib.Core.Path.{_≡_};
 ghost use Rattle.writers.specs.Osc.{writeElement};
-ghost use Rattle.encoder.specs.Outcome.{Outcome, unframed, prefixed, Encodes, stringOutcome};
+ghost use Rattle.encoder.specs.Outcome.{unframed, prefixed, Encodes, EncodesString};
 ghost use Rattle.encoder.specs.CodePrepare.{Writable, Writes, Prepares};
 
 // The longest text that is not too long with its 1 to 4 NULs.
@@ -123,8 +122,7 @@ pub fn encode_tcp(table: &[u8], count: usize, source: &[u8], out: &mut [u8]) -> 
 //
 // Ruled out: a text of a multiple of 4 bytes with no NUL after it; 1 for a text that is not UTF-8, however long it is.
 pub fn encode_string(text: &[u8], out: &mut [u8]) -> Encoded
-    ensures { λ r. ⌜ _≡_ {A = Outcome}
-        (record { answer = r; out = now (out .exit) }) (stringOutcome (now (text .entry)) (now (out .entry))) ⌝ }
+    ensures { λ r. ⌜ EncodesString (now (text .entry)) (now (out .entry)) (record { answer = r; out = now (out .exit) }) ⌝ }
 {
     if !is_utf8(text) {
         return Encoded::Refused(Refusal::Unreadable(Fault::NotUtf8));

@@ -1,36 +1,17 @@
 -- An answer is taken apart as include/osc.h does it: the three parts of a decoder's number, and the two of an encoder's, are what was put
 -- into it. So an encoder's number tells one answer, and so does a decoder's (Once.antt): count 0 with the whole input left is Waiting
 -- where `decode_tcp` tells it, and no packets where `decode_tcp_vec` does.
-use mathlib.Core.Path.{_≡_, sym, subst}
+use mathlib.Core.Path.{sym, subst}
 use mathlib.Core.List.{List}
-use Prim.Native.Nat.{ℕ, _/_, _%_}
+use Prim.Native.Nat.{ℕ}
 use native.Mathlib.Omega.{arith}
-use Rattle.refusal.specs.Refusal.{numberOf}
 use Rattle.decoder.specs.declared.Decoded.{Decoded}
 use Rattle.decoder.specs.declared.Decoded.the-variants as decodes
-use Rattle.encoder.specs.Outcome.{Encodes, stringOutcome}
+use Rattle.encoder.specs.Outcome.{Encodes, EncodesString}
 use Rattle.encoder.specs.declared.Encoded.{Encoded}
 use Rattle.encoder.specs.declared.Encoded.the-variants as encodes
-use Rattle.osc.specs.Answers.{decodedNumber, Fits, encodedNumber, Tells}
+use Rattle.osc.specs.Answers.{decodedNumber, Fits, encodedNumber, Tells, Parts, EncodedParts}
 use Rattle.osc.proofs.Ended.{Ended, encodes-ended, string-ended}
-
--- `osc_refusal`: bits 56 to 63
-abbrev pub refusalIn : ℕ → ℕ
-refusalIn x = x / 0x100_0000_0000_0000
-
--- `osc_count`: bits 32 to 55
-abbrev pub countIn : ℕ → ℕ
-countIn x = x / 0x1_0000_0000 % 0x100_0000
-
--- `osc_left`, `osc_written`: bits 0 to 31
-abbrev pub lowIn : ℕ → ℕ
-lowIn x = x % 0x1_0000_0000
-
--- what the parts of a decoder's number say of its answer to n bytes
-abbrev pub Parts : ℕ → Decoded → ℕ → Type 0
-Parts n (decodes.Packets count left) x = (refusalIn x ≡ 0) × (countIn x ≡ count) × (lowIn x ≡ left)
-Parts n decodes.Waiting x = (refusalIn x ≡ 0) × (countIn x ≡ 0) × (lowIn x ≡ n)
-Parts n (decodes.Refused r) x = (refusalIn x ≡ numberOf r) × (countIn x ≡ 0) × (lowIn x ≡ 0)
 
 -- the parts of a decoder's number are what was put into it
 pub decoded-apart : (n : ℕ) (answer : Decoded) → Fits n answer → Parts n answer (decodedNumber n answer)
@@ -39,11 +20,6 @@ decoded-apart n decodes.Waiting h = (omega arith, omega arith, omega arith)
 decoded-apart n (decodes.Refused r) h = (omega arith, omega arith, omega arith)
 
 -- ---- an encoder's number
-
--- what the parts of an encoder's number say of its answer
-abbrev pub EncodedParts : Encoded → ℕ → Type 0
-EncodedParts (encodes.Written n) x = (refusalIn x ≡ 0) × (lowIn x ≡ n)
-EncodedParts (encodes.Refused r) x = (refusalIn x ≡ numberOf r) × (lowIn x ≡ 0)
 
 encoded-apart : (numbers before : List ℕ) (answer : Encoded) (after : List ℕ) → Ended numbers before answer after
     → EncodedParts answer (encodedNumber answer)
@@ -58,7 +34,7 @@ told-apart frame table count source out₀ told out t =
     (encoded-apart _ out₀ (t .answer) out (encodes-ended frame table count source out₀ _ (t .outcome)))
 
 -- so are those of a number that `osc_encode_string` tells
-pub string-told-apart : (text out₀ : List ℕ) (told : ℕ) (out : List ℕ) → (t : Tells (λ o. o ≡ stringOutcome text out₀) told out)
+pub string-told-apart : (text out₀ : List ℕ) (told : ℕ) (out : List ℕ) → (t : Tells (EncodesString text out₀) told out)
     → EncodedParts (t .answer) told
 string-told-apart text out₀ told out t =
     subst (EncodedParts (t .answer)) (sym (t .number))

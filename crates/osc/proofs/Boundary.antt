@@ -67,10 +67,11 @@ module _ (framing : Framing) (msg table : List ℕ) (limit : ℕ) where
   limited-ends waiting = λ h. told-answer (omega arith)
   limited-ends (refusal k) = fault-ends k
 
-  decoded-ends : Decoding (decoded (ruleOf framing) (capacity table) limit msg)
-  decoded-ends =
-      by-decoded Decoding (ruleOf framing) (capacity table) limit msg (λ _ h. told-refusal 13 refl refl refl)
-      (λ _ h. told-refusal 1 refl refl refl) (λ _ _. limited-ends (ruleOf framing msg))
+  decoded-ends : {d : Decoded} → d ≡ decoded (ruleOf framing) (capacity table) limit msg → Decoding d
+  decoded-ends e =
+      subst Decoding (sym e)
+      (by-decoded Decoding (ruleOf framing) (capacity table) limit msg (λ _ h. told-refusal 13 refl refl refl)
+      (λ _ h. told-refusal 1 refl refl refl) (λ _ _. limited-ends (ruleOf framing msg)))
 
 -- ---- encoders
 
@@ -119,7 +120,8 @@ look-ends t i =
 -- each function tells an answer, or a refusal that is listed for it, and then every lent byte is as before
 pub ends-listed : EndsListed
 ends-listed (osc-decode framing msg table limit) told after t =
-    ends-as (t .number) (t .left) (decoded-ends framing msg table limit (fits (capacity table) limit framing msg refl))
+    let e = t .decodes .answered in
+    ends-as (t .number) (t .decodes .left) (decoded-ends framing msg table limit e (fits (capacity table) limit framing msg e))
 ends-listed (osc-encode frame table count source out) told after t =
     ends-as (t .number) refl
     (encoded-ends (osc-encode frame table count source out) (λ n h. h) (λ n. refl) (t .answer) after

@@ -29,10 +29,11 @@ use Rattle.writers.specs.Osc as osc
 use Rattle.encoder.specs.Outcome.{unframed, prefixed, bytesOutcome, treeOutcome, malformed, formed, stringOutcome}
 use Rattle.encoder.specs.declared.Encoded.{Encoded}
 use Rattle.encoder.specs.declared.Encoded.the-variants as encodes
+use Rattle.decoder.proofs.Only.{decodes-met}
 use Rattle.table.proofs.Examples as p3
-use Rattle.osc.specs.Answers.{Fits}
+use Rattle.osc.specs.Answers.{Fits, Parts, EncodedParts}
 use Rattle.osc.specs.Boundary.{osc-decode, osc-encode, osc-encode-string, osc-pad, osc-look, CMeets, CAnswered, CEnds}
-use Rattle.osc.proofs.Apart.{Parts, decoded-apart, EncodedParts, told-apart, string-told-apart}
+use Rattle.osc.proofs.Apart.{decoded-apart, told-apart, string-told-apart}
 use Rattle.osc.proofs.Boundary.{ends-listed, refusals-apart}
 use Rattle.osc.proofs.Once.{decoded-once, WaitingTold, tcp-none-waits, encoded-once, pad-once}
 use Rattle.osc.proofs.Only.{encode-told-only, encode-tcp-told-only, encode-string-told-only}
@@ -46,7 +47,7 @@ nines n = replicate n 9
 -- P1: refusal 2, and any table is as it was
 p1 : (table : List ℕ) → CMeets (osc-decode Udp [] table 64) 0x200_0000_0000_0000 table
 unfolding packetAt readPacket udp decoded
-p1 table = record { number = refl; left = refl }
+p1 table = record { answer = _; decodes = decodes-met; number = refl }
 
 -- P14's bytes, a frame that is not all there
 abbrev unready : List ℕ
@@ -55,26 +56,26 @@ unready = 0 ∷ 0 ∷ 0 ∷ 9 ∷ 0x2F ∷ 0x61 ∷ 0 ∷ 0 ∷ []
 -- `osc_decode_tcp` waits: 8, and any table is as it was
 p14 : (table : List ℕ) → CMeets (osc-decode Tcp unready table 64) 8 table
 unfolding number prefixOf readFrame tcp decoded
-p14 table = record { number = refl; left = refl }
+p14 table = record { answer = _; decodes = decodes-met; number = refl }
 
 -- `osc_decode_tcp_vec` tells 8 too, which are no packets there
 no-packets : (CMeets (osc-decode TcpVec unready (nines 17) 64) 8 (nines 17))
     × (decoded tcpVec (capacity (nines 17)) 64 unready ≡ decodes.Packets 0 8)
 unfolding size depth number prefixOf readFrame tcpVec readFrames framesAt decoded stored recordsOf
-no-packets = (record { number = refl; left = refl }, refl)
+no-packets = (record { answer = _; decodes = decodes-met; number = refl }, refl)
 
 -- a message of one record, after a length that cuts nothing
 message : CMeets (osc-decode Tcp (0 ∷ 0 ∷ 0 ∷ 0 ∷ 0x2F ∷ 0x61 ∷ 0 ∷ 0 ∷ 0 ∷ 0 ∷ 0 ∷ 0 ∷ []) (nines 17) 64) 0x1_0000_0000
     (0x2F ∷ 0 ∷ 0 ∷ 0 ∷ 0 ∷ 0 ∷ 0 ∷ 1 ∷ 0 ∷ 0 ∷ 0 ∷ 4 ∷ 0 ∷ 0 ∷ 0 ∷ 2 ∷ 9 ∷ [])
 unfolding size depth number bytes readText readTags startOf prefixOf readMessage packetBy packetAt readPacket readFrame tcp decoded
     stored recordsOf recordOf
-message = record { number = refl; left = refl }
+message = record { answer = _; decodes = decodes-met; number = refl }
 
 -- a bundle in a bundle: seven records, and nothing left
 nested : CMeets (osc-decode Udp p3.nested (nines 113) 2) 0x7_0000_0000 (p3.nested-table ++ (9 ∷ []))
 unfolding size depth snoc number bytes classOf sortOf readText readArg readTags startOf sizeOf readMessage bundleBy elementBy elementsBy
     packetBy packetAt readPacket udp decoded stored recordsOf recordOf p3.nested-table
-nested = record { number = refl; left = refl }
+nested = record { answer = _; decodes = decodes-met; number = refl }
 
 -- the hypotheses of `ends-listed` and of `refusals-apart`: `osc_pad` tells no answer as it tells 14
 ends : CEnds (osc-decode Udp p3.nested (nines 113) 2) 0x7_0000_0000 (p3.nested-table ++ (9 ∷ []))
@@ -87,7 +88,7 @@ no-answer = refusals-apart (osc-pad 5) 14 refl
 waits : (table : List ℕ) → WaitingTold unready table 64 8 table
 waits table = tcp-none-waits unready table 64 8 table (p14 table) refl refl
 
-once : decoded tcp 0 64 unready ≡ decoded tcp 1 64 unready
+once : p14 [] .answer ≡ p14 (nines 17) .answer
 once = decoded-once Tcp unready unready [] (nines 17) 64 64 8 [] (nines 17) refl (p14 []) (p14 (nines 17))
 
 apart : Parts 12 (decodes.Packets 2 4) 0x2_0000_0004

@@ -30,9 +30,9 @@ use Rattle.decoder.specs.declared.Decoded.the-variants as decodes
 use Rattle.decoder.proofs.Chosen.{by-decoded, by-trees}
 use Rattle.encoder.specs.declared.Encoded.{Encoded}
 use Rattle.encoder.specs.declared.Encoded.the-variants as encodes
-use Rattle.osc.specs.Answers.{decodedNumber, TellsDecoded, paddedNumber}
+use Rattle.osc.specs.Answers.{decodedNumber, TellsDecoded, paddedNumber, refusalIn, countIn, Parts, EncodedParts}
 use Rattle.osc.specs.Boundary.{fewest, Waits, Answerable, ToldOnce}
-use Rattle.osc.proofs.Apart.{refusalIn, countIn, Parts, decoded-apart, EncodedParts}
+use Rattle.osc.proofs.Apart.{decoded-apart}
 use Rattle.osc.proofs.Fits.{fits}
 
 -- ---- which answers a decoder gives
@@ -133,21 +133,23 @@ parts-once framing n x (decodes.Refused r) decodes.Waiting a b p q = absurd (ome
 parts-once framing n x (decodes.Refused r) (decodes.Refused s) a b p q =
     ap (λ (i : Refusal). decodes.Refused i) (number-tells r s (omega arith))
 
--- the parts of what a decoder tells
+-- what a decoder tells: the answer may be given, and has the parts of the number
 told-parts : (framing : Framing) (msg table : List ℕ) (limit told : ℕ) (after : List ℕ)
-    → TellsDecoded (ruleOf framing) msg table limit told after
-    → Parts (length msg) (decoded (ruleOf framing) (capacity table) limit msg) told
+    → (t : TellsDecoded (ruleOf framing) msg table limit told after)
+    → Answerable framing (t .answer) × Parts (length msg) (t .answer) told
 told-parts framing msg table limit told after t =
-    let d = decoded (ruleOf framing) (capacity table) limit msg in
-    subst (Parts (length msg) d) (sym (t .number)) (decoded-apart (length msg) d (fits (capacity table) limit framing msg refl))
+    let e = t .decodes .answered in (
+      subst (Answerable framing) (sym e) (answerable framing (capacity table) limit msg),
+      subst (Parts (length msg) (t .answer)) (sym (t .number))
+          (decoded-apart (length msg) (t .answer) (fits (capacity table) limit framing msg e)),
+    )
 
 -- a decoder does not tell two answers to as many bytes by one number
 pub decoded-once : ToldOnce
 decoded-once framing msg msg′ table table′ limit limit′ told after after′ e t u =
-    parts-once framing (length msg) told _ _ (answerable framing (capacity table) limit msg)
-    (answerable framing (capacity table′) limit′ msg′) (told-parts framing msg table limit told after t)
-    (subst (λ (n : ℕ). Parts n (decoded (ruleOf framing) (capacity table′) limit′ msg′) told) (sym e)
-    (told-parts framing msg′ table′ limit′ told after′ u))
+    let x = told-parts framing msg table limit told after t in
+    let y = told-parts framing msg′ table′ limit′ told after′ u in
+    parts-once framing (length msg) told _ _ (x .0) (y .0) (x .1) (subst (λ (n : ℕ). Parts n (u .answer) told) (sym e) (y .1))
 
 -- what it is that `osc_decode_tcp` answered Waiting: the whole input is left, and the table is as it was
 pub record WaitingTold (msg table : List ℕ) (limit told : ℕ) (after : List ℕ) : Type 0 where
@@ -164,11 +166,12 @@ none-waits n x (decodes.Refused r) a p h k = absurd (omega (arith, number-some r
 pub tcp-none-waits : (msg table : List ℕ) (limit told : ℕ) (after : List ℕ) → TellsDecoded tcp msg table limit told after
     → refusalIn told ≡ 0 → countIn told ≡ 0 → WaitingTold msg table limit told after
 tcp-none-waits msg table limit told after t h k =
-    let e = none-waits (length msg) told _ (answerable Tcp (capacity table) limit msg) (told-parts Tcp msg table limit told after t) h k in
+    let x = told-parts Tcp msg table limit told after t in
+    let e = none-waits (length msg) told _ (x .0) (x .1) h k in
     record {
-      answer = e;
+      answer = sym (t .decodes .answered) ∙ e;
       whole = t .number ∙ ap (decodedNumber (length msg)) e;
-      left = t .left ∙ ap (λ (d : Decoded). tabled d (forestOf (tcp msg)) table) e;
+      left = t .decodes .left ∙ ap (λ (d : Decoded). tabled d (forestOf (tcp msg)) table) e;
     }
 
 -- two answers of an encoder that have the parts of one number are one

@@ -2,30 +2,27 @@
 use mathlib.Core.Path.{_≡_, ap, sym, _∙_}
 use mathlib.Core.List.{List}
 use Prim.Native.Nat.{ℕ}
-use Rattle.encoder.specs.Outcome.{Outcome, unframed, prefixed, Encodes, stringOutcome}
-use Rattle.encoder.proofs.Only.{encode-only, encode-tcp-only, encode-string-only}
-use Rattle.osc.specs.Answers.{encodedNumber, Tells}
+use lib.ListN.{length}
+use Rattle.wire.proofs.Only.{one-outcome}
+use Rattle.decoder.proofs.Only.{decodes-only}
+use Rattle.encoder.specs.Outcome.{Outcome}
+use Rattle.encoder.proofs.Only.{encodes-only}
+use Rattle.osc.specs.Answers.{decodedNumber, encodedNumber, Tells}
+use Rattle.osc.specs.Boundary.{osc-decode, osc-encode, osc-encode-string, osc-pad, osc-look, CSettled}
 
--- one outcome gives one number and one output
+-- one outcome of an encoder gives one number and one output
 tells-only : (Outcomes : Outcome → Type 0) → ((o p : Outcome) → Outcomes o → Outcomes p → o ≡ p) → (r s : ℕ) (out out′ : List ℕ)
     → Tells Outcomes r out → Tells Outcomes s out′ → (r ≡ s) × (out ≡ out′)
 tells-only Outcomes one r s out out′ t u =
     let e = one _ _ (t .outcome) (u .outcome) in
     (t .number ∙ ap (λ (o : Outcome). encodedNumber (o .answer)) e ∙ sym (u .number), ap (λ (o : Outcome). o .out) e)
 
--- no second number or output meets the contract of `osc_encode`
-pub encode-told-only : (table : List ℕ) (count : ℕ) (source out₀ : List ℕ) (r s : ℕ) (out out′ : List ℕ)
-    → Tells (Encodes unframed table count source out₀) r out → Tells (Encodes unframed table count source out₀) s out′
-    → (r ≡ s) × (out ≡ out′)
-encode-told-only table count source out₀ = tells-only _ (encode-only table count source out₀)
-
--- nor that of `osc_encode_tcp`
-pub encode-tcp-told-only : (table : List ℕ) (count : ℕ) (source out₀ : List ℕ) (r s : ℕ) (out out′ : List ℕ)
-    → Tells (Encodes prefixed table count source out₀) r out → Tells (Encodes prefixed table count source out₀) s out′
-    → (r ≡ s) × (out ≡ out′)
-encode-tcp-told-only table count source out₀ = tells-only _ (encode-tcp-only table count source out₀)
-
--- nor that of `osc_encode_string`
-pub encode-string-told-only : (text out₀ : List ℕ) (r s : ℕ) (out out′ : List ℕ) → Tells (λ o. o ≡ stringOutcome text out₀) r out
-    → Tells (λ o. o ≡ stringOutcome text out₀) s out′ → (r ≡ s) × (out ≡ out′)
-encode-string-told-only text out₀ = tells-only _ (encode-string-only text out₀)
+-- no second number and no other lent bytes meet the contract of one of the eight functions
+pub c-settled : CSettled
+c-settled (osc-decode framing msg table limit) r s after after′ t u =
+    let e = decodes-only (t .decodes) (u .decodes) in (t .number ∙ ap (decodedNumber (length msg)) (e .0) ∙ sym (u .number), e .1)
+c-settled (osc-encode frame table count source out) r s after after′ t u =
+    tells-only _ (encodes-only frame table count source out) r s after after′ t u
+c-settled (osc-encode-string text out) r s after after′ t u = tells-only _ (λ o p. one-outcome) r s after after′ t u
+c-settled (osc-pad pos) r s after after′ t u = (one-outcome (t .0) (u .0), one-outcome (t .1) (u .1))
+c-settled (osc-look table index) r s after after′ t u = (one-outcome (t .0) (u .0), one-outcome (t .1) (u .1))

@@ -2,21 +2,22 @@
 use mathlib.Core.Path.{_≡_}
 use mathlib.Core.Bool.{cond}
 use mathlib.Core.List.{List}
-use Prim.Native.Nat.{ℕ, _+_, _*_, _≤_}
+use Prim.Native.Nat.{ℕ, _+_, _*_, _/_, _%_, _≤_}
 use lib.ListN.{length}
 use Rattle.refusal.specs.Refusal.{numberOf}
 use Rattle.refusal.specs.declared.Refusal.{Refusal}
 use Rattle.wire.specs.Limits.{longest}
+use Rattle.wire.specs.Pad.{padOf}
 use Rattle.wire.specs.declared.Padded.{Padded}
 use Rattle.wire.specs.declared.Padded.the-variants as padded
 use Rattle.node.specs.Tags.{messageKind, bundleKind, arrayKind}
-use Rattle.node.specs.Records.{capacity}
+use Rattle.values.specs.Look.{lookAt}
 use Rattle.values.specs.declared.value.OscType.{OscType}
 use Rattle.values.specs.declared.value.OscType.the-variants as value
 use Rattle.values.specs.declared.look.Looked.{Looked}
 use Rattle.values.specs.declared.look.Looked.the-variants as looked
 use Rattle.decoder.specs.Framing.{Whole}
-use Rattle.decoder.specs.Limits.{decoded, forestOf, tabled}
+use Rattle.decoder.specs.Limits.{Decodes}
 use Rattle.decoder.specs.declared.Decoded.{Decoded}
 use Rattle.decoder.specs.declared.Decoded.the-variants as decodes
 use Rattle.encoder.specs.Outcome.{Outcome}
@@ -39,10 +40,11 @@ Fits n (decodes.Packets count left) = (count ≤ longest) × (left ≤ longest)
 Fits n decodes.Waiting = n ≤ longest
 Fits n (decodes.Refused r) = Unit {0}
 
--- a decoder's call, by its rule: the number of its answer is told, and the table is as that answer leaves it
+-- a decoder's call, by its rule: it has an answer and leaves a table by the decoder's contract, and what is told is that answer
 pub record TellsDecoded (rule : List ℕ → Whole) (msg table : List ℕ) (depth told : ℕ) (after : List ℕ) : Type 0 where
-  pub number : told ≡ decodedNumber (length msg) (decoded rule (capacity table) depth msg)
-  pub left : after ≡ tabled (decoded rule (capacity table) depth msg) (forestOf (rule msg)) table
+  pub answer : Decoded
+  pub decodes : Decodes rule msg table depth answer after
+  pub number : told ≡ decodedNumber (length msg) answer
 
 -- an encoder's answer: the bytes written in bits 0 to 31
 abbrev pub encodedNumber : Encoded → ℕ
@@ -59,6 +61,10 @@ pub record Tells (Outcomes : Outcome → Type 0) (told : ℕ) (out : List ℕ) :
 abbrev pub paddedNumber : Padded → ℕ
 paddedNumber (padded.At pos) = pos
 paddedNumber (padded.Refused r) = numberOf r
+
+-- the call of `pad`: the number of its answer is told
+abbrev pub TellsPadded : ℕ → ℕ → Type 0
+TellsPadded pos told = told ≡ paddedNumber (padOf pos)
 
 -- the kind of a value: document 01's table of kinds
 abbrev pub kindOf : OscType → ℕ
@@ -83,3 +89,32 @@ kindOf value.Array = arrayKind
 abbrev pub lookedNumber : Looked → ℕ
 lookedNumber (looked.Value v) = kindOf v
 lookedNumber (looked.Refused r) = refusalNumber r
+
+-- the call of `look`: the number of its answer is told
+abbrev pub TellsLooked : List ℕ → ℕ → ℕ → Type 0
+TellsLooked table index told = told ≡ lookedNumber (lookAt table index)
+
+-- ---- what include/osc.h takes a number apart into
+
+-- `osc_refusal`: bits 56 to 63
+abbrev pub refusalIn : ℕ → ℕ
+refusalIn x = x / 0x100_0000_0000_0000
+
+-- `osc_count`: bits 32 to 55
+abbrev pub countIn : ℕ → ℕ
+countIn x = x / 0x1_0000_0000 % 0x100_0000
+
+-- `osc_left`, `osc_written`: bits 0 to 31
+abbrev pub lowIn : ℕ → ℕ
+lowIn x = x % 0x1_0000_0000
+
+-- what the parts of a decoder's number say of its answer to n bytes
+abbrev pub Parts : ℕ → Decoded → ℕ → Type 0
+Parts n (decodes.Packets count left) x = (refusalIn x ≡ 0) × (countIn x ≡ count) × (lowIn x ≡ left)
+Parts n decodes.Waiting x = (refusalIn x ≡ 0) × (countIn x ≡ 0) × (lowIn x ≡ n)
+Parts n (decodes.Refused r) x = (refusalIn x ≡ numberOf r) × (countIn x ≡ 0) × (lowIn x ≡ 0)
+
+-- what the parts of an encoder's number say of its answer
+abbrev pub EncodedParts : Encoded → ℕ → Type 0
+EncodedParts (encodes.Written n) x = (refusalIn x ≡ 0) × (lowIn x ≡ n)
+EncodedParts (encodes.Refused r) x = (refusalIn x ≡ numberOf r) × (lowIn x ≡ 0)

@@ -5,18 +5,15 @@ use mathlib.Core.List.{List, [], _∷_}
 use Prim.Native.Nat.{ℕ, _*_, _%_, _≤_, _<_}
 use lib.ListN.{length}
 use Rattle.wire.specs.Limits.{longest}
-use Rattle.wire.specs.Pad.{padOf}
 use Rattle.node.specs.Tags.{among}
-use Rattle.node.specs.Records.{capacity}
-use Rattle.values.specs.Look.{lookAt}
 use Rattle.decoder.specs.Framing.{ruleOf}
-use Rattle.decoder.specs.Limits.{decoded}
+use Rattle.decoder.specs.Limits.{decodeOrder}
 use Rattle.decoder.specs.declared.Framing.{Framing}
 use Rattle.decoder.specs.declared.Framing.the-variants.{Udp, Tcp, TcpVec}
 use Rattle.decoder.specs.declared.Decoded.{Decoded}
 use Rattle.decoder.specs.declared.Decoded.the-variants as decodes
-use Rattle.encoder.specs.Outcome.{Encodes, stringOutcome}
-use Rattle.osc.specs.Answers.{TellsDecoded, Tells, paddedNumber, lookedNumber}
+use Rattle.encoder.specs.Outcome.{encodeOrder, stringOrder, Encodes, EncodesString}
+use Rattle.osc.specs.Answers.{TellsDecoded, Tells, TellsPadded, TellsLooked}
 
 -- a call from C and what it is handed: the three decoders by their framing, the two encoders of packets by their frame
 pub data CCall : Type 0 where
@@ -38,15 +35,15 @@ cLent (osc-look table index) = []
 abbrev pub CMeets : CCall → ℕ → List ℕ → Type 0
 CMeets (osc-decode framing msg table depth) told after = TellsDecoded (ruleOf framing) msg table depth told after
 CMeets (osc-encode frame table count source out) told after = Tells (Encodes frame table count source out) told after
-CMeets (osc-encode-string text out) told after = Tells (λ o. o ≡ stringOutcome text out) told after
-CMeets (osc-pad pos) told after = (told ≡ paddedNumber (padOf pos)) × (after ≡ [])
-CMeets (osc-look table index) told after = (told ≡ lookedNumber (lookAt table index)) × (after ≡ [])
+CMeets (osc-encode-string text out) told after = Tells (EncodesString text out) told after
+CMeets (osc-pad pos) told after = TellsPadded pos told × (after ≡ [])
+CMeets (osc-look table index) told after = TellsLooked table index told × (after ≡ [])
 
 -- the refusals that document 01 has for the call, in the order in which they are given
 abbrev pub cRefusals : CCall → List ℕ
-cRefusals (osc-decode framing msg table depth) = 13 ∷ 1 ∷ 2 ∷ 3 ∷ 4 ∷ 5 ∷ 6 ∷ 7 ∷ 8 ∷ 9 ∷ 10 ∷ []
-cRefusals (osc-encode frame table count source out) = 11 ∷ 9 ∷ 1 ∷ 12 ∷ []
-cRefusals (osc-encode-string text out) = 4 ∷ 1 ∷ 12 ∷ []
+cRefusals (osc-decode framing msg table depth) = decodeOrder
+cRefusals (osc-encode frame table count source out) = encodeOrder
+cRefusals (osc-encode-string text out) = stringOrder
 cRefusals (osc-pad pos) = 14 ∷ []
 cRefusals (osc-look table index) = 11 ∷ []
 
@@ -70,6 +67,12 @@ CAnswered (osc-look table index) told = told < 256
 pub data CEnds (c : CCall) (told : ℕ) (after : List ℕ) : Type 0 where
   told-answer : CAnswered c told → CEnds c told after
   told-refusal : (n : ℕ) → among n (cRefusals c) ≡ true → told ≡ cRefused c n → after ≡ cLent c → CEnds c told after
+
+-- a contract settles the number that is told and every lent byte: no second outcome meets it
+abbrev pub CSettled : Type 0
+CSettled =
+    (c : CCall) (told told′ : ℕ) (after after′ : List ℕ) → CMeets c told after → CMeets c told′ after′
+    → (told ≡ told′) × (after ≡ after′)
 
 -- demand 1 for the eight functions: whatever meets the contract ends so
 abbrev pub EndsListed : Type 0
@@ -104,6 +107,6 @@ abbrev pub ToldOnce : Type 0
 ToldOnce =
     (framing : Framing) (msg msg′ table table′ : List ℕ) (depth depth′ told : ℕ) (after after′ : List ℕ)
     → length msg ≡ length msg′
-    → TellsDecoded (ruleOf framing) msg table depth told after
-    → TellsDecoded (ruleOf framing) msg′ table′ depth′ told after′
-    → decoded (ruleOf framing) (capacity table) depth msg ≡ decoded (ruleOf framing) (capacity table′) depth′ msg′
+    → (t : TellsDecoded (ruleOf framing) msg table depth told after)
+    → (t′ : TellsDecoded (ruleOf framing) msg′ table′ depth′ told after′)
+    → t .answer ≡ t′ .answer

@@ -7,12 +7,10 @@ use refusal::Refusal;
 use values::look::Looked;
 use wire::Padded;
 ghost use mathlib.Core.Path.{_≡_};
-ghost use Rattle.wire.specs.Pad.{padOf};
-ghost use Rattle.values.specs.Look.{lookAt};
 ghost use Rattle.decoder.specs.Framing.{udp, tcp, tcpVec, ruleOf};
-ghost use Rattle.encoder.specs.Outcome.{unframed, prefixed, Encodes, stringOutcome};
+ghost use Rattle.encoder.specs.Outcome.{unframed, prefixed, Encodes, EncodesString};
 ghost use Rattle.osc.specs.Answers.{refusalNumber, decodedNumber, Fits, TellsDecoded, encodedNumber, Tells};
-ghost use Rattle.osc.specs.Answers.{paddedNumber, lookedNumber};
+ghost use Rattle.osc.specs.Answers.{TellsPadded, TellsLooked};
 
 // A refusal's number, in bits 56 to 63.
 fn refusal_number(refusal: Refusal) -> u64
@@ -108,7 +106,7 @@ pub extern "C" fn osc_encode_tcp(table: &[u8], count: u64, source: &[u8], out: &
 // Ruled out: the text's own length told, without its NULs; refusal 4 told as 4 bytes written.
 #[no_mangle]
 pub extern "C" fn osc_encode_string(text: &[u8], out: &mut [u8]) -> u64
-    ensures { λ r. ⌜ Tells (λ o. o ≡ stringOutcome (now (text .entry)) (now (out .entry))) r (now (out .exit)) ⌝ }
+    ensures { λ r. ⌜ Tells (EncodesString (now (text .entry)) (now (out .entry))) r (now (out .exit)) ⌝ }
 {
     encoded_number(encoder::encode_string(text, out))
 }
@@ -118,7 +116,7 @@ pub extern "C" fn osc_encode_string(text: &[u8], out: &mut [u8]) -> u64
 // Ruled out: 14 in bits 56 to 63, where a position may stand; the position as it was handed over.
 #[no_mangle]
 pub extern "C" fn osc_pad(pos: u64) -> u64
-    ensures { λ r. ⌜ r ≡ paddedNumber (padOf pos) ⌝ }
+    ensures { λ r. ⌜ TellsPadded pos r ⌝ }
 {
     match wire::pad(pos) {
         Padded::At(at) => at,
@@ -131,7 +129,7 @@ pub extern "C" fn osc_pad(pos: u64) -> u64
 // Ruled out: 0 for a record whose own rules do not hold; one kind for both truth values.
 #[no_mangle]
 pub extern "C" fn osc_look(table: &[u8], index: u64) -> u64
-    ensures { λ r. ⌜ r ≡ lookedNumber (lookAt (now (table .entry)) index) ⌝ }
+    ensures { λ r. ⌜ TellsLooked (now (table .entry)) index r ⌝ }
 {
     match values::look::look(table, index as usize) {
         Looked::Value(_) => record::kind_at(table, index as usize) as u64,

@@ -24,29 +24,34 @@ returns c =
     let p5 = p2 .before .before .before in
     let p7 = p5 .before .before in
     let p8 = p7 .before in
-    let a = p8 .before .before .before .before .args in (
-      sym (p5 .answer2 .given .1) ∙ p7 .answer .ensures
-          ∙ ap (λ (k : ℕ). decoded (ruleOf (a .framing)) k (a .depth) (a .msg .now)) (p8 .capacity-of .ensures),
-      p2 .write .ensures,
-    )
+    let a = p8 .before .before .before .before .args in
+    record {
+      answered = sym (p5 .answer2 .given .1) ∙ p7 .answer .ensures
+          ∙ ap (λ (k : ℕ). decoded (ruleOf (a .framing)) k (a .depth) (a .msg .now)) (p8 .capacity-of .ensures);
+      left = p2 .write .ensures;
+    }
 
 returns-2 : tie.Need-returns-2
 returns-2 c =
     let p2 = c .before .before in
     let p3 = p2 .before in
-    let a = p3 .before .before .before .before .args in (
-      p2 .answer .ensures ∙ ap (λ (k : ℕ). decoded (ruleOf (a .framing)) k (a .depth) (a .msg .now)) (p3 .capacity-of .ensures),
-      unwritten (forestOf (ruleOf (a .framing) (a .msg .now))) (a .table .now) (c .enum-told .given .1) refl,
-    )
+    let a = p3 .before .before .before .before .args in
+    record {
+      answered = p2 .answer .ensures
+          ∙ ap (λ (k : ℕ). decoded (ruleOf (a .framing)) k (a .depth) (a .msg .now)) (p3 .capacity-of .ensures);
+      left = unwritten (forestOf (ruleOf (a .framing) (a .msg .now))) (a .table .now) (c .enum-told .given .1) refl;
+    }
 
 returns-3 : tie.Need-returns-3
 returns-3 c =
     let p2 = c .before .before in
     let p3 = p2 .before in
-    let a = p3 .before .before .before .before .args in (
-      p2 .answer .ensures ∙ ap (λ (k : ℕ). decoded (ruleOf (a .framing)) k (a .depth) (a .msg .now)) (p3 .capacity-of .ensures),
-      unwritten (forestOf (ruleOf (a .framing) (a .msg .now))) (a .table .now) (c .enum-told2 .given .1) refl,
-    )
+    let a = p3 .before .before .before .before .args in
+    record {
+      answered = p2 .answer .ensures
+          ∙ ap (λ (k : ℕ). decoded (ruleOf (a .framing)) k (a .depth) (a .msg .now)) (p3 .capacity-of .ensures);
+      left = unwritten (forestOf (ruleOf (a .framing) (a .msg .now))) (a .table .now) (c .enum-told2 .given .1) refl;
+    }
 
 pub decode-spec : {M : Type 1} → statement M
 decode-spec =

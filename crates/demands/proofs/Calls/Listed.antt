@@ -20,16 +20,14 @@ use Rattle.wire.specs.declared.Padded.{Padded}
 use Rattle.packet.specs.Packet.{Out, fault, one, readPacket}
 use Rattle.decoder.specs.Framing.{Whole, trees, waiting, refusal, single, udp, Frame, wait, read, readFrame, tcp, before, afterFrame}
 use Rattle.decoder.specs.Framing.{framesAt, readFrames, tcpVec}
-use Rattle.decoder.specs.Framing.{Whole, trees, waiting, refusal, single, udp, Frame, wait, read, readFrame, tcp, before, afterFrame}
-use Rattle.decoder.specs.Framing.{framesAt, readFrames, tcpVec}
 use Rattle.decoder.specs.declared.Framing.the-variants.{Udp, Tcp, TcpVec}
-use Rattle.decoder.specs.Limits.{limited, decoded}
+use Rattle.decoder.specs.Limits.{decodeOrder, limited, decoded}
 use Rattle.decoder.specs.declared.Decoded.{Decoded}
 use Rattle.strings.specs.Atomic.{oscString}
 use Rattle.writers.specs.Osc.{writePacket}
-use Rattle.encoder.specs.Outcome.{Outcome, bytesOutcome, treeOutcome, Encodes, malformed, formed, stringOutcome}
+use Rattle.encoder.specs.Outcome.{encodeOrder, Outcome, bytesOutcome, treeOutcome, Encodes, malformed, formed, stringOutcome}
 use Rattle.demands.specs.Calls.{decode, encode, encode-tcp, encode-string, pad, look, text-of}
-use Rattle.demands.specs.Calls.{byDecoded, byEncoded, byPadded, byLooked, decodeOrder, encodeOrder, numbersOf, Listed}
+use Rattle.demands.specs.Calls.{byDecoded, byEncoded, byPadded, byLooked, numbersOf, Listed}
 use Rattle.demands.specs.Calls.{AnswersListed}
 use Rattle.wire.proofs.Choices.{by-test, by-le}
 use Rattle.decoder.proofs.Chosen.{by-decoded, by-trees}

@@ -8,7 +8,7 @@ use Rattle.wire.specs.Pad.{padOf}
 use Rattle.values.specs.Look.{lookAt, textNamed}
 use Rattle.wire.specs.Limits.{longest, deepest}
 use Rattle.node.specs.Forest.{Forest, nil, node, depth}
-use Rattle.decoder.specs.Framing.{Whole, ruleOf}
+use Rattle.decoder.specs.Framing.{ruleOf}
 use Rattle.decoder.specs.Limits.{forestOf, tabled}
 use Rattle.decoder.specs.declared.Decoded.{Decoded}
 use Rattle.decoder.specs.declared.Decoded.the-variants.{Packets, Waiting, Refused}
@@ -16,33 +16,30 @@ use Rattle.writers.specs.Osc.{writePacket}
 use Rattle.encoder.specs.Outcome.{Outcome, bytesOutcome, treeOutcome, Encodes, malformed, formed, unframed, prefixed, stringOutcome}
 use Rattle.strings.specs.Atomic.{oscString}
 use Rattle.demands.specs.Calls.{Call, decode, encode, encode-tcp, encode-string, pad, look, text-of}
-use Rattle.demands.specs.Calls.{Ending, Decodes, Answer, Lent, result, byDecoded, byEncoded, Settled, Met, NothingChanged}
+use Rattle.demands.specs.Calls.{Ending, Answer, Lent, result, byDecoded, byEncoded, Settled, Met, NothingChanged}
 use Rattle.demands.specs.Demands.{answerTo, tableAfter}
 use Rattle.wire.proofs.Choices.{by-test, by-le}
 use Rattle.table.proofs.Theorem.{formed-tree}
-use Rattle.encoder.proofs.Only.{encode-only, encode-tcp-only}
+use Rattle.decoder.proofs.Only.{decodes-only, decodes-met}
+use Rattle.encoder.proofs.Only.{encodes-only}
 
 -- ---- no second ending
 
 ending : {c : Call} {e e' : Ending c} → e .answer ≡ e' .answer → e .lent ≡ e' .lent → e ≡ e'
 ending {c} p q = ap₂ (λ (a : Answer c) (l : Lent c). record { answer = a; lent = l }) p q
 
-decodes-one : {rule : List ℕ → Whole} {msg table : List ℕ} {limit : ℕ} {r r' : Decoded} {t t' : List ℕ}
-    → Decodes rule msg table limit r t → Decodes rule msg table limit r' t'
-    → (r ≡ r') × (t ≡ t')
-decodes-one {rule} {msg} {table} m m' =
-    let e = m .answered ∙ sym (m' .answered) in
-    (e, m .left ∙ ap (λ (d : Decoded). tabled d (forestOf (rule msg)) table) e ∙ sym (m' .left))
+-- of an encoder, by its outcome
+outcome-one : {r r' : Outcome} → r ≡ r' → (r .answer ≡ r' .answer) × (r .out ≡ r' .out)
+outcome-one e = (ap (λ (o : Outcome). o .answer) e, ap (λ (o : Outcome). o .out) e)
 
 -- no two endings of a call meet its contract
 pub settled : Settled
-settled (decode framing msg table limit) e e' m m' = let x = decodes-one m m' in ending (x .0) (x .1)
+settled (decode framing msg table limit) e e' m m' = let x = decodes-only m m' in ending (x .0) (x .1)
 settled (encode table count source out) e e' m m' =
-    let x = encode-only _ _ _ _ _ _ m m' in ending (ap (λ (o : Outcome). o .answer) x) (ap (λ (o : Outcome). o .out) x)
+    let x = outcome-one (encodes-only unframed _ _ _ _ _ _ m m') in ending (x .0) (x .1)
 settled (encode-tcp table count source out) e e' m m' =
-    let x = encode-tcp-only _ _ _ _ _ _ m m' in ending (ap (λ (o : Outcome). o .answer) x) (ap (λ (o : Outcome). o .out) x)
-settled (encode-string text out) e e' m m' =
-    let x = m ∙ sym m' in ending (ap (λ (o : Outcome). o .answer) x) (ap (λ (o : Outcome). o .out) x)
+    let x = outcome-one (encodes-only prefixed _ _ _ _ _ _ m m') in ending (x .0) (x .1)
+settled (encode-string text out) e e' m m' = let x = outcome-one (m ∙ sym m') in ending (x .0) (x .1)
 settled (pad pos) e e' m m' = ending (m ∙ sym m') refl
 settled (look table index) e e' m m' = ending (m ∙ sym m') refl
 settled (text-of value packet label) e e' m m' = ending (m ∙ sym m') refl
@@ -57,8 +54,7 @@ encodes-met frame t count source out n =
 -- no call is without an ending
 pub met : Met
 met (decode framing msg table limit) n =
-    n (record { answer = answerTo (ruleOf framing) limit msg table; lent = tableAfter (ruleOf framing) limit msg table })
-    (record { answered = refl; left = refl })
+    n (record { answer = answerTo (ruleOf framing) limit msg table; lent = tableAfter (ruleOf framing) limit msg table }) decodes-met
 met (encode table count source out) n =
     encodes-met unframed table count source out (λ r m. n (record { answer = r .answer; lent = r .out }) m)
 met (encode-tcp table count source out) n =

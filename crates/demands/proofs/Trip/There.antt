@@ -7,10 +7,9 @@ use lib.ListN.{length, take}
 use Rattle.refusal.specs.declared.Refusal.{Refusal}
 use Rattle.wire.specs.Limits.{deepest}
 use Rattle.node.specs.Forest.{Forest}
-use Rattle.node.specs.Records.{capacity}
 use Rattle.node.specs.declared.record.Item.{Item}
 use Rattle.decoder.specs.Framing.{udp}
-use Rattle.decoder.specs.Limits.{decoded, forestOf, tabled}
+use Rattle.decoder.specs.Limits.{Decodes}
 use Rattle.decoder.specs.declared.Decoded.{Decoded}
 use Rattle.writers.specs.Osc.{writePacket}
 use Rattle.encoder.specs.Outcome.{Outcome, Encodes, unframed}
@@ -46,16 +45,15 @@ module _ (t : List ℕ) (count : ℕ) (source out : List ℕ) {e : Encoded} {out
       absurd (omega arith)
 
   -- what was written comes back as the same count and the same table
-  pub comes-back : {n : ℕ} (r : Decoded) (back back' : List ℕ) → e ≡ Written n → r ≡ decoded udp (capacity back) deepest (take n out')
-      → back' ≡ tabled r (forestOf (udp (take n out'))) back → Returns t count source out back r out' back'
-  comes-back {n} r back back' q d s item inside p h room =
+  pub comes-back : {n : ℕ} (r : Decoded) (back back' : List ℕ) → e ≡ Written n → Decodes udp (take n out') back deepest r back'
+      → Returns t count source out back r out' back'
+  comes-back {n} r back back' q d item inside p h room =
       let w = all-written p h in
       let m : n ≡ length (writePacket source item inside) = cc in
       let P = round-trip t count source item inside p out h (record { answer = e; out = out' }) enc back room in
       let k : P .n ≡ length (writePacket source item inside) = let v = P .written in cc in
-      let d' : r ≡ decoded udp (capacity back) deepest (take (length (writePacket source item inside)) out') = rw m at d in
-      let s' : back' ≡ tabled r (forestOf (udp (take (length (writePacket source item inside)) out'))) back = rw m at s in
+      let d' : Decodes udp (take (length (writePacket source item inside)) out') back deepest r back' = rw m at d in
       record {
-        answer = d' ∙ (rw k at (P .decoded));
-        same = rw (s', d') (rw k at (P .same));
+        answer = d' .answered ∙ (rw k at (P .decoded));
+        same = rw (d' .left, d' .answered) (rw k at (P .same));
       }

@@ -10,8 +10,7 @@ returns c =
     let p2 = c .before .before in
     let p8 = p2 .before .before .before .before .before .before in
     let p12 = p8 .before .before .before .before in
-    comes-back _ _ _ _ (p12 .encode .ensures) _ _ _ (p8 .n .given .1) (rw sub-zero at (p2 .decode-udp .ensures .0))
-    (rw sub-zero at (p2 .decode-udp .ensures .1))
+    comes-back _ _ _ _ (p12 .encode .ensures) _ _ _ (p8 .n .given .1) (rw sub-zero at (p2 .decode-udp .ensures))
 
 returns-2 : tie.Need-returns-2
 returns-2 c =

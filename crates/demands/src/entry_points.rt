@@ -1,0 +1,66 @@
+// Each public call once more, with what demand 1's theorems speak of as its contract: `Meets` (specs/Calls.antt). So the theorems are about
+// the calls and not about a copy of their contracts: where a call's own contract no longer gives `Meets`, the function over it is refused.
+use decoder::Decoded;
+use encoder::Encoded;
+use values::look::Looked;
+use values::value::OscType;
+use wire::Padded;
+ghost use Rattle.decoder.specs.declared.Framing.the-variants.{Udp, Tcp, TcpVec};
+ghost use Rattle.demands.specs.Calls.{Meets, decode, encode, encode-tcp, encode-string, pad, look, text-of};
+
+fn decode_udp(msg: &[u8], table: &mut [u8], depth: usize) -> Decoded
+    ensures { λ r. ⌜ Meets (decode Udp (now (msg .entry)) (now (table .entry)) depth) (record { answer = r; lent = now (table .exit) }) ⌝ }
+{
+    decoder::decode_udp(msg, table, depth)
+}
+
+fn decode_tcp(msg: &[u8], table: &mut [u8], depth: usize) -> Decoded
+    ensures { λ r. ⌜ Meets (decode Tcp (now (msg .entry)) (now (table .entry)) depth) (record { answer = r; lent = now (table .exit) }) ⌝ }
+{
+    decoder::decode_tcp(msg, table, depth)
+}
+
+fn decode_tcp_vec(msg: &[u8], table: &mut [u8], depth: usize) -> Decoded
+    ensures { λ r. ⌜ Meets (decode TcpVec (now (msg .entry)) (now (table .entry)) depth)
+        (record { answer = r; lent = now (table .exit) }) ⌝ }
+{
+    decoder::decode_tcp_vec(msg, table, depth)
+}
+
+fn encode(table: &[u8], count: usize, source: &[u8], out: &mut [u8]) -> Encoded
+    ensures { λ r. ⌜ Meets (encode (now (table .entry)) count (now (source .entry)) (now (out .entry)))
+        (record { answer = r; lent = now (out .exit) }) ⌝ }
+{
+    encoder::encode(table, count, source, out)
+}
+
+fn encode_tcp(table: &[u8], count: usize, source: &[u8], out: &mut [u8]) -> Encoded
+    ensures { λ r. ⌜ Meets (encode-tcp (now (table .entry)) count (now (source .entry)) (now (out .entry)))
+        (record { answer = r; lent = now (out .exit) }) ⌝ }
+{
+    encoder::encode_tcp(table, count, source, out)
+}
+
+fn encode_string(text: &[u8], out: &mut [u8]) -> Encoded
+    ensures { λ r. ⌜ Meets (encode-string (now (text .entry)) (now (out .entry))) (record { answer = r; lent = now (out .exit) }) ⌝ }
+{
+    encoder::encode_string(text, out)
+}
+
+fn pad(pos: u64) -> Padded
+    ensures { λ r. ⌜ Meets (pad pos) (record { answer = r; lent = tt }) ⌝ }
+{
+    wire::pad(pos)
+}
+
+fn look(table: &[u8], index: usize) -> Looked
+    ensures { λ r. ⌜ Meets (look (now (table .entry)) index) (record { answer = r; lent = tt }) ⌝ }
+{
+    values::look::look(table, index)
+}
+
+fn text_of<'a>(value: OscType, packet: &'a [u8], label: &'a [u8]) -> &'a [u8]
+    ensures { λ r. ⌜ Meets (text-of value (now (packet .entry)) (now (label .entry))) (record { answer = now r; lent = tt }) ⌝ }
+{
+    values::look::text_of(value, packet, label)
+}
