@@ -23,14 +23,14 @@ use Rattle.packet.specs.Heads.{prefixOf}
 use Rattle.packet.specs.Packet.{packetAt, readPacket}
 use Rattle.decoder.specs.Framing.{udp, readFrame, tcp, tcpVec}
 use Rattle.decoder.specs.declared.Framing.the-variants.{Udp, Tcp, TcpVec}
-use Rattle.decoder.specs.Limits.{decoded, forestOf, tabled}
+use Rattle.decoder.specs.Limits.{decodeOrder, decoded, forestOf, tabled}
 use Rattle.decoder.specs.declared.Decoded.{Decoded}
 use Rattle.decoder.specs.declared.Decoded.the-variants as decodes
 use Rattle.strings.specs.Atomic.{oscString, oscBlob}
 use Rattle.writers.specs.Osc as osc
 use Rattle.encoder.specs.Outcome.{bytesOutcome, treeOutcome, malformed, formed}
 use Rattle.encoder.specs.declared.Encoded.the-variants as encodes
-use Rattle.demands.specs.Calls.{Meets, Ending, decode, encode, pad, look, text-of, decodeOrder, refuses, byEncoded}
+use Rattle.demands.specs.Calls.{Meets, Ending, decode, encode, pad, look, text-of, refuses, byEncoded}
 use Rattle.demands.specs.Demands.{tableAfter}
 use Rattle.table.proofs.Examples as p3
 use Rattle.demands.proofs.Calls.Listed.{listed}
