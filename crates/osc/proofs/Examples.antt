@@ -124,15 +124,15 @@ text = record { answer = encodes.Written 4; outcome = refl; number = refl }
 -- the hypotheses of `c-settled`: no other number and no other bytes
 written-only : (told : ℕ) (after : List ℕ) → CMeets (osc-encode unframed p3.nested-table 7 p3.nested (nines 77)) told after
     → (told ≡ 76) × (after ≡ p3.nested ++ (9 ∷ []))
-written-only told after m = c-settled _ told 76 after _ m written
+written-only told after m = c-settled (osc-encode unframed p3.nested-table 7 p3.nested (nines 77)) told 76 after _ m written
 
 stream-only : (told : ℕ) (after : List ℕ) → CMeets (osc-encode prefixed (p3.table 2 2) 2 p3.packet (nines 17)) told after
     → (told ≡ 16) × (after ≡ (0 ∷ 0 ∷ 0 ∷ 12 ∷ []) ++ (p3.packet ++ (9 ∷ [])))
-stream-only told after m = c-settled _ told 16 after _ m stream
+stream-only told after m = c-settled (osc-encode prefixed (p3.table 2 2) 2 p3.packet (nines 17)) told 16 after _ m stream
 
 text-only : (told : ℕ) (after : List ℕ) → CMeets (osc-encode-string (0xC3 ∷ 0xA9 ∷ []) (nines 5)) told after
     → (told ≡ 4) × (after ≡ 0xC3 ∷ 0xA9 ∷ 0 ∷ 0 ∷ 9 ∷ [])
-text-only told after m = c-settled _ told 4 after _ m text
+text-only told after m = c-settled (osc-encode-string (0xC3 ∷ 0xA9 ∷ []) (nines 5)) told 4 after _ m text
 
 -- the hypotheses of `told-apart`, `string-told-apart` and `encoded-once`
 text-apart : EncodedParts (encodes.Written 4) 4
