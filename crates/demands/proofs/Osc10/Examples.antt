@@ -38,12 +38,11 @@ use Rattle.demands.specs.Seen.{argument, argumentEntries, entriesOf, See
 use Rattle.demands.specs.Standards.{oscFrame, AcceptedAs, SeenIn, SpelledStrictly, FrameOf}
 use Rattle.utf8.proofs.Grammar.{octets}
 use Rattle.table.proofs.Theorem.{bytes-tree}
-use Rattle.table.proofs.Examples.{packet as p3-bytes}
+use Rattle.table.proofs.Examples.{packet as p3-bytes, small-bytes}
 use Rattle.demands.proofs.Osc10.Accepted.{osc10-accepted, frame-accepted}
 use Rattle.demands.proofs.Osc10.Seen.{osc10-seen}
 use Rattle.demands.proofs.Osc10.Strict.{strict-allowed}
 use Rattle.demands.proofs.Osc10.Written.{strict-written, strict-frame-written}
-use Rattle.demands.proofs.Trip.Examples.{small-bytes}
 
 -- ---- P3, and a bundle that holds it
 
