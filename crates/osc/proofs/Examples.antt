@@ -2,9 +2,9 @@
 -- crates/table/proofs/Examples.antt.
 use mathlib.Core.Path.{_≡_, refl}
 use mathlib.Core.List.{List, [], _∷_, _++_}
-use Prim.Native.Nat.{ℕ}
+use Prim.Native.Nat.{ℕ, _<_}
 use native.Mathlib.Omega.{arith}
-use lib.ListN.{replicate}
+use lib.ListN.{getD, replicate}
 use Rattle.refusal.specs.declared.Fault.the-variants.{NotUtf8}
 use Rattle.refusal.specs.declared.Refusal.the-variants.{Unreadable, BadTable}
 use Rattle.wire.specs.Number.{number, bytes}
@@ -169,7 +169,11 @@ unfolding lookAt
 no-record = (refl, refl)
 
 -- the blob's size begins at 56, and a record that does not exist nowhere
-start : CMeets (osc-start p3.nested-table (p3.small-bytes p3.nested-table tt) 4) 56 []
+nested-small : (i : ℕ) → getD p3.nested-table i 0 < 256
+unfolding p3.nested-table bytes size recordOf recordsOf
+nested-small = p3.small-bytes p3.nested-table tt
+
+start : CMeets (osc-start p3.nested-table nested-small 4) 56 []
 unfolding p3.nested-table number bytes size recordOf recordsOf fieldAt startedAt
 start = (refl, refl)
 

@@ -1,47 +1,26 @@
+-- `osc::osc_start` meets its contract: by the case that `start_of` gives.
+use mathlib.Core.Path.{ap, sym, _∙_}
 use borrow.Author.Needs.{needs}
+use Rattle.osc.specs.Answers.{startedNumber}
 use Rattle.osc.proofs.osc_start.Statement.{statement}
 use Rattle.osc.proofs.osc_start.Tie as tie
-use Rattle.osc.proofs.osc_start.Reads as reads
-use Rattle.osc.proofs.osc_start.Lts as lts
-use Rattle.osc.proofs.refusal_number.Reads as refusal-number-reads
-use Rattle.values.proofs.look.start_of.Reads as start-of-reads
 
--- src/lib.rt:148:11
-start-of-requires : tie.Need-start-of-requires
-start-of-requires c κs = search needs
-
--- src/lib.rt:149:21
-enum-known-start : tie.Need-enum-known-start
-enum-known-start c = search needs
-
--- src/lib.rt:149:31
-cast-result : tie.Need-cast-result
-cast-result c = search needs
-
--- src/lib.rt:150:26
-enum-known-refusal : tie.Need-enum-known-refusal
-enum-known-refusal c = search needs
-
--- src/lib.rt:150:38
-refusal-number-requires : tie.Need-refusal-number-requires
-refusal-number-requires c κs = search needs
-
--- src/lib.rt:144:1
 returns : tie.Need-returns
-returns c = ?
+returns c = ap startedNumber (sym (c .before .start .given .1) ∙ c .before .before .before .start-of .ensures)
 
--- src/lib.rt:144:1
 returns-2 : tie.Need-returns-2
-returns-2 c = ?
+returns-2 c =
+    let p2 = c .before .before in
+    c .refusal-number .ensures ∙ ap startedNumber (sym (p2 .refusal .given .1) ∙ p2 .before .before .start-of .ensures)
 
 pub osc-start-spec : {M : Type 1} → statement M
 osc-start-spec =
     tie.close
     (tie.spec
-    start-of-requires
-    enum-known-start
-    cast-result
-    enum-known-refusal
-    refusal-number-requires
+    (λ c κs. search needs)
+    (λ c. search needs)
+    (λ c. search needs)
+    (λ c. search needs)
+    (λ c κs. search needs)
     returns
     returns-2)
