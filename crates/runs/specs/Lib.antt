@@ -1,2 +1,3 @@
 pub mod Kept
 pub mod Put
+pub mod Said

@@ -1,5 +1,6 @@
 // What the programs that run calls and compare share: a slice filled before a call, and what stands in it after.
 pub mod spelled; // spelled.rt: the bytes of a case as its line spells them
+pub mod said; // said.rt: what a run says
 
 ghost use mathlib.Core.Path.{_≡_};
 ghost use lib.ListN.{length};
@@ -60,10 +61,4 @@ pub fn holds(out: &[u8], bytes: &[u8]) -> bool
         return false;
     }
     is_kept(out, bytes.len())
-}
-
-// Says a text and a number.
-pub fn say(text: &[u8], x: u64) {
-    io::write_all(1, text);
-    io::print_decimal(1, x);
 }
