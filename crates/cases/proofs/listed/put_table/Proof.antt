@@ -1,10 +1,10 @@
--- `case_runs::listed::put_table` meets its contract. The invariant: what was put so far fits; each record takes at least one byte.
+-- `cases::listed::put_table` meets its contract. The invariant: what was put so far fits; each record takes at least one byte.
 use borrow.Author.Needs.{needs}
 use Prim.Native.Nat.{_≤_, _-_, _+_}
 use lib.ListN.{length}
 use Rattle.runs.specs.Put.{Put}
-use Rattle.case_runs.proofs.listed.put_table.Statement.{statement}
-use Rattle.case_runs.proofs.listed.put_table.Tie as tie
+use Rattle.cases.proofs.listed.put_table.Statement.{statement}
+use Rattle.cases.proofs.listed.put_table.Tie as tie
 
 abbrev Inv-loop : tie.InvT-loop
 Inv-loop list out₀ done₀ at₀ out done at = (at ≤ length list + 2) × Put done out₀ out

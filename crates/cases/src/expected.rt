@@ -1,8 +1,11 @@
-// What a line expects: `packets LEFT TABLE`, `written BYTES`, `waiting` or `refused NUMBER`.
+// What a line expects: `packets LEFT TABLE`, `written BYTES`, `waiting`, `refused NUMBER`, `value KIND` or `at POSITION`.
 use crate::call;
 use crate::call::Outcome;
 use crate::call::empty;
+use crate::call::given;
+use crate::listed::kind_of;
 use crate::listed::put_table;
+use crate::listed::records_in;
 use runs::spelled::put_bytes;
 use words::line::place_of;
 use words::line::start;
@@ -12,7 +15,10 @@ ghost use Rattle.runs.specs.Put.{Put};
 
 // The place of the answer among these names; another number for any other.
 fn answer_of(expected: &[u8]) -> usize {
-    place_of(b"packets written waiting refused", word(expected, 0))
+    place_of(
+        b"packets written waiting refused value at",
+        word(expected, 0),
+    )
 }
 
 // Puts the bytes that are to stand in what was lent, and says how many there are.
@@ -38,21 +44,15 @@ fn refused(x: u64) -> Outcome {
     empty(call::UNKNOWN)
 }
 
-// The answer that a line expects, where these are the bytes that it gives.
-pub fn wanted(expected: &[u8], bytes: &[u8]) -> Outcome {
+// The answer that a line expects, where it gives so many bytes.
+pub fn wanted(expected: &[u8], bytes: usize) -> Outcome {
     match answer_of(expected) {
-        0 => Outcome {
-            answer: call::GIVEN,
-            count: call::records_in(bytes),
-            left: number(expected, 1) as usize,
-        },
-        1 => Outcome {
-            answer: call::GIVEN,
-            count: bytes.len(),
-            left: 0,
-        },
+        0 => given(records_in(bytes), number(expected, 1)),
+        1 => given(bytes as u64, 0),
         2 => empty(call::WAITING),
         3 => refused(number(expected, 1)),
+        4 => given(kind_of(word(expected, 1)) as u64, 0),
+        5 => given(number(expected, 1), 0),
         _ => empty(call::UNKNOWN),
     }
 }
