@@ -6,6 +6,7 @@ pub mod tally; // tally.rt: how often each answer was met
 ghost use mathlib.Core.Path.{_≡_};
 ghost use lib.ListN.{length};
 ghost use Rattle.runs.specs.Kept.{Begins, Holds, Kept, TellsWhether};
+ghost use Rattle.runs.specs.Sum.{sumOf};
 
 // What every byte of a lent slice is before a call.
 pub const FILL: u8 = 0x5A;
@@ -62,4 +63,19 @@ pub fn holds(out: &[u8], bytes: &[u8]) -> bool
         return false;
     }
     is_kept(out, bytes.len())
+}
+
+// One number for all bytes of a slice, in which each has its part by its value and its place: what a call left, told in short.
+//
+// Ruled out: the same number whatever the last byte is; the first byte counted for every other.
+pub fn sum_of(bytes: &[u8]) -> u64
+    ensures { λ r. ⌜ r ≡ sumOf (now (bytes .entry)) 0 ⌝ }
+{
+    let mut sum = 0;
+    let mut i = 0;
+    while i < bytes.len() {
+        sum = (sum * 257 + bytes[i] as u64) % 4294967291;
+        i += 1;
+    }
+    sum
 }
