@@ -67,7 +67,7 @@ pub fn holds(out: &[u8], bytes: &[u8]) -> bool
 
 // One number for all bytes of a slice, in which each has its part by its value and its place: what a call left, told in short.
 //
-// Ruled out: the same number whatever the last byte is; the first byte counted for every other.
+// Ruled out: the same number whatever the last byte is; the same for two bytes turned round.
 pub fn sum_of(bytes: &[u8]) -> u64
     ensures { λ r. ⌜ r ≡ sumOf (now (bytes .entry)) 0 ⌝ }
 {
