@@ -72,10 +72,10 @@ pub fn sum_of(bytes: &[u8]) -> u64
     ensures { λ r. ⌜ r ≡ sumOf (now (bytes .entry)) 0 ⌝ }
 {
     let mut sum = 0;
-    let mut i = 0;
-    while i < bytes.len() {
-        sum = (sum * 257 + bytes[i] as u64) % 4294967291;
-        i += 1;
+    let mut at = 0;
+    while at < bytes.len() {
+        sum = (sum * 257 + bytes[at] as u64) % 4294967291;
+        at += 1;
     }
     sum
 }
