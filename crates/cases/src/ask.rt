@@ -13,10 +13,11 @@ use words::line::word;
 use words::numeral::number;
 ghost use Prim.Native.Nat.{_≤_};
 
-// What a case met.
+// What a case met: whether it is right, what was answered, and the sum of what was lent.
 pub struct Found {
     pub is_right: bool,
     pub outcome: Outcome,
+    pub sum: u64,
 }
 
 // What a case that is not understood met.
@@ -24,6 +25,7 @@ fn unclear() -> Found {
     Found {
         is_right: false,
         outcome: call::empty(call::UNKNOWN),
+        sum: 0,
     }
 }
 
@@ -41,7 +43,11 @@ fn judged(outcome: Outcome, lent: &[u8], expected: &[u8], space: &mut [u8]) -> F
     let n = expected::put_given(expected, space);
     let is_right =
         runs::holds(lent, front(space, n)) && is_same(outcome, expected::wanted(expected, n));
-    Found { is_right, outcome }
+    Found {
+        is_right,
+        outcome,
+        sum: runs::sum_of(lent),
+    }
 }
 
 // How many bytes are lent.

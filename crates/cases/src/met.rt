@@ -10,13 +10,15 @@ use words::line::word;
 ghost use Prim.Native.Nat.{_≤_};
 ghost use lib.ListN.{length};
 
-// For each call, and for what is none, forty counts, one for each answer; then the cases and those that differ.
-pub type Met = [u64; 402];
+// For each call, and for what is none, forty counts, one for each answer; then the cases, those that differ, and the sum of what was lent.
+pub type Met = [u64; 403];
 
-// The place of the cases, and of those that differ.
+// The places of the cases, of those that differ, and of the sum.
 const CASES: usize = 400;
 
 const DIFFER: usize = 401;
+
+const SUM: usize = 402;
 
 // The lesser of two numbers.
 fn least(a: usize, b: usize) -> usize
@@ -32,6 +34,11 @@ pub fn count(met: &mut Met, call: usize, answer: usize, is_right: bool) {
     if !is_right {
         add(met, DIFFER);
     }
+}
+
+// Counts what a case left in what was lent.
+pub fn add_sum(met: &mut Met, sum: u64) {
+    met[SUM] = std::num::wrapping_add_u64(met[SUM], sum);
 }
 
 // Says what the cases after it are of.
@@ -55,13 +62,13 @@ pub fn say_case(call: usize, outcome: Outcome) {
     }
 }
 
-// Says how often a call gave each answer.
+// Says how often a call gave each answer that is known.
 fn say_call(met: &[u64], call: usize)
-    requires { ⌜ (call ≤ 9) × (400 ≤ length (now met)) ⌝ }
+    requires { ⌜ (call ≤ 8) × (400 ≤ length (now met)) ⌝ }
 {
     io::write_all(1, word(&call::NAMES, call));
     let from = 40 * call;
-    say_met(&call::ANSWERS, &met[from..from + 40]);
+    say_met(&call::ANSWERS, &met[from..from + 32]);
 }
 
 // Says it of every call.
@@ -69,16 +76,18 @@ fn say_calls(met: &[u64])
     requires { ⌜ 400 ≤ length (now met) ⌝ }
 {
     let mut call = 0;
-    while call <= 9 {
+    while call <= 8 {
         say_call(met, call);
         call += 1;
     }
 }
 
-// Says how many cases there were, and how often each call gave each answer.
+// Says what was met in all: how often each call gave each answer, the sum of all that was lent, and how many cases there were.
 pub fn report(met: &Met) {
-    say_counts(b"", met[CASES], b" cases, ", met[DIFFER], b" differ\n");
     say_calls(met);
+    say(b"sum ", met[SUM]);
+    io::write_all(1, b" of what was lent\n");
+    say_counts(b"", met[CASES], b" cases, ", met[DIFFER], b" differ\n");
 }
 
 // Says that a line differs.
