@@ -41,8 +41,8 @@ fn is_same(found: Outcome, wanted: Outcome) -> bool {
 // it was.
 fn judged(outcome: Outcome, lent: &[u8], expected: &[u8], space: &mut [u8]) -> Found {
     let n = expected::put_given(expected, space);
-    let is_right =
-        runs::holds(lent, front(space, n)) && is_same(outcome, expected::wanted(expected, n));
+    let is_right = runs::holds(lent, front(space, n))
+        && is_same(outcome, expected::wanted(expected, n));
     Found {
         is_right,
         outcome,
@@ -77,13 +77,13 @@ fn ask_in(
     judged(outcome, lent, expected, space)
 }
 
-// Whether a case is understood, and has room in what can be lent.
-fn is_clear(asked: &[u8], lent: &[u8]) -> bool {
+// Whether the input and the table of a case are understood.
+fn is_clear(asked: &[u8]) -> bool {
     if !is_bytes(word(asked, 4)) {
         return false;
     }
     let from = start(asked, 5);
-    is_table(&asked[from..]) && room(asked) <= lent.len()
+    is_table(&asked[from..])
 }
 
 // A case: its input is put into `input`, what it lends is a part of `lent`, and its table and what it expects are put into `space`.
@@ -95,14 +95,14 @@ pub fn ask(
     lent: &mut [u8],
     space: &mut [u8],
 ) -> Found {
-    if !is_clear(asked, lent) {
+    if !is_clear(asked) {
         return unclear();
     }
-    let n = put_bytes(word(asked, 4), input);
     let end = room(asked);
     if lent.len() < end {
         return unclear();
     }
+    let n = put_bytes(word(asked, 4), input);
     ask_in(
         call,
         asked,

@@ -15,8 +15,8 @@ use words::written::filled;
 ghost use Prim.Native.Nat.{_≤_, _<_};
 ghost use lib.ListN.{length};
 
-// The tally has 25 numbers for each of the 10 questions: how many vectors there are, how many of them differ, the sum of the answers, and how
-// many answers begin with each of 22 words.
+// The tally has 25 numbers for each of the 10 questions: how many vectors there are, how many of them differ, the sum of the answers, and
+// how many answers begin with each of 22 words.
 type Tally = [u64; 250];
 
 const EACH: usize = 25;

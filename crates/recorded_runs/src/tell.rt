@@ -70,11 +70,5 @@ pub fn sums(answered: u64, lent: u64) {
 
 // Says how many answers there are, and how many of them differ.
 pub fn total(answers: u64, differences: u64) {
-    say_counts(
-        b"",
-        answers,
-        b" answers, ",
-        differences,
-        b" differences\n",
-    );
+    say_counts(b"", answers, b" answers, ", differences, b" differences\n");
 }

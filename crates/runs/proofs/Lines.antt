@@ -22,7 +22,7 @@ then-adds {a} {b} {o₀} {o₁} {o₂} {at} {e₁} {e₂} one two = record {
   same = two .same ∙ one .same;
   said =
       two .said
-        ∙ rw (one .same, one .said, cut-then (length o₀) (take at o₀ ++ a) b, append-assoc (take at o₀) a b);
+      ∙ rw (one .same, one .said, cut-then (length o₀) (take at o₀ ++ a) b, append-assoc (take at o₀) a b);
 }
 
 -- the digits that `io::decimal` puts at the front of a slice
@@ -35,14 +35,14 @@ decimal-taken x n l e few spelt = record {
 module _ (old new text : List ℕ) (at i : ℕ) (so-far : take (at + i) new ≡ take at old ++ take i text) where
   -- one byte more of a text
   pub put-next : i < length text → at + i < length new
-    → take (at + (i + 1)) (set new (at + i) (getD text i 0)) ≡ take at old ++ take (i + 1) text
+      → take (at + (i + 1)) (set new (at + i) (getD text i 0)) ≡ take at old ++ take (i + 1) text
   put-next h room =
       let more : at + (i + 1) ≡ suc (at + i) = omega arith in
       rw (more, take-suc-set new (at + i) (getD text i 0) room, so-far, add-one i, take-suc text i 0 h, append-assoc)
 
   -- a text that ends, or for whose next byte there is no room
   pub put-stopped : at + i ≤ length old → length new ≡ length old → take i text ≡ take (length old - at) text
-    → Adds text at old (at + i) new
+      → Adds text at old (at + i) new
   put-stopped room same stops =
       let before : length (take at old) ≡ at = length-take-le at old (omega arith) in
       let whole : length old ≡ length (take at old) + (length old - at) = omega arith in
@@ -50,5 +50,5 @@ module _ (old new text : List ℕ) (at i : ℕ) (so-far : take (at + i) new ≡ 
         within = omega arith;
         same = same;
         said = so-far ∙ ap (λ (l : List ℕ). take at old ++ l) stops ∙ sym (ap (λ (n : ℕ). take n (take at old ++ text)) whole
-          ∙ take-append-add (take at old) text (length old - at));
+            ∙ take-append-add (take at old) text (length old - at));
       }

@@ -39,8 +39,16 @@ pub fn put_count(line: &mut [u8], at: usize, text: &[u8], x: u64) -> usize
 // Puts three texts, with a number after the first and one after the second.
 //
 // Ruled out: the first number in both places; a line that ends with the second number.
-pub fn put_counts(line: &mut [u8], first: &[u8], x: u64, second: &[u8], y: u64, third: &[u8]) -> usize
-    ensures { λ r. ⌜ SaysCounts (now (first .entry)) x (now (second .entry)) y (now (third .entry)) (now (line .entry)) r (now (line .exit)) ⌝ }
+pub fn put_counts(
+    line: &mut [u8],
+    first: &[u8],
+    x: u64,
+    second: &[u8],
+    y: u64,
+    third: &[u8],
+) -> usize
+    ensures { λ r. ⌜ SaysCounts (now (first .entry)) x (now (second .entry)) y (now (third .entry))
+        (now (line .entry)) r (now (line .exit)) ⌝ }
 {
     let one = put_count(line, 0, first, x);
     let two = put_count(line, one, second, y);
