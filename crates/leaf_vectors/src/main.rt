@@ -6,13 +6,30 @@ mod answer; // answer.rt: what the leaves answer
 mod value; // value.rt: a value as text
 
 use question::Question;
-use runs::say;
+use runs::said::say;
+use runs::said::say_counts;
+use runs::tally::add;
+use runs::tally::say_met;
 use words::line;
 use words::written::filled;
-ghost use Prim.Native.Nat.{_<_};
+ghost use Prim.Native.Nat.{_≤_, _<_};
+ghost use lib.ListN.{length};
 
-// The tally has for each question how many vectors there are, and, this much further, how many of them differ.
-const KINDS: usize = 10;
+// The tally has 25 numbers for each of the 10 questions: how many vectors there are, how many of them differ, the sum of the answers, and
+// how many answers begin with each of 22 words.
+type Tally = [u64; 250];
+
+const EACH: usize = 25;
+
+const DIFFER: usize = 1;
+
+const SUM: usize = 2;
+
+const FIRST_WORDS: usize = 3;
+
+// The first words of the answers; the last is for any other, such as a number.
+const WORDS: [u8; 121] =
+    *b"yes no found lacks message bundle int float string blob time long double char color midi bool nil inf array refused other";
 
 // The place of a question in the tally.
 fn place(question: Question) -> usize
@@ -32,11 +49,21 @@ fn place(question: Question) -> usize
     }
 }
 
-// Counts one more at a place of the tally.
-fn add(tally: &mut [u64; 20], at: usize)
-    requires { ⌜ at < 20 ⌝ }
+// The place of an answer's first word.
+fn word_place(answered: &[u8]) -> usize
+    ensures { λ r. ⌜ r ≤ 21 ⌝ }
 {
-    tally[at] = std::num::wrapping_add_u64(tally[at], 1);
+    let at = line::place_of(&WORDS, line::word(answered, 1));
+    if at < 21 { at } else { 21 }
+}
+
+// Counts an answer of the question whose numbers begin at a place.
+fn count(tally: &mut Tally, from: usize, answered: &[u8])
+    requires { ⌜ from ≤ 225 ⌝ }
+{
+    add(tally, from);
+    add(tally, from + FIRST_WORDS + word_place(answered));
+    tally[from + SUM] = std::num::wrapping_add_u64(tally[from + SUM], runs::sum_of(answered));
 }
 
 // Says what differs at a line.
@@ -58,23 +85,23 @@ fn is_comment(line: &[u8]) -> bool {
 }
 
 // Asks one line's question, and compares the answer with the one that stands there.
-fn vector(line: &[u8], number: u64, tally: &mut [u64; 20]) {
+fn vector(line: &[u8], number: u64, tally: &mut Tally) {
     let equals = line::until(line, 0, b'=');
     let asked = line::front(line, equals);
     let expected = line::after(line, equals);
     let question = question::question_of(asked);
-    let at = place(question);
+    let from = EACH * place(question);
     let mut out = [0u8; 256];
     let n = answer::answer(question, asked, &mut out);
-    add(tally, at);
+    count(tally, from, filled(&out, n));
     if !check::same(expected, filled(&out, n)) {
-        add(tally, KINDS + at);
+        add(tally, from + DIFFER);
         tell(number, expected, filled(&out, n));
     }
 }
 
 // Asks every line of the input.
-fn run(input: &[u8], tally: &mut [u64; 20]) {
+fn run(input: &[u8], tally: &mut Tally) {
     let mut at = 0;
     let mut number = 0;
     while at < input.len() {
@@ -87,33 +114,43 @@ fn run(input: &[u8], tally: &mut [u64; 20]) {
     }
 }
 
-// Says how many vectors a question has.
-fn total(name: &[u8], seen: u64, differ: u64) {
+// Says what was met of the question whose numbers begin at a place.
+fn total(name: &[u8], tally: &[u64], from: usize)
+    requires { ⌜ (from ≤ 225) × (250 ≤ length (now tally)) ⌝ }
+{
     io::write_all(1, name);
-    say(b": ", seen);
-    say(b" vectors, ", differ);
-    io::write_all(1, b" differ\n");
+    say_counts(
+        b": ",
+        tally[from],
+        b" vectors, ",
+        tally[from + DIFFER],
+        b" differ",
+    );
+    say(b", sum ", tally[from + SUM]);
+    say_met(&WORDS, &tally[from + FIRST_WORDS..from + EACH]);
 }
 
 // Says it of every question.
-fn report(tally: &[u64; 20]) {
+fn totals(tally: &[u64])
+    requires { ⌜ 250 ≤ length (now tally) ⌝ }
+{
     let mut at = 0;
-    while at < 9 {
-        total(
-            line::word(&question::NAMES, at),
-            tally[at],
-            tally[KINDS + at],
-        );
+    while at < 10 {
+        total(line::word(&question::NAMES, at), tally, EACH * at);
         at += 1;
     }
-    total(b"not understood", tally[9], tally[19]);
+}
+
+// Says what was met.
+fn report(tally: &Tally) {
+    totals(tally);
 }
 
 // A vector that stands past the buffer's 65,536 bytes is not read, so that its question's count differs.
 fn main() {
     let mut space = io::large_buffer();
     let n = io::read_full(0, &mut space);
-    let mut tally = [0u64; 20];
+    let mut tally = [0u64; 250];
     run(&space[..n], &mut tally);
     report(&tally);
 }

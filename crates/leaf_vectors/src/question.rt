@@ -5,8 +5,8 @@ use words::numeral;
 use words::numeral::Numeral;
 ghost use Prim.Native.Nat.{_≤_};
 
-// The names of the questions, in the order of the tally.
-pub const NAMES: [u8; 43] = *b"utf8 lead pad u32 u64 text record look name";
+// The names of the questions, in the order of the tally; the last is for what is none.
+pub const NAMES: [u8; 51] = *b"utf8 lead pad u32 u64 text record look name unclear";
 
 pub enum Question {
     // `utf8 BYTES`: are they UTF-8?

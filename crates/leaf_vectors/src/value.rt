@@ -13,25 +13,41 @@ use words::written::put_signed;
 use words::written::put_signed32;
 use words::written::put_two;
 
-// Puts the bits of a float and whether its value is a NaN, which is equal to nothing.
-fn put_float(out: &mut Space, name: &[u8], bits: &[u8], is_nan: bool) -> usize {
+// Puts the bits of a float and what its value is: a NaN, the number of these bits, or another.
+fn put_float(out: &mut Space, name: &[u8], bits: &[u8], what: usize) -> usize {
     let from = put(out, 0, name);
     let at = put_bytes(out, from, bits);
-    put_named(out, at, b"number nan", is_nan as usize)
+    put_named(out, at, b"nan number another", what)
+}
+
+// What a value is beside its bits. A NaN is equal to nothing, and has no bits of its own here.
+fn what_f32(bits: u32, value: f32) -> usize {
+    if value != value {
+        return 0;
+    }
+    if f32::to_bits(value) == bits { 1 } else { 2 }
+}
+
+// The same for 64 bits.
+fn what_f64(bits: u64, value: f64) -> usize {
+    if value != value {
+        return 0;
+    }
+    if f64::to_bits(value) == bits { 1 } else { 2 }
 }
 
 // A float of 32 bits.
 fn put_f32(out: &mut Space, bits: u32, value: f32) -> usize {
     let mut four = [0u8; 4];
     wire::put_u32(&mut four, bits);
-    put_float(out, b" float", &four, value != value)
+    put_float(out, b" float", &four, what_f32(bits, value))
 }
 
 // A float of 64 bits.
 fn put_f64(out: &mut Space, bits: u64, value: f64) -> usize {
     let mut eight = [0u8; 8];
     wire::put_u64(&mut eight, bits);
-    put_float(out, b" double", &eight, value != value)
+    put_float(out, b" double", &eight, what_f64(bits, value))
 }
 
 // A signed number of 64 bits.

@@ -12,6 +12,13 @@ pub enum Outcome {
     LaterByte,
 }
 
+// What a case met: what was answered, the sum of what was lent, and how the case went.
+pub struct Met {
+    pub answer: u64,
+    pub sum: u64,
+    pub outcome: Outcome,
+}
+
 // Makes the call of an operation.
 fn answer(operation: u8, number: u64, first: &[u8], second: &[u8], out: &mut [u8]) -> u64 {
     match operation {
@@ -45,7 +52,7 @@ fn compare(answer: u64, due: u64, out: &[u8], written: &[u8]) -> Outcome
 }
 
 // Replays a case in a buffer of just the room that it has.
-fn replay_in(s: &[u8], case: Case, out: &mut [u8]) -> Outcome
+fn replay_in(s: &[u8], case: Case, out: &mut [u8]) -> Met
     requires { ⌜ Laid (now s) case ⌝ }
 {
     let first = case.first;
@@ -59,11 +66,16 @@ fn replay_in(s: &[u8], case: Case, out: &mut [u8]) -> Outcome
         &s[first + 4..second],
         out,
     );
-    compare(answered, case.due, out, &s[second + 12..end])
+    let outcome = compare(answered, case.due, out, &s[second + 12..end]);
+    Met {
+        answer: answered,
+        sum: runs::sum_of(out),
+        outcome,
+    }
 }
 
 // Replays a case that wants little room: most do, and a large space would be cleared for each.
-fn replay_small(s: &[u8], case: Case) -> Outcome
+fn replay_small(s: &[u8], case: Case) -> Met
     requires { ⌜ Laid (now s) case × (case .room ≤ 4096) ⌝ }
 {
     let mut space = io::buffer();
@@ -72,7 +84,7 @@ fn replay_small(s: &[u8], case: Case) -> Outcome
 }
 
 // Replays a case.
-pub fn replay(s: &[u8], case: Case) -> Outcome
+pub fn replay(s: &[u8], case: Case) -> Met
     requires { ⌜ Laid (now s) case ⌝ }
 {
     if case.room <= 4096 {

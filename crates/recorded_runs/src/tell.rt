@@ -1,6 +1,11 @@
 // What is said of the cases, on standard output.
 use crate::replay::Outcome;
+use runs::said::say;
+use runs::said::say_counts;
+use runs::tally::say_met;
 use words::line::word;
+ghost use Prim.Native.Nat.{_≤_, _<_};
+ghost use lib.ListN.{length};
 
 // The names of the operations, in the order of their numbers.
 const NAMES: [u8; 77] =
@@ -22,18 +27,9 @@ fn what(outcome: Outcome) {
     ;
 }
 
-// Says how many answers an operation has.
-fn count(operation: u8, answers: u64) {
-    name(operation);
-    io::write_all(1, b": ");
-    io::print_decimal(1, answers);
-    io::write_all(1, b" answers\n");
-}
-
 // Says which case differs, and in what.
 pub fn difference(number: u64, operation: u8, outcome: Outcome) {
-    io::write_all(1, b"case ");
-    io::print_decimal(1, number);
+    say(b"case ", number);
     io::write_all(1, b", ");
     name(operation);
     io::write_all(1, b": ");
@@ -41,22 +37,38 @@ pub fn difference(number: u64, operation: u8, outcome: Outcome) {
     io::write_all(1, b"\n");
 }
 
-// Says how many answers each operation has.
-pub fn counts(tally: &[u64; 10]) {
-    count(0, tally[0]);
-    count(1, tally[1]);
-    count(2, tally[2]);
-    count(3, tally[3]);
-    count(4, tally[4]);
-    count(5, tally[5]);
-    count(6, tally[6]);
-    count(7, tally[7]);
+// Says how often an operation gave each answer.
+fn count(operation: u8, tally: &[u64])
+    requires { ⌜ (operation < 8) × (144 ≤ length (now tally)) ⌝ }
+{
+    name(operation);
+    let from = 18 * operation as usize;
+    say_met(b"given waiting", &tally[from..from + 18]);
+}
+
+// Says it of every operation.
+pub fn counts(tally: &[u64])
+    requires { ⌜ 144 ≤ length (now tally) ⌝ }
+{
+    let mut operation = 0;
+    while operation < 8 {
+        count(operation, tally);
+        operation += 1;
+    }
+}
+
+// Says the sums of what was answered and of what was lent.
+pub fn sums(answered: u64, lent: u64) {
+    say_counts(
+        b"sum ",
+        answered,
+        b" of what was answered, ",
+        lent,
+        b" of what was lent\n",
+    );
 }
 
 // Says how many answers there are, and how many of them differ.
 pub fn total(answers: u64, differences: u64) {
-    io::print_decimal(1, answers);
-    io::write_all(1, b" answers, ");
-    io::print_decimal(1, differences);
-    io::write_all(1, b" differences\n");
+    say_counts(b"", answers, b" answers, ", differences, b" differences\n");
 }

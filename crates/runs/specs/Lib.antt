@@ -1,2 +1,4 @@
 pub mod Kept
 pub mod Put
+pub mod Said
+pub mod Sum

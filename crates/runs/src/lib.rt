@@ -1,9 +1,12 @@
 // What the programs that run calls and compare share: a slice filled before a call, and what stands in it after.
 pub mod spelled; // spelled.rt: the bytes of a case as its line spells them
+pub mod said; // said.rt: what a run says
+pub mod tally; // tally.rt: how often each answer was met
 
 ghost use mathlib.Core.Path.{_≡_};
 ghost use lib.ListN.{length};
 ghost use Rattle.runs.specs.Kept.{Begins, Holds, Kept, TellsWhether};
+ghost use Rattle.runs.specs.Sum.{sumOf};
 
 // What every byte of a lent slice is before a call.
 pub const FILL: u8 = 0x5A;
@@ -62,8 +65,17 @@ pub fn holds(out: &[u8], bytes: &[u8]) -> bool
     is_kept(out, bytes.len())
 }
 
-// Says a text and a number.
-pub fn say(text: &[u8], x: u64) {
-    io::write_all(1, text);
-    io::print_decimal(1, x);
+// One number for all bytes of a slice, in which each has its part by its value and its place: what a call left, told in short.
+//
+// Ruled out: the same number whatever the last byte is; the same for two bytes turned round.
+pub fn sum_of(bytes: &[u8]) -> u64
+    ensures { λ r. ⌜ r ≡ sumOf (now (bytes .entry)) 0 ⌝ }
+{
+    let mut sum = 0;
+    let mut at = 0;
+    while at < bytes.len() {
+        sum = (sum * 257 + bytes[at] as u64) % 4294967291;
+        at += 1;
+    }
+    sum
 }

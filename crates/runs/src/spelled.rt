@@ -1,5 +1,5 @@
 // The bytes of a case as its line spells them: parts with '+' between them. A part is hexadecimal digits ("-" for none), a number, '*'
-// and the two digits of a byte, so many of it, or a number and '#', so many bundles, each in the one before it.
+// and digits, their bytes so many times, or a number and '#', so many bundles, each in the one before it.
 use words::hex;
 use words::line::after;
 use words::line::front;
@@ -7,87 +7,61 @@ use words::line::until;
 use words::numeral::Numeral;
 use words::numeral::decimal;
 use words::numeral::number;
-ghost use mathlib.Core.Path.{_≡_};
-ghost use Prim.Native.Nat.{_≤_, _<_};
-ghost use lib.ListN.{length};
 ghost use Rattle.runs.specs.Put.{Put};
 
-// The name of a bundle.
-const NAME: [u8; 7] = *b"#bundle";
+// A bundle's name and the immediate time tag.
+const BUNDLE: [u8; 32] = *b"2362756E646C65000000000000000001";
 
-// The byte that a word repeats; 0 where it repeats none.
-pub fn filler(word: &[u8]) -> u8 {
-    let mut one = [0u8; 1];
-    hex::bytes(after(word, until(word, 0, b'*')), &mut one);
-    one[0]
-}
-
-// A part without its last `n` bytes.
-fn without(part: &[u8], n: usize) -> &[u8] {
-    if part.len() < n {
-        return part;
-    }
-    front(part, part.len() - n)
-}
-
-// Whether a part has this byte so many places before its end.
-fn is_marked(part: &[u8], n: usize, mark: u8) -> bool {
-    if n == 0 {
-        return false;
-    }
-    if part.len() < n {
-        return false;
-    }
-    part[part.len() - n] == mark
-}
-
-// Whether a part repeats a byte: a number, '*' and two digits.
-fn is_repeat(part: &[u8]) -> bool {
-    is_marked(part, 3, b'*')
+// Where the '*' of a part stands that repeats; its end where it does not.
+fn star_of(part: &[u8]) -> usize {
+    until(part, 0, b'*')
 }
 
 // Whether a part is bundles: a number and '#'.
 fn is_nest(part: &[u8]) -> bool {
-    is_marked(part, 1, b'#')
-}
-
-// The bytes that a part repeats are not put: they stand there already.
-fn skipped(n: u64, out: &[u8]) -> usize
-    ensures { λ r. ⌜ r ≤ length (now (out .entry)) ⌝ }
-{
-    if n < out.len() as u64 {
-        return n as usize;
+    if part.len() == 0 {
+        return false;
     }
-    out.len()
+    part[part.len() - 1] == b'#'
 }
 
-// Puts the name of a bundle.
-fn put_name(out: &mut [u8])
-    requires { ⌜ 7 ≤ length (now out) ⌝ }
-    ensures { λ _. ⌜ length (now (out .exit)) ≡ length (now (out .entry)) ⌝ }
-{
-    let mut i = 0;
-    while i < 7 {
-        out[i] = NAME[i];
-        i += 1;
+// A part without its last byte.
+fn without_last(part: &[u8]) -> &[u8] {
+    if part.len() == 0 {
+        return part;
     }
+    front(part, part.len() - 1)
 }
 
-// Puts the name of a bundle and the immediate time tag over zeros, and if there are `n` bundles in it their size, 20 * n - 4.
+// Puts the bytes of the digits as often as `times` says.
+fn put_times(times: u64, digits: &[u8], out: &mut [u8]) -> usize
+    ensures { λ r. ⌜ Put r (now (out .entry)) (now (out .exit)) ⌝ }
+{
+    let mut at = 0;
+    let mut left = times;
+    while 0 < left {
+        left -= 1;
+        at += hex::bytes(digits, &mut out[at..]);
+    }
+    at
+}
+
+// Puts a bundle of the immediate time tag, and if there are `n` bundles in it their size, 20 * n - 4.
 fn put_bundle(n: u64, out: &mut [u8]) -> usize
     ensures { λ r. ⌜ Put r (now (out .entry)) (now (out .exit)) ⌝ }
 {
     if out.len() < 20 {
         return 0;
     }
-    put_name(out);
-    out[15] = 1;
+    hex::bytes(&BUNDLE, out);
     if n == 0 {
         return 16;
     }
     if 3276 < n {
         return 0;
     }
+    out[16] = 0;
+    out[17] = 0;
     out[18] = ((20 * n - 4) / 256 % 256) as u8;
     out[19] = ((20 * n - 4) % 256) as u8;
     20
@@ -110,17 +84,17 @@ fn put_nested(n: u64, out: &mut [u8]) -> usize
 fn put_part(part: &[u8], out: &mut [u8]) -> usize
     ensures { λ r. ⌜ Put r (now (out .entry)) (now (out .exit)) ⌝ }
 {
-    if is_repeat(part) {
-        return skipped(number(without(part, 3), 0), out);
+    let star = star_of(part);
+    if star < part.len() {
+        return put_times(number(front(part, star), 0), after(part, star), out);
     }
     if is_nest(part) {
-        return put_nested(number(without(part, 1), 0), out);
+        return put_nested(number(without_last(part), 0), out);
     }
     hex::bytes(part, out)
 }
 
-// Puts the bytes that a word spells at the front of `out`, every byte of which is the word's filler, and says how many there are. What
-// has no room is left out. (A repeated byte is not put one by one: the interpreter's steps would not be enough.)
+// Puts the bytes that a word spells at the front of `out`, and says how many there are. What has no room is left out.
 //
 // Ruled out: more bytes than there is room for; parts put over each other.
 pub fn put_bytes(word: &[u8], out: &mut [u8]) -> usize
@@ -144,26 +118,27 @@ pub fn is_number(word: &[u8]) -> bool {
     }
 }
 
-// Whether a part spells bytes, and repeats no other byte than this one; under bundles stand zeros.
-fn is_part(part: &[u8], byte: u8) -> bool {
-    if is_repeat(part) {
-        return is_number(without(part, 3)) && filler(part) == byte;
+// Whether a part spells bytes.
+fn is_part(part: &[u8]) -> bool {
+    let star = star_of(part);
+    if star < part.len() {
+        return is_number(front(part, star)) && hex::is_bytes(after(part, star));
     }
     if is_nest(part) {
-        return is_number(without(part, 1)) && byte == 0;
+        return is_number(without_last(part));
     }
     hex::is_bytes(part)
 }
 
-// Whether a word spells bytes, and repeats only one byte.
-pub fn is_bytes(word: &[u8], byte: u8) -> bool {
+// Whether a word spells bytes.
+pub fn is_bytes(word: &[u8]) -> bool {
     if word.len() == 0 {
         return false;
     }
     let mut at = 0;
     while at < word.len() {
         let end = until(word, at, b'+');
-        if !is_part(&word[at..end], byte) {
+        if !is_part(&word[at..end]) {
             return false;
         }
         at = end + 1;

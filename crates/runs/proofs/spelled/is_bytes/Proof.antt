@@ -6,10 +6,10 @@ use Rattle.runs.proofs.spelled.is_bytes.Statement.{statement}
 use Rattle.runs.proofs.spelled.is_bytes.Tie as tie
 
 abbrev Inv-loop : tie.InvT-loop
-Inv-loop word byte at₀ at = at ≤ length word + 1
+Inv-loop word at₀ at = at ≤ length word + 1
 
 abbrev μ-loop : tie.MeasureT-loop
-μ-loop word byte at₀ at = length word + 1 - at
+μ-loop word at₀ at = length word + 1 - at
 
 pub is-bytes-spec : {M : Type 1} → statement M
 is-bytes-spec =

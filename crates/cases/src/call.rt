@@ -1,0 +1,172 @@
+// The calls of the library, all in this file, and what they answer in one shape.
+use decoder::Decoded;
+use encoder::Encoded;
+use refusal::Refusal;
+use runs::said::put_text;
+use values::look::Looked;
+use values::value::OscType;
+use wire::Padded;
+
+// The names of the calls. A call is the place of its name, from 0 on; the last is for what is none.
+pub const NAMES: [u8; 90] =
+    *b"decode_udp decode_tcp decode_tcp_vec encode encode_tcp encode_string pad look text_of none";
+
+// The answers: given, waiting, refused with a number (this and the number), and none that is known.
+pub const GIVEN: usize = 0;
+
+pub const WAITING: usize = 1;
+
+pub const REFUSED: usize = 2;
+
+pub const UNKNOWN: usize = 39;
+
+// The names of the answers that have one.
+pub const ANSWERS: [u8; 13] = *b"given waiting";
+
+// What `text_of` hands back for what names no part of the packet.
+const LABEL: [u8; 5] = *b"label";
+
+// What a call answered: the records or bytes that were given, the kind or the position, and the bytes left over.
+pub struct Outcome {
+    pub answer: usize,
+    pub count: u64,
+    pub left: u64,
+}
+
+// An answer that gives nothing.
+pub fn empty(answer: usize) -> Outcome {
+    Outcome {
+        answer,
+        count: 0,
+        left: 0,
+    }
+}
+
+// An answer that gives so much.
+pub fn given(count: u64, left: u64) -> Outcome {
+    Outcome {
+        answer: GIVEN,
+        count,
+        left,
+    }
+}
+
+// A refusal.
+fn refused(refusal: Refusal) -> Outcome {
+    empty(REFUSED + refusal::number_of(refusal) as usize)
+}
+
+// What a decoder answered.
+fn read(decoded: Decoded) -> Outcome {
+    match decoded {
+        Decoded::Packets { count, left } => given(count as u64, left as u64),
+        Decoded::Waiting => empty(WAITING),
+        Decoded::Refused(refusal) => refused(refusal),
+    }
+}
+
+// What an encoder answered.
+fn wrote(encoded: Encoded) -> Outcome {
+    match encoded {
+        Encoded::Written(count) => given(count as u64, 0),
+        Encoded::Refused(refusal) => refused(refusal),
+    }
+}
+
+// What `pad` answered.
+fn padded(answer: Padded) -> Outcome {
+    match answer {
+        Padded::At(position) => given(position, 0),
+        Padded::Refused(refusal) => refused(refusal),
+    }
+}
+
+// The kind of a record that has this value.
+fn kind_of(value: OscType) -> u8 {
+    match value {
+        OscType::Message { offset, length } => b'/',
+        OscType::Bundle(time) => b'#',
+        OscType::Int(x) => b'i',
+        OscType::Float { bits, value } => b'f',
+        OscType::String { offset, length } => b's',
+        OscType::Blob { offset, length } => b'b',
+        OscType::Time(time) => b't',
+        OscType::Long(x) => b'h',
+        OscType::Double { bits, value } => b'd',
+        OscType::Char(x) => b'c',
+        OscType::Color(color) => b'r',
+        OscType::Midi(midi) => b'm',
+        OscType::Bool(x) => if x { b'T' } else { b'F' },
+        OscType::Nil => b'N',
+        OscType::Inf => b'I',
+        OscType::Array => b'[',
+    }
+}
+
+// What `look` answered.
+fn looked(answer: Looked) -> Outcome {
+    match answer {
+        Looked::Value(value) => given(kind_of(value) as u64, 0),
+        Looked::Refused(refusal) => refused(refusal),
+    }
+}
+
+// Puts the text that a value names into what is lent.
+fn put_named(value: OscType, packet: &[u8], lent: &mut [u8]) -> usize {
+    put_text(lent, 0, values::look::text_of(value, packet, &LABEL))
+}
+
+// What `text_of` answered of the value that `look` gave.
+fn named(answer: Looked, packet: &[u8], lent: &mut [u8]) -> Outcome {
+    match answer {
+        Looked::Value(value) => given(put_named(value, packet, lent) as u64, 0),
+        Looked::Refused(refusal) => refused(refusal),
+    }
+}
+
+// Calls a decoder: the first three calls.
+fn decode(call: usize, msg: &[u8], table: &mut [u8], depth: usize) -> Decoded {
+    if call == 0 {
+        return decoder::decode_udp(msg, table, depth);
+    }
+    if call == 1 {
+        return decoder::decode_tcp(msg, table, depth);
+    }
+    decoder::decode_tcp_vec(msg, table, depth)
+}
+
+// Calls an encoder: the next three.
+fn encode(call: usize, table: &[u8], count: usize, source: &[u8], out: &mut [u8]) -> Encoded {
+    if call == 3 {
+        return encoder::encode(table, count, source, out);
+    }
+    if call == 4 {
+        return encoder::encode_tcp(table, count, source, out);
+    }
+    encoder::encode_string(source, out)
+}
+
+// Calls one of the others.
+fn leaf(call: usize, number: u64, packet: &[u8], table: &[u8], lent: &mut [u8]) -> Outcome {
+    if call == 6 {
+        return padded(wire::pad(number));
+    }
+    if call == 7 {
+        return looked(values::look::look(table, number as usize));
+    }
+    if call == 8 {
+        return named(values::look::look(table, number as usize), packet, lent);
+    }
+    empty(UNKNOWN)
+}
+
+// Makes a call. The number is the depth for a decoder, the count for an encoder, the position for `pad` and the index for the others.
+pub fn make(call: usize, number: u64, input: &[u8], table: &[u8], lent: &mut [u8]) -> Outcome {
+    if call < 3 {
+        return read(decode(call, input, lent, number as usize));
+    }
+    if call < 6 {
+        return wrote(encode(call, table, number as usize, input, lent));
+    }
+    leaf(call, number, input, table, lent)
+}

@@ -1,0 +1,58 @@
+// What a line expects: `packets LEFT TABLE`, `written BYTES`, `waiting`, `refused NUMBER`, `value KIND` or `at POSITION`.
+use crate::call;
+use crate::call::Outcome;
+use crate::call::empty;
+use crate::call::given;
+use crate::listed::kind_of;
+use crate::listed::put_table;
+use crate::listed::records_in;
+use runs::spelled::put_bytes;
+use words::line::place_of;
+use words::line::start;
+use words::line::word;
+use words::numeral::number;
+ghost use Rattle.runs.specs.Put.{Put};
+
+// The place of the answer among these names; another number for any other.
+fn answer_of(expected: &[u8]) -> usize {
+    place_of(
+        b"packets written waiting refused value at",
+        word(expected, 0),
+    )
+}
+
+// Puts the bytes that are to stand in what was lent, and says how many there are.
+pub fn put_given(expected: &[u8], out: &mut [u8]) -> usize
+    ensures { λ r. ⌜ Put r (now (out .entry)) (now (out .exit)) ⌝ }
+{
+    let answer = answer_of(expected);
+    if answer == 0 {
+        let from = start(expected, 2);
+        return put_table(&expected[from..], out);
+    }
+    if answer == 1 {
+        return put_bytes(word(expected, 1), out);
+    }
+    0
+}
+
+// A refusal with a number.
+fn refused(x: u64) -> Outcome {
+    if x < 30 {
+        return empty(call::REFUSED + x as usize);
+    }
+    empty(call::UNKNOWN)
+}
+
+// The answer that a line expects, where it gives so many bytes.
+pub fn wanted(expected: &[u8], bytes: usize) -> Outcome {
+    match answer_of(expected) {
+        0 => given(records_in(bytes), number(expected, 1)),
+        1 => given(bytes as u64, 0),
+        2 => empty(call::WAITING),
+        3 => refused(number(expected, 1)),
+        4 => given(kind_of(word(expected, 1)) as u64, 0),
+        5 => given(number(expected, 1), 0),
+        _ => empty(call::UNKNOWN),
+    }
+}
