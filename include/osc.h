@@ -10,6 +10,9 @@
 #ifndef SENNORBAI_OSC_H
 #define SENNORBAI_OSC_H
 
+/* The version of the library and of this header. */
+#define SENNORBAI_VERSION "0.4.0"
+
 #include <stddef.h>
 #include <stdint.h>
 

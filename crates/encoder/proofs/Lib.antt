@@ -1,3 +1,4 @@
 pub mod Answers
 pub mod Fours
+pub mod Examples
 pub mod Only

@@ -1,4 +1,5 @@
--- Examples, computed: what meets the contracts of the boundary and the hypotheses of its theorems.
+-- Examples, computed: what meets the contracts of the boundary and the hypotheses of its theorems, over the packets and tables of
+-- crates/table/proofs/Examples.antt.
 use mathlib.Core.Path.{_≡_, refl}
 use mathlib.Core.List.{List, [], _∷_, _++_}
 use Prim.Native.Nat.{ℕ}
@@ -8,21 +9,22 @@ use Rattle.refusal.specs.declared.Fault.the-variants.{NotUtf8}
 use Rattle.refusal.specs.declared.Refusal.the-variants.{Unreadable, BadTable}
 use Rattle.wire.specs.Number.{number, bytes}
 use Rattle.wire.specs.Pad.{padOf}
-use Rattle.node.specs.Forest.{size, depth}
+use Rattle.node.specs.Forest.{size, depth, snoc}
 use Rattle.node.specs.Records.{recordOf, recordsOf, stored, kindAt, zerosAt, fieldAt, capacity}
 use Rattle.node.specs.Rules.{ownRules}
 use Rattle.node.specs.Tags.{classOf, sortOf}
 use Rattle.values.specs.Value.{bareOf, narrowOf, valueBy}
-use Rattle.values.specs.Look.{lookAt}
+use Rattle.values.specs.Look.{lookAt, startedAt}
 use Rattle.text.specs.Text.{readText}
+use Rattle.argument.specs.Argument.{readArg}
 use Rattle.arguments.specs.Arguments.{readTags}
-use Rattle.packet.specs.Packet.{readMessage, packetBy, packetAt, readPacket}
-use Rattle.packet.specs.Heads.{startOf, prefixOf}
+use Rattle.packet.specs.Packet.{readMessage, bundleBy, elementBy, elementsBy, packetBy, packetAt, readPacket}
+use Rattle.packet.specs.Heads.{startOf, sizeOf, prefixOf}
 use Rattle.decoder.specs.Framing.{udp, readFrame, tcp, framesAt, readFrames, tcpVec}
 use Rattle.decoder.specs.Limits.{decoded}
 use Rattle.decoder.specs.declared.Framing.the-variants.{Udp, Tcp, TcpVec}
 use Rattle.decoder.specs.declared.Decoded.the-variants as decodes
-use Rattle.strings.specs.Atomic.{oscString}
+use Rattle.strings.specs.Atomic.{oscString, oscBlob}
 use Rattle.writers.specs.Osc as osc
 use Rattle.encoder.specs.Outcome.{unframed, prefixed, bytesOutcome, treeOutcome, malformed, formed, stringOutcome}
 use Rattle.encoder.specs.declared.Encoded.{Encoded}
@@ -30,9 +32,11 @@ use Rattle.encoder.specs.declared.Encoded.the-variants as encodes
 use Rattle.decoder.proofs.Only.{decodes-met}
 use Rattle.table.proofs.Examples as p3
 use Rattle.osc.specs.Answers.{Fits, Parts, EncodedParts}
-use Rattle.osc.specs.Boundary.{osc-decode, osc-encode, osc-encode-string, osc-pad, osc-look, CMeets}
-use Rattle.osc.proofs.Apart.{decoded-apart, told-apart}
+use Rattle.osc.specs.Boundary.{osc-decode, osc-encode, osc-encode-string, osc-pad, osc-look, osc-start, CMeets, CAnswered, CEnds}
+use Rattle.osc.proofs.Apart.{decoded-apart, told-apart, string-told-apart}
+use Rattle.osc.proofs.Boundary.{ends-listed, refusals-apart}
 use Rattle.osc.proofs.Once.{decoded-once, WaitingTold, tcp-none-waits, encoded-once, pad-once}
+use Rattle.osc.proofs.Only.{c-settled}
 
 -- a lent buffer of n bytes
 abbrev nines : ℕ → List ℕ
@@ -61,11 +65,24 @@ unfolding size depth number prefixOf readFrame tcpVec readFrames framesAt decode
 no-packets = (record { answer = _; decodes = decodes-met; number = refl }, refl)
 
 -- a message of one record, after a length that cuts nothing
-message : CMeets (osc-decode Tcp (0 ∷ 0 ∷ 0 ∷ 0 ∷ 0x2F ∷ 0x61 ∷ 0 ∷ 0 ∷ 0 ∷ 0 ∷ 0 ∷ 0 ∷ []) (nines 17) 64) 0x1_0000_0000
-    (0x2F ∷ 0 ∷ 0 ∷ 0 ∷ 0 ∷ 0 ∷ 0 ∷ 1 ∷ 0 ∷ 0 ∷ 0 ∷ 4 ∷ 0 ∷ 0 ∷ 0 ∷ 2 ∷ 9 ∷ [])
+message : CMeets (osc-decode Tcp (0 ∷ 0 ∷ 0 ∷ 0 ∷ 0x2F ∷ 0x61 ∷ 0 ∷ 0 ∷ 0 ∷ 0 ∷ 0 ∷ 0 ∷ []) (nines 21) 64) 0x1_0000_0000
+    (0x2F ∷ 0 ∷ 0 ∷ 0 ∷ 0 ∷ 0 ∷ 0 ∷ 1 ∷ 0 ∷ 0 ∷ 0 ∷ 4 ∷ 0 ∷ 0 ∷ 0 ∷ 2 ∷ 0 ∷ 0 ∷ 0 ∷ 4 ∷ 9 ∷ [])
 unfolding size depth number bytes readText readTags startOf prefixOf readMessage packetBy packetAt readPacket readFrame tcp decoded
     stored recordsOf recordOf
 message = record { answer = _; decodes = decodes-met; number = refl }
+
+-- a bundle in a bundle: seven records, and nothing left
+nested : CMeets (osc-decode Udp p3.nested (nines 141) 2) 0x7_0000_0000 (p3.nested-table ++ (9 ∷ []))
+unfolding size depth snoc number bytes classOf sortOf readText readArg readTags startOf sizeOf readMessage bundleBy elementBy elementsBy
+    packetBy packetAt readPacket udp decoded stored recordsOf recordOf p3.nested-table
+nested = record { answer = _; decodes = decodes-met; number = refl }
+
+-- the hypotheses of `ends-listed` and of `refusals-apart`: `osc_pad` tells no answer as it tells 14
+ends : CEnds (osc-decode Udp p3.nested (nines 141) 2) 0x7_0000_0000 (p3.nested-table ++ (9 ∷ []))
+ends = ends-listed _ _ _ nested
+
+no-answer : CAnswered (osc-pad 5) 14 → ⊥
+no-answer = refusals-apart (osc-pad 5) 14 refl
 
 -- the hypotheses of `tcp-none-waits`, `decoded-once` and `decoded-apart`
 waits : (table : List ℕ) → WaitingTold unready table 64 8 table
@@ -93,7 +110,35 @@ not-utf8 : (out : List ℕ) → CMeets (osc-encode-string (0xFF ∷ []) out) 0x4
 unfolding stringOutcome
 not-utf8 out = record { answer = encodes.Refused (Unreadable NotUtf8); outcome = refl; number = refl }
 
--- the hypotheses of `told-apart` and `encoded-once`
+-- the bundle in a bundle: its own 76 bytes
+written : CMeets (osc-encode unframed p3.nested-table 7 p3.nested (nines 77)) 76 (p3.nested ++ (9 ∷ []))
+unfolding bytes depth classOf sortOf oscString oscBlob osc.writeData osc.writeTags osc.writeMessage osc.writeBundle osc.writeElements
+    osc.writePacket bytesOutcome treeOutcome
+written = record { answer = encodes.Written 76; outcome = formed (p3.once 0) (p3.within 0) p3.nested-tree refl; number = refl }
+
+-- the text é: 4 bytes
+text : CMeets (osc-encode-string (0xC3 ∷ 0xA9 ∷ []) (nines 5)) 4 (0xC3 ∷ 0xA9 ∷ 0 ∷ 0 ∷ 9 ∷ [])
+unfolding oscString bytesOutcome stringOutcome
+text = record { answer = encodes.Written 4; outcome = refl; number = refl }
+
+-- the hypotheses of `c-settled`: no other number and no other bytes
+written-only : (told : ℕ) (after : List ℕ) → CMeets (osc-encode unframed p3.nested-table 7 p3.nested (nines 77)) told after
+    → (told ≡ 76) × (after ≡ p3.nested ++ (9 ∷ []))
+written-only told after m = c-settled (osc-encode unframed p3.nested-table 7 p3.nested (nines 77)) told 76 after _ m written
+
+stream-only : (told : ℕ) (after : List ℕ) → CMeets (osc-encode prefixed (p3.table 2 2) 2 p3.packet (nines 17)) told after
+    → (told ≡ 16) × (after ≡ (0 ∷ 0 ∷ 0 ∷ 12 ∷ []) ++ (p3.packet ++ (9 ∷ [])))
+stream-only told after m = c-settled (osc-encode prefixed (p3.table 2 2) 2 p3.packet (nines 17)) told 16 after _ m stream
+
+text-only : (told : ℕ) (after : List ℕ) → CMeets (osc-encode-string (0xC3 ∷ 0xA9 ∷ []) (nines 5)) told after
+    → (told ≡ 4) × (after ≡ 0xC3 ∷ 0xA9 ∷ 0 ∷ 0 ∷ 9 ∷ [])
+text-only told after m = c-settled (osc-encode-string (0xC3 ∷ 0xA9 ∷ []) (nines 5)) told 4 after _ m text
+
+-- the hypotheses of `told-apart`, `string-told-apart` and `encoded-once`
+text-apart : EncodedParts (encodes.Written 4) 4
+unfolding text
+text-apart = string-told-apart (0xC3 ∷ 0xA9 ∷ []) (nines 5) 4 _ text
+
 taken-apart : EncodedParts (encodes.Written 16) 16
 unfolding stream
 taken-apart = told-apart prefixed (p3.table 2 2) 2 p3.packet (nines 17) 16 _ stream
@@ -101,7 +146,7 @@ taken-apart = told-apart prefixed (p3.table 2 2) 2 p3.packet (nines 17) 16 _ str
 sixteen : (a : Encoded) → EncodedParts a 16 → a ≡ encodes.Written 16
 sixteen a p = encoded-once 16 a (encodes.Written 16) p taken-apart
 
--- ---- `osc_pad` and `osc_look`
+-- ---- `osc_pad`, `osc_look` and `osc_start`
 
 -- the next multiple of 4; none after the last
 next : CMeets (osc-pad 5) 8 []
@@ -114,11 +159,20 @@ last = (refl, refl)
 five-six : padOf 5 ≡ padOf 6
 five-six = pad-once 5 6 refl
 
--- the kind of P3's second record; none of an empty table
-kind : CMeets (osc-look (p3.table 2 2) 1) 105 []
-unfolding number kindAt zerosAt fieldAt ownRules classOf sortOf bareOf narrowOf valueBy lookAt
+-- the kind of a double that is no number; none of an empty table
+kind : CMeets (osc-look p3.nested-table 6) 100 []
+unfolding p3.nested-table number bytes size recordOf recordsOf kindAt zerosAt fieldAt ownRules classOf sortOf bareOf narrowOf valueBy lookAt
 kind = (refl, refl)
 
 no-record : CMeets (osc-look [] 0) 0xB00_0000_0000_0000 []
 unfolding lookAt
 no-record = (refl, refl)
+
+-- the blob's size begins at 56, and a record that does not exist nowhere
+start : CMeets (osc-start p3.nested-table (p3.small-bytes p3.nested-table tt) 4) 56 []
+unfolding p3.nested-table number bytes size recordOf recordsOf fieldAt startedAt
+start = (refl, refl)
+
+no-start : CMeets (osc-start [] (λ i. omega arith) 0) 0xB00_0000_0000_0000 []
+unfolding startedAt
+no-start = (refl, refl)

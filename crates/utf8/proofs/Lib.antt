@@ -1,5 +1,6 @@
 pub mod Decided
 pub mod Grammar
+pub mod Examples
 pub mod Chars
 pub mod Only
 pub mod Same

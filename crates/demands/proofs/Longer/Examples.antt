@@ -18,8 +18,9 @@ use Rattle.decoder.specs.declared.Decoded.the-variants.{Packets}
 use Rattle.demands.specs.Words.{Unlimited}
 use Rattle.demands.specs.Demands.{answerTo, GoesOn}
 use Rattle.table.proofs.Examples as p3
+use Rattle.table.proofs.Examples.{empty, nested}
 use Rattle.demands.proofs.Longer.MoreBytes.{more-bytes-udp, more-bytes-tcp}
-use Rattle.demands.proofs.Room.Examples.{empty, element, blank, one-element}
+use Rattle.demands.proofs.Room.Examples.{blank, nested-answer}
 
 unlimited : {r : Decoded} {count left : ℕ} → r ≡ Packets count left → Unlimited r
 unlimited e =
@@ -30,16 +31,19 @@ unlimited e =
       not-13 = λ p. let z : _≡_ {A = ℕ} 0 1 = cc in omega arith;
     }
 
--- ---- a bundle with one element gets a second one
+-- an element of 8 bytes with a message that has no arguments: 00000008 2F610000 2C000000
+abbrev element : List ℕ
+element = 0 ∷ 0 ∷ 0 ∷ 8 ∷ 0x2F ∷ 0x61 ∷ 0 ∷ 0 ∷ 0x2C ∷ 0 ∷ 0 ∷ 0 ∷ []
 
-two-elements : answerTo udp 1 ((empty ++ element) ++ element) (blank 3) ≡ Packets 3 0
+-- ---- a bundle with one element, a bundle, gets a second one
+
+second-element : answerTo udp 2 (nested ++ element) (blank 8) ≡ Packets 8 0
 unfolding number size depth snoc classOf sortOf readText readArg readTags startOf sizeOf readMessage bundleBy elementBy elementsBy packetBy
     packetAt readPacket udp decoded
-two-elements = refl
+second-element = refl
 
-grown : GoesOn udp (empty ++ element) element 1 1 (blank 2) (blank 3) 2
-grown =
-    more-bytes-udp (empty ++ element) element 1 1 (blank 2) (blank 3) 2 0 (omega arith) (omega arith) one-element (unlimited two-elements)
+grown : GoesOn udp nested element 2 2 (blank 7) (blank 8) 7
+grown = more-bytes-udp nested element 2 2 (blank 7) (blank 8) 7 0 (omega arith) (omega arith) nested-answer (unlimited second-element)
 
 -- ---- a message is the same, and the bytes are left over
 

@@ -1,8 +1,8 @@
 -- Examples, computed, that meet the hypotheses of `osc10-accepted`, `frame-accepted`, `osc10-seen`, `strict-written` and
 -- `strict-frame-written`: document 01's P3 and a bundle that holds it; a message of OSC 1.0 itself with a blob, a double, a character, a
 -- negative integer and a text; a bundle in a bundle that holds it.
-use mathlib.Core.Path.{_≡_, refl, sym, ap, _∙_}
-use mathlib.Core.List.{List, [], _∷_, append-nil}
+use mathlib.Core.Path.{_≡_, refl, ap, _∙_}
+use mathlib.Core.List.{List, [], _∷_}
 use Prim.Native.Nat.{ℕ}
 use native.Mathlib.Omega.{arith}
 use mir.Syntax.{w32}
@@ -11,7 +11,7 @@ use lib.IntN.{negsuc}
 use lib.ListN.{take, replicate}
 use Rattle.wire.specs.Number.{bytes}
 use Rattle.wire.specs.Limits.{deepest}
-use Rattle.node.specs.Tags.{messageKind, bundleKind, classOf, sortOf}
+use Rattle.node.specs.Tags.{bundleKind, classOf, sortOf}
 use Rattle.node.specs.Forest.{Forest, nil, node, size, depth}
 use Rattle.node.specs.Records.{recordOf, recordsOf}
 use Rattle.node.specs.Rules.{ownRules}
@@ -24,7 +24,7 @@ use Rattle.argument.specs.Argument.{argItem}
 use Rattle.packet.specs.Packet.{messageItem}
 use Rattle.decoder.specs.Framing.{udp, tcp}
 use Rattle.table.specs.Formed.{rangeOk, allowed}
-use Rattle.table.specs.Tree.{IsTree, Obeys, FieldsFit}
+use Rattle.table.specs.Tree.{IsTree}
 use Rattle.strings.specs.Atomic.{oscString, oscBlob}
 use Rattle.writers.specs.Osc.{writeData, writeTags, writeMessage, writeBundle, writeElements, writePacket}
 use Rattle.encoder.specs.Outcome.{formed, unframed, prefixed, treeOutcome, bytesOutcome}
@@ -37,13 +37,11 @@ use Rattle.demands.specs.Strict.{ArgumentsStrict, StrictIn, Strict, Stri
 use Rattle.demands.specs.Seen.{argument, argumentEntries, entriesOf, Seen, as-i, LookAs}
 use Rattle.demands.specs.Standards.{oscFrame, AcceptedAs, SeenIn, SpelledStrictly, FrameOf}
 use Rattle.utf8.proofs.Grammar.{octets}
-use Rattle.table.proofs.Theorem.{bytes-tree}
-use Rattle.table.proofs.Examples.{packet as p3-bytes}
+use Rattle.table.proofs.Examples.{packet as p3-bytes, small-bytes, by-tests}
 use Rattle.demands.proofs.Osc10.Accepted.{osc10-accepted, frame-accepted}
 use Rattle.demands.proofs.Osc10.Seen.{osc10-seen}
 use Rattle.demands.proofs.Osc10.Strict.{strict-allowed}
 use Rattle.demands.proofs.Osc10.Written.{strict-written, strict-frame-written}
-use Rattle.demands.proofs.Trip.Examples.{small-bytes}
 
 -- ---- P3, and a bundle that holds it
 
@@ -170,44 +168,18 @@ arguments =
 tableOf : Item → Forest → List ℕ
 tableOf item inside = recordsOf 0 (node item inside nil)
 
--- what a table asks of the arguments
-
-arguments-fit : FieldsFit arguments
-unfolding FieldsFit
-arguments-fit = (
-  omega arith,
-  omega arith,
-  tt,
-  (omega arith, omega arith, tt, (omega arith, omega arith, tt, (omega arith, omega arith, tt, (omega arith, omega arith, tt, tt)))),
-)
-
-arguments-obey : Obeys mixed-bytes messageKind arguments
-unfolding Obeys ownRules rangeOk allowed sortOf classOf
-arguments-obey = (refl, refl, refl, tt, (refl, refl, refl, tt, (refl, refl, refl, tt, (refl, refl, refl, tt, (refl, refl, refl, tt, tt)))))
-
 arguments-own : (time : ℕ) → StrictForest mixed-bytes time arguments
 unfolding StrictNode StrictForest
 arguments-own time =
     (tt, tt, (tt, tt, (omega arith, tt, (tt, tt, (((omega arith, omega arith), ((omega arith, omega arith), tt)), tt, tt)))))
-
--- what it asks of the message
-message-fits : FieldsFit (node address arguments nil)
-unfolding FieldsFit
-message-fits = (omega arith, omega arith, arguments-fit, tt)
-
-message-obeys : Obeys mixed-bytes bundleKind (node address arguments nil)
-unfolding Obeys ownRules rangeOk allowed
-message-obeys = (refl, refl, refl, arguments-obey, tt)
 
 message-own : (time : ℕ) → StrictForest mixed-bytes time (node address arguments nil)
 unfolding StrictNode StrictForest
 message-own time = ((refl, ((omega arith, omega arith, refl), ((omega arith, omega arith, refl), tt))), arguments-own 2, tt)
 
 mixed-is : IsTree (tableOf address arguments) 6 mixed-bytes address arguments
-unfolding tableOf size
-mixed-is =
-    bytes-tree (tableOf address arguments) [] mixed-bytes address arguments (sym (append-nil (tableOf address arguments))) message-fits
-    (omega arith) message-obeys
+unfolding tableOf size ownRules rangeOk allowed sortOf classOf
+mixed-is = by-tests mixed-bytes address arguments tt tt (omega arith)
 
 -- `encode` of it, into 40 bytes, is a packet of OSC 1.0 itself
 pub mixed-written : SpelledStrictly mixed-bytes address arguments
@@ -242,11 +214,8 @@ abbrev nested : Forest
 nested = node inner (node address arguments nil) nil
 
 nested-is : IsTree (tableOf outer nested) 8 mixed-bytes outer nested
-unfolding tableOf size FieldsFit Obeys ownRules rangeOk allowed
-nested-is =
-    bytes-tree (tableOf outer nested) [] mixed-bytes outer nested (sym (append-nil (tableOf outer nested)))
-    (omega arith, omega arith, (omega arith, omega arith, message-fits, tt), tt) (omega arith)
-    (refl, refl, refl, (refl, refl, refl, message-obeys, tt), tt)
+unfolding tableOf size ownRules rangeOk allowed sortOf classOf
+nested-is = by-tests mixed-bytes outer nested tt tt (omega arith)
 
 -- `encode` of it, into 80 bytes, is a packet of OSC 1.0 itself
 pub nested-written : SpelledStrictly mixed-bytes outer nested

@@ -1,12 +1,9 @@
--- Examples, computed, that meet the hypotheses of `round-trip` and `osc10-written`: document 01's P3, and a bundle with a message
--- that has a text and an array.
-use mathlib.Core.Path.{refl, sym}
-use mathlib.Core.Bool.{Bool, true, _&&_}
-use mathlib.Core.List.{List, [], _∷_, append-nil}
-use Prim.Native.Nat.{ℕ, zero, suc, _≤_}
+-- Examples, computed, that meet the hypotheses of `round-trip` and `osc10-written`: document 01's P3, a bundle with a message that has a
+-- text and an array, and the bundle in a bundle of crates/table/proofs/Examples.antt.
+use mathlib.Core.Path.{refl}
+use mathlib.Core.List.{List, [], _∷_}
+use Prim.Native.Nat.{ℕ, _≤_}
 use native.Mathlib.Omega.{arith}
-use mir.Facts.{and-yes}
-use lib.Dec.{T, leb, leb→le}
 use lib.ListN.{length, take, replicate}
 use Rattle.wire.specs.Number.{bytes}
 use Rattle.node.specs.Forest.{Forest, nil, node, size, depth}
@@ -18,30 +15,17 @@ use Rattle.argument.specs.Argument.{argItem}
 use Rattle.arguments.specs.Arguments.{arrayItem}
 use Rattle.packet.specs.Packet.{messageItem}
 use Rattle.table.specs.Formed.{rangeOk, allowed}
-use Rattle.table.specs.Tree.{IsTree, Obeys, FieldsFit}
-use Rattle.strings.specs.Atomic.{oscString}
+use Rattle.table.specs.Tree.{IsTree}
+use Rattle.strings.specs.Atomic.{oscString, oscBlob}
 use Rattle.writers.specs.Osc.{writeData, writeTags, writeMessage, writeBundle, writeElements, writePacket}
 use Rattle.encoder.specs.Outcome.{formed, unframed, treeOutcome, bytesOutcome}
-use Rattle.demands.specs.Words.{Bytes, NoNul, CleanNode, Clean}
+use Rattle.demands.specs.Words.{NoNul, CleanNode, Clean}
 use Rattle.demands.specs.Demands.{Playable, PlaysBack}
 use Rattle.demands.specs.Standards.{Spelled}
-use Rattle.table.proofs.Theorem.{bytes-tree}
+use Rattle.table.proofs.Examples.{small-bytes, by-tests, nested, once, within, nested-table, nested-tree}
 use Rattle.table.proofs.Examples as p3
 use Rattle.demands.proofs.Osc10.Written.{osc10-written}
 use Rattle.demands.proofs.Trip.RoundTrip.{round-trip}
-
--- ---- a list of bytes, by one test
-
--- every element is at most 255
-abbrev pub small : List ℕ → Bool
-small [] = true
-small (x ∷ l) = leb x 255 && small l
-
--- a list that passes the test is one of bytes
-pub small-bytes : (l : List ℕ) → T (small l) → Bytes l
-small-bytes [] t i = omega arith
-small-bytes (x ∷ l) t zero = omega (arith, leb→le x 255 (and-yes (leb x 255) (small l) t .0))
-small-bytes (x ∷ l) t (suc i) = small-bytes l (and-yes (leb x 255) (small l) t .1) i
 
 -- ---- a round trip, with what `encode` does by its contract
 
@@ -92,15 +76,8 @@ table : List ℕ
 table = recordsOf 0 (node bundle inside nil)
 
 bundle-is : IsTree table 5 source bundle inside
-unfolding table size FieldsFit Obeys ownRules rangeOk allowed sortOf classOf
-bundle-is =
-    bytes-tree table [] source bundle inside (sym (append-nil table)) (
-      omega arith,
-      omega arith,
-      (omega arith, omega arith, (omega arith, omega arith, tt, (omega arith, omega arith, (omega arith, omega arith, tt, tt), tt)), tt),
-      tt,
-    ) (omega arith)
-    (refl, refl, refl, (refl, refl, refl, (refl, refl, refl, tt, (refl, refl, refl, (refl, refl, refl, tt, tt), tt)), tt), tt)
+unfolding table size ownRules rangeOk allowed sortOf classOf
+bundle-is = by-tests source bundle inside tt tt (omega arith)
 
 bundle-playable : Playable table 5 source bundle inside
 unfolding table NoNul CleanNode Clean depth bytes recordOf recordsOf size oscString writeData writeTags writeMessage writeBundle
@@ -127,6 +104,38 @@ bundle-playable =
 bundle-plays : PlaysBack table 5 source (replicate 40 0) (treeOutcome unframed source (replicate 40 0) bundle inside) (replicate 80 0)
 unfolding bytes oscString writeData writeTags writeMessage writeBundle writeElements writePacket sortOf classOf
 bundle-plays = plays bundle-playable (replicate 40 0) (replicate 80 0) (omega arith) (omega arith)
+
+-- ---- a bundle in a bundle
+
+nested-playable : Playable nested-table 7 nested once (within 0)
+unfolding nested-table NoNul CleanNode Clean depth bytes recordOf recordsOf size oscString oscBlob writeData writeTags writeMessage
+    writeBundle writeElements writePacket sortOf classOf
+nested-playable =
+    record {
+      bytes = small-bytes nested-table tt;
+      sourced = small-bytes nested tt;
+      formed = nested-tree;
+      clean = (
+        tt,
+        (
+          tt,
+          (
+            (refl, ((λ e. omega arith), ((λ e. omega arith), tt))),
+            (((λ e. omega arith), ((λ e. omega arith), tt)), tt, (tt, tt, (tt, tt, (tt, tt, tt)))),
+            tt,
+          ),
+          tt,
+        ),
+        tt,
+      );
+      shallow = omega arith;
+      fits = omega arith;
+    }
+
+nested-plays : PlaysBack nested-table 7 nested (replicate 76 0) (treeOutcome unframed nested (replicate 76 0) once (within 0))
+    (replicate 112 0)
+unfolding bytes oscString oscBlob writeData writeTags writeMessage writeBundle writeElements writePacket sortOf classOf
+nested-plays = plays nested-playable (replicate 76 0) (replicate 112 0) (omega arith) (omega arith)
 
 -- ---- what is written is an OSC 1.0 packet
 
