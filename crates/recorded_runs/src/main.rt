@@ -13,10 +13,10 @@ ghost use Prim.Native.Nat.{_≤_, _<_};
 ghost use lib.ListN.{length};
 ghost use mathlib.Core.Path.{_≡_};
 
-// The places of the tally after those of the 8 operations.
-const ANSWERS: usize = 8;
+// The places of the tally after those of the 9 operations.
+const ANSWERS: usize = 9;
 
-const DIFFERENCES: usize = 9;
+const DIFFERENCES: usize = 10;
 
 // Room for a file of 1,048,576 bytes and one more, which tells that a file is longer.
 fn file_space() -> [u8; 1048577]
@@ -26,21 +26,21 @@ fn file_space() -> [u8; 1048577]
 }
 
 // Counts one more at a place of the tally.
-fn add(tally: &mut [u64; 10], at: usize)
-    requires { ⌜ at < 10 ⌝ }
+fn add(tally: &mut [u64; 11], at: usize)
+    requires { ⌜ at < 11 ⌝ }
 {
     tally[at] = std::num::wrapping_add_u64(tally[at], 1);
 }
 
 // Counts a case that differs, and says in what.
-fn differs(tally: &mut [u64; 10], operation: u8, outcome: Outcome) {
+fn differs(tally: &mut [u64; 11], operation: u8, outcome: Outcome) {
     add(tally, DIFFERENCES);
     tell::difference(tally[ANSWERS], operation, outcome);
 }
 
 // Counts a case, and says whether and in what it differs.
-fn judge(tally: &mut [u64; 10], operation: u8, outcome: Outcome)
-    requires { ⌜ operation < 8 ⌝ }
+fn judge(tally: &mut [u64; 11], operation: u8, outcome: Outcome)
+    requires { ⌜ operation < 9 ⌝ }
 {
     add(tally, operation as usize);
     add(tally, ANSWERS);
@@ -51,7 +51,7 @@ fn judge(tally: &mut [u64; 10], operation: u8, outcome: Outcome)
 }
 
 // Replays the case at the front of a part of the file, and says how many bytes it takes: 0 where it is damaged.
-fn step(rest: &[u8], tally: &mut [u64; 10]) -> usize
+fn step(rest: &[u8], tally: &mut [u64; 11]) -> usize
     ensures { λ r. ⌜ r ≤ length (now (rest .entry)) ⌝ }
 {
     let Found::Whole(case) = case::find(rest) else {
@@ -63,7 +63,7 @@ fn step(rest: &[u8], tally: &mut [u64; 10]) -> usize
 }
 
 // Replays the cases one after the other, and says how many bytes they take: all, or up to the first that is damaged.
-fn replay_all(file: &[u8], tally: &mut [u64; 10]) -> usize {
+fn replay_all(file: &[u8], tally: &mut [u64; 11]) -> usize {
     let mut at = 0;
     while at < file.len() {
         let taken = step(&file[at..], tally);
@@ -92,7 +92,7 @@ fn fault(len: usize, end: usize, answers: u64) {
 
 // Replays a file, and says what came of it.
 fn report(file: &[u8]) {
-    let mut tally = [0u64; 10];
+    let mut tally = [0u64; 11];
     let end = replay_all(file, &mut tally);
     tell::counts(&tally);
     tell::total(tally[ANSWERS], tally[DIFFERENCES]);

@@ -3,8 +3,8 @@ use crate::replay::Outcome;
 use words::line::word;
 
 // The names of the operations, in the order of their numbers.
-const NAMES: [u8; 77] =
-    *b"decode_udp decode_tcp decode_tcp_vec encode encode_tcp encode_string pad look";
+const NAMES: [u8; 86] =
+    *b"decode_udp decode_tcp decode_tcp_vec encode encode_tcp encode_string pad look start_of";
 
 // Says the name of an operation.
 fn name(operation: u8) {
@@ -42,7 +42,7 @@ pub fn difference(number: u64, operation: u8, outcome: Outcome) {
 }
 
 // Says how many answers each operation has.
-pub fn counts(tally: &[u64; 10]) {
+pub fn counts(tally: &[u64; 11]) {
     count(0, tally[0]);
     count(1, tally[1]);
     count(2, tally[2]);
@@ -51,6 +51,7 @@ pub fn counts(tally: &[u64; 10]) {
     count(5, tally[5]);
     count(6, tally[6]);
     count(7, tally[7]);
+    count(8, tally[8]);
 }
 
 // Says how many answers there are, and how many of them differ.
