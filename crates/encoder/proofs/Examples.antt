@@ -19,7 +19,7 @@ unfolding depth bytes sortOf classOf oscString oscBlob writeData writeTags write
     treeOutcome
 nested =
     encode-fours example.nested-table 7 example.nested (replicate 76 0) _
-    (formed example.once (example.within 0) example.nested-tree refl) 76 refl
+    (formed (example.once 0) (example.within 0) example.nested-tree refl) 76 refl
 
 -- P3 behind its length: 16 bytes
 stream : 16 % 4 ≡ 0

@@ -35,17 +35,20 @@ small-bytes (x ∷ l) t (suc i) = small-bytes l (and-yes (leb x 255) (small l) t
 
 -- ---- a tree's table, by two tests
 
+-- a number fits a field
+abbrev low : ℕ → Bool
+low x = ltb x (256 ^ 4)
+
 -- every node's numbers fit their fields
 abbrev fitting : Forest → Bool
 fitting nil = true
 fitting (node item inside rest) =
-    (ltb (item .a) (256 ^ 4) && (ltb (item .b) (256 ^ 4) && ltb (item .start) (256 ^ 4))) && (fitting inside && fitting rest)
+    (low (item .a) && (low (item .b) && low (item .start))) && (fitting inside && fitting rest)
 
 fields-fit : (F : Forest) → T (fitting F) → FieldsFit F
 unfolding FieldsFit
 fields-fit nil t = tt
 fields-fit (node item inside rest) t =
-    let low = λ (x : ℕ). ltb x (256 ^ 4) in
     let (n, f) = and-yes (low (item .a) && (low (item .b) && low (item .start))) (fitting inside && fitting rest) t in
     let (a, m) = and-yes (low (item .a)) (low (item .b) && low (item .start)) n in
     let (b, s) = and-yes (low (item .b)) (low (item .start)) m in

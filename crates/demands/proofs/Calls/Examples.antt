@@ -75,7 +75,7 @@ last = refl
 nested : Meets (encode p3.nested-table 7 p3.nested (replicate 77 9)) (record { answer = encodes.Written 76; lent = p3.nested ++ (9 ∷ []) })
 unfolding bytes depth classOf sortOf oscString oscBlob osc.writeData osc.writeTags osc.writeMessage osc.writeBundle osc.writeElements
     osc.writePacket bytesOutcome treeOutcome
-nested = formed p3.once (p3.within 0) p3.nested-tree refl
+nested = formed (p3.once 0) (p3.within 0) p3.nested-tree refl
 
 -- a list of two frames
 list : Meets (decode TcpVec p3.two (blank 12) 2)

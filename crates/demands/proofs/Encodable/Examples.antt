@@ -30,7 +30,7 @@ framed = 0 ∷ 0 ∷ 0 ∷ 36 ∷ mixed
 by-udp : WellFormed (tableAfter udp 2 nested (blank 7)) 7 nested
 unfolding number size depth snoc classOf sortOf readText readArg readTags startOf sizeOf readMessage bundleBy elementBy elementsBy packetBy
     packetAt readPacket udp
-by-udp = encodable Udp nested (small-bytes nested tt) 2 (blank 7) once (within 0) 0 7 refl nested-answer
+by-udp = encodable Udp nested (small-bytes nested tt) 2 (blank 7) (once 0) (within 0) 0 7 refl nested-answer
 
 by-tcp : WellFormed (tableAfter tcp 64 framed (blank 5)) 5 framed
 unfolding number size depth snoc classOf sortOf readText readArg readTags startOf prefixOf readMessage packetBy packetAt
@@ -43,7 +43,7 @@ unfolding number size depth snoc classOf sortOf readText readArg readTags startO
 by-vec = encodable TcpVec framed (small-bytes framed tt) 64 (blank 5) (mixed-item 4) (mixed-arguments 4) 0 5 refl refl
 
 -- twelve records, of two trees
-by-list : AreTrees (tableAfter tcpVec 2 two (blank 12)) 12 two (node (mixed-item 4) (mixed-arguments 4) (node once (within 44) nil))
+by-list : AreTrees (tableAfter tcpVec 2 two (blank 12)) 12 two (node (mixed-item 4) (mixed-arguments 4) (node (once 44) (within 44) nil))
 unfolding number size depth snoc classOf sortOf readText readArg readTags startOf sizeOf prefixOf readMessage bundleBy elementBy
     elementsBy packetBy packetAt readPacket readFrame framesAt readFrames tcpVec
 by-list = gives-trees TcpVec two (small-bytes two tt) 2 (blank 12) 12 0 two-answer

@@ -139,10 +139,10 @@ unfolding deep bytes
 mixed-accepted = frame-accepted mixed mixed-bytes (strict-allowed mixed mixed-strict) mixed-spelled (omega arith) (omega arith)
 
 -- a table of six records shows it
-pub mixed-seen : SeenIn udp mixed mixed-bytes (replicate 96 0)
+pub mixed-seen : SeenIn udp mixed mixed-bytes (replicate 120 0)
 unfolding deep entriesOf argumentEntries
 mixed-seen =
-    osc10-seen mixed mixed-bytes (strict-allowed mixed mixed-strict) mixed-spelled (omega arith) (omega arith) (replicate 96 0)
+    osc10-seen mixed mixed-bytes (strict-allowed mixed mixed-strict) mixed-spelled (omega arith) (omega arith) (replicate 120 0)
     (omega arith)
 
 -- an i is seen as one number
@@ -150,7 +150,7 @@ i-seen : {l : List ℕ} {x : ℕ} {v : OscType} → Seen l (argument (word 105 x
 i-seen as-i = refl
 
 -- so record 4 is -1
-minus-one : lookAt (tableAfter udp deepest mixed-bytes (replicate 96 0)) 4 ≡ Value (Int (negsuc 0))
+minus-one : lookAt (tableAfter udp deepest mixed-bytes (replicate 120 0)) 4 ≡ Value (Int (negsuc 0))
 unfolding LookAs entriesOf argumentEntries
 minus-one = let r = mixed-seen .looks .1 .1 .1 .1 .0 in r .looked ∙ ap (λ (v : OscType). Value v) (i-seen (r .seen))
 
@@ -160,9 +160,9 @@ address = messageItem 0 2
 
 abbrev arguments : Forest
 arguments =
-    node (argItem 98 16 1) nil
-    (node (argItem 100 0x3FF80000 0) nil
-    (node (argItem 99 0x78 0) nil (node (argItem 105 0xFFFFFFFF 0) nil (node (argItem 115 36 2) nil nil))))
+    node (argItem 98 12 16 1) nil
+    (node (argItem 100 20 0x3FF80000 0) nil
+    (node (argItem 99 28 0x78 0) nil (node (argItem 105 32 0xFFFFFFFF 0) nil (node (argItem 115 36 36 2) nil nil))))
 
 -- the records of a tree
 tableOf : Item → Forest → List ℕ
@@ -204,10 +204,10 @@ mixed-framed =
 
 -- to be played at once, and a fraction of a second later
 abbrev outer : Item
-outer = record { kind = bundleKind; a = 0; b = 1 }
+outer = record { kind = bundleKind; a = 0; b = 1; start = 0 }
 
 abbrev inner : Item
-inner = record { kind = bundleKind; a = 0; b = 2 }
+inner = record { kind = bundleKind; a = 0; b = 2; start = 0 }
 
 -- what the outer bundle contains
 abbrev nested : Forest

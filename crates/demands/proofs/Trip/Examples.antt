@@ -51,9 +51,9 @@ p3-playable =
 
 -- an output of 12 bytes and a table of two records are enough
 p3-plays : PlaysBack (p3.table 2 2) 2 p3.packet (replicate 12 0) (treeOutcome unframed p3.packet (replicate 12 0) p3.message p3.five)
-    (replicate 32 0)
+    (replicate 40 0)
 unfolding bytes oscString writeData writeTags writeMessage writePacket sortOf classOf
-p3-plays = plays p3-playable (replicate 12 0) (replicate 32 0) (omega arith) (omega arith)
+p3-plays = plays p3-playable (replicate 12 0) (replicate 40 0) (omega arith) (omega arith)
 
 -- ---- a bundle
 
@@ -61,15 +61,15 @@ p3-plays = plays p3-playable (replicate 12 0) (replicate 32 0) (omega arith) (om
 abbrev source : List ℕ
 source = 0x2F ∷ 0x61 ∷ 0xC3 ∷ 0xA9 ∷ []
 
--- a message /a with the text é and an array that holds the integer 7
+-- a message /a with the text é and an array that holds the integer 7; the encoder reads no start, so any will do
 abbrev inside : Forest
 inside =
     node (messageItem 0 2)
-    (node (argItem 115 2 2) nil (node arrayItem (node (argItem 105 7 0) nil nil) nil)) nil
+    (node (argItem 115 2 2 2) nil (node (arrayItem 9) (node (argItem 105 9 7 0) nil nil) nil)) nil
 
 -- the bundle that holds it, to be played at once
 abbrev bundle : Item
-bundle = record { kind = bundleKind; a = 0; b = 1 }
+bundle = record { kind = bundleKind; a = 0; b = 1; start = 0 }
 
 -- its records
 table : List ℕ
@@ -101,13 +101,13 @@ bundle-playable =
       fits = omega arith;
     }
 
-bundle-plays : PlaysBack table 5 source (replicate 40 0) (treeOutcome unframed source (replicate 40 0) bundle inside) (replicate 80 0)
+bundle-plays : PlaysBack table 5 source (replicate 40 0) (treeOutcome unframed source (replicate 40 0) bundle inside) (replicate 100 0)
 unfolding bytes oscString writeData writeTags writeMessage writeBundle writeElements writePacket sortOf classOf
-bundle-plays = plays bundle-playable (replicate 40 0) (replicate 80 0) (omega arith) (omega arith)
+bundle-plays = plays bundle-playable (replicate 40 0) (replicate 100 0) (omega arith) (omega arith)
 
 -- ---- a bundle in a bundle
 
-nested-playable : Playable nested-table 7 nested once (within 0)
+nested-playable : Playable nested-table 7 nested (once 0) (within 0)
 unfolding nested-table NoNul CleanNode Clean depth bytes recordOf recordsOf size oscString oscBlob writeData writeTags writeMessage
     writeBundle writeElements writePacket sortOf classOf
 nested-playable =
@@ -132,10 +132,10 @@ nested-playable =
       fits = omega arith;
     }
 
-nested-plays : PlaysBack nested-table 7 nested (replicate 76 0) (treeOutcome unframed nested (replicate 76 0) once (within 0))
-    (replicate 112 0)
+nested-plays : PlaysBack nested-table 7 nested (replicate 76 0) (treeOutcome unframed nested (replicate 76 0) (once 0) (within 0))
+    (replicate 140 0)
 unfolding bytes oscString oscBlob writeData writeTags writeMessage writeBundle writeElements writePacket sortOf classOf
-nested-plays = plays nested-playable (replicate 76 0) (replicate 112 0) (omega arith) (omega arith)
+nested-plays = plays nested-playable (replicate 76 0) (replicate 140 0) (omega arith) (omega arith)
 
 -- ---- what is written is an OSC 1.0 packet
 
