@@ -77,20 +77,20 @@ FramesBegun low frame (waits outer item ∷ below) high =
     Begun (item .start) frame high × Begins item × FramesBegun low outer below (item .start)
 
 -- what holds of every frame holds under those that wait
-frames-map : {low h h′ : ℕ} {f f′ : Forest} (below : List Open) → ({l : ℕ} → Begun l f h → Begun l f′ h′) → FramesBegun low f below h
+frames-map : (low h h′ : ℕ) (f f′ : Forest) (below : List Open) → ((l : ℕ) → Begun l f h → Begun l f′ h′) → FramesBegun low f below h
     → FramesBegun low f′ below h′
-frames-map [] g w = g w
-frames-map (waits outer item ∷ below) g w = (g (w .0), w .1, w .2)
+frames-map low h h′ f f′ [] g w = g low w
+frames-map low h h′ f f′ (waits outer item ∷ below) g w = (g (item .start) (w .0), w .1, w .2)
 
 -- the first frame begins where all do, and ends no earlier
-frames-low : {low high : ℕ} {f : Forest} (below : List Open) → FramesBegun low f below high → low ≤ high
-frames-low [] w = begun-le w
-frames-low (waits outer item ∷ below) w = omega (arith, begun-le (w .0), frames-low below (w .2))
+frames-low : (low high : ℕ) (f : Forest) (below : List Open) → FramesBegun low f below high → low ≤ high
+frames-low low high f [] w = begun-le w
+frames-low low high f (waits outer item ∷ below) w = omega (arith, begun-le (w .0), frames-low low (item .start) outer below (w .2))
 
 -- what is kept is the frame that is filled
-frames-kept : {low high : ℕ} {f : Forest} (below : List Open) → FramesBegun low f below high → Begun low f high
-frames-kept [] w = w
-frames-kept (waits outer item ∷ below) w = begun-from (frames-low below (w .2)) (w .0)
+frames-kept : (low high : ℕ) (f : Forest) (below : List Open) → FramesBegun low f below high → Begun low f high
+frames-kept low high f [] w = w
+frames-kept low high f (waits outer item ∷ below) w = begun-from (frames-low low (item .start) outer below (w .2)) (w .0)
 
 -- ---- the arguments of a message
 
@@ -99,9 +99,10 @@ abbrev ArgsBegun : ℕ → ℕ → ℕ → Args → Type 0
 ArgsBegun low base p (refused k) = Unit {0}
 ArgsBegun low base p (args f used) = Begun low f (base + (p + used))
 
-later-begun : {low : ℕ} (base p n : ℕ) (o : Args) → ArgsBegun low base (p + n) o → ArgsBegun low base p (later n o)
-later-begun base p n (refused k) w = tt
-later-begun base p n (args f used) w = begun-to (omega arith) w
+later-begun : (low base p n : ℕ) (o : Args) → ArgsBegun low base (p + n) o → ArgsBegun low base p (later n o)
+later-begun low base p n (refused k) w = tt
+later-begun low base p n (args f used) w =
+    let q : base + (p + n + used) ≤ base + (p + (n + used)) = omega arith in begun-to q w
 
 module _ (base low : ℕ) where
   act-begun : (sort : Sort) (tag : ℕ) → HasSort tag sort → (go : List ℕ → ℕ → Forest → List Open → Args) (l : List ℕ) (p : ℕ)
@@ -110,10 +111,13 @@ module _ (base low : ℕ) where
       → ((m : List ℕ) (q : ℕ) (f : Forest) (b : List Open) → FramesBegun low f b (base + q) → ArgsBegun low base q (go m q f b))
       → ArgsBegun low base p (act sort go base tag l p frame below)
   act-begun Opens tag t go l p frame below w h =
-      h l p nil (waits frame (arrayItem (base + p)) ∷ below) (none (omega arith), no-range (arrayItem (base + p)) refl, w)
+      let same : base + p ≤ base + p = omega arith in
+      h l p nil (waits frame (arrayItem (base + p)) ∷ below) (none same, no-range (arrayItem (base + p)) refl, w)
   act-begun Closes tag t go l p frame [] w h = tt
   act-begun Closes tag t go l p frame (waits outer item ∷ below) w h =
-      h l p (snoc outer item frame) below (frames-map below (λ x. begun-snoc x (omega arith) (w .1) (w .0)) (w .2))
+      let same : item .start ≤ item .start = omega arith in
+      h l p (snoc outer item frame) below
+      (frames-map low (item .start) (base + p) outer (snoc outer item frame) below (λ q x. begun-snoc x same (w .1) (w .0)) (w .2))
   act-begun (Leaf class) tag t go l p frame below w h = by-arg (readArg tag class base l p) refl
     where
       by-arg : (x : Arg) → x ≡ readArg tag class base l p → ArgsBegun low base p (argTaken (λ m q f. go m q f below) l p frame x)
@@ -121,14 +125,17 @@ module _ (base low : ℕ) where
       by-arg (arg.Given item used) g =
           let s : item .start ≡ base + p = given-start tag class base l p g in
           let b : Begins item = subst LeafBegins (sym g) (leaf-begins base l p class tag (t .1)) in
-          later-begun base p used (go (drop used l) (p + used) (snoc frame item nil) below)
+          let up : base + p ≤ item .start = omega arith in
+          let on : item .start ≤ base + (p + used) = omega arith in
+          later-begun low base p used (go (drop used l) (p + used) (snoc frame item nil) below)
           (h (drop used l) (p + used) (snoc frame item nil) below
-          (frames-map below (λ x. begun-snoc x (omega arith) b (none (omega arith))) w))
+          (frames-map low (base + p) (base + (p + used)) frame (snoc frame item nil) below (λ q x. begun-snoc x up b (none on)) w))
 
   read-begun : (ts l : List ℕ) (p : ℕ) (frame : Forest) (below : List Open) → FramesBegun low frame below (base + p)
       → ArgsBegun low base p (readTags base ts l p frame below)
   unfolding readTags
-  read-begun [] l p frame below w = begun-to (omega arith) (frames-kept below w)
+  read-begun [] l p frame below w =
+      let q : base + p ≤ base + (p + 0) = omega arith in begun-to q (frames-kept low (base + p) frame below w)
   read-begun (t ∷ ts) l p frame below w =
       act-begun (sortOf t) t (has-sort t) (λ m q f b. readTags base ts m q f b) l p frame below w
       (λ m q f b. read-begun ts m q f b)
@@ -137,4 +144,5 @@ module _ (base low : ℕ) where
 pub args-begun : (base : ℕ) (ts l : List ℕ) (p : ℕ) {kept : Forest} {used : ℕ} → args kept used ≡ readArgs base ts l p
     → Begun (base + p) kept (base + (p + used))
 args-begun base ts l p e =
-    subst (ArgsBegun (base + p) base p) (sym e) (read-begun base (base + p) ts l p nil [] (none (omega arith)))
+    let same : base + p ≤ base + p = omega arith in
+    subst (ArgsBegun (base + p) base p) (sym e) (read-begun base (base + p) ts l p nil [] (none same))

@@ -26,12 +26,12 @@ begun-le (also h b i r) = omega (arith, begun-le i, begun-le r)
 
 -- a lower `low` will do
 pub begun-from : {low low′ high : ℕ} {F : Forest} → low′ ≤ low → Begun low F high → Begun low′ F high
-begun-from h (none k) = none (omega arith)
-begun-from h (also k b i r) = also (omega arith) b i r
+begun-from {low} {low′} {high} h (none k) = let q : low′ ≤ high = omega arith in none q
+begun-from {low} {low′} {high} h (also {item = item} k b i r) = let q : low′ ≤ item .start = omega arith in also q b i r
 
 -- a higher `high` will do
 pub begun-to : {low high high′ : ℕ} {F : Forest} → high ≤ high′ → Begun low F high → Begun low F high′
-begun-to h (none k) = none (omega arith)
+begun-to {low} {high} {high′} h (none k) = let q : low ≤ high′ = omega arith in none q
 begun-to h (also k b i r) = also k b i (begun-to h r)
 
 -- one node more at the end, which begins where the others end or later
@@ -39,7 +39,10 @@ pub begun-snoc : {low mid high : ℕ} {F : Forest} {item : Item} {f : Forest} �
     → Begun (item .start) f high
     → Begun low (snoc F item f) high
 unfolding snoc
-begun-snoc (none k) h b w = also (omega arith) b w (none (omega arith))
+begun-snoc {low} {mid} {high} {F} {item} {f} (none k) h b w =
+    let q : low ≤ item .start = omega arith in
+    let e : high ≤ high = omega arith in
+    also q b w (none e)
 begun-snoc (also k c i r) h b w = also k c i (begun-snoc r h b w)
 
 -- ---- the records of a table that holds such a forest
@@ -76,11 +79,12 @@ module _ (t : List ℕ) where
       → startAt t i ≤ startAt t j
   unfolding Spans
   begun-rise lo hi s (none h) i j l k m = absurd (omega (arith, s))
-  begun-rise lo hi s (also h b x r) i j l k m =
+  begun-rise lo hi {low} {high} s (also {mid = mid} {item = item} h b x r) i j l k m =
       let p : startAt t lo ≡ _ = ap (λ (item : Item). item .start) (s .0) in
       let n = begun-le x in
-      let inner = λ (q : ℕ) (c : lo + 1 ≤ q) (d : q < endAt t lo). each-begun (lo + 1) (endAt t lo) (s .1) x q c d in
-      let outer = λ (q : ℕ) (c : endAt t lo ≤ q) (d : q < hi). each-begun (endAt t lo) hi (s .2) r q c d in
+      let inner : (q : ℕ) → lo + 1 ≤ q → q < endAt t lo → BegunAt t (item .start) mid q
+      = λ q c d. each-begun (lo + 1) (endAt t lo) (s .1) x q c d in
+      let outer : (q : ℕ) → endAt t lo ≤ q → q < hi → BegunAt t mid high q = λ q c d. each-begun (endAt t lo) hi (s .2) r q c d in
       let first : lo < j → startAt t lo ≤ startAt t j = λ c.
       ⊎-elim (λ d. omega (arith, inner j (omega arith) d .above)) (λ d. omega (arith, outer j d m .above)) (lt-or-le j (endAt t lo)) in
       ⊎-elim

@@ -35,9 +35,10 @@ abbrev ElementsBegun : ℕ → ℕ → Elements → Type 0
 ElementsBegun base p (upto f used) = Begun (base + p) f (base + (p + used))
 
 -- so does one with bytes read before it
-pub after-begun : {low : ℕ} (base p n : ℕ) (o : Out) → OutBegun low base (p + n) o → OutBegun low base p (after n o)
-after-begun base p n (fault k) w = tt
-after-begun base p n (one item f used) w = (w .0, w .1, begun-to (omega arith) (w .2))
+pub after-begun : (low base p n : ℕ) (o : Out) → OutBegun low base (p + n) o → OutBegun low base p (after n o)
+after-begun low base p n (fault k) w = tt
+after-begun low base p n (one item f used) w =
+    let q : base + (p + n + used) ≤ base + (p + (n + used)) = omega arith in (w .0, w .1, begun-to q (w .2))
 
 module _ (base : ℕ) where
   -- ---- messages
@@ -57,7 +58,7 @@ module _ (base : ℕ) where
       by-text (Lacks k) = tt
       by-text (Found m used) =
           let o = readArgs base (tagsIn (take m l)) (drop used l) (p + used) in
-          after-begun base p used (messageWith (messageItem q n) o)
+          after-begun q base p used (messageWith (messageItem q n) o)
           (with-begun q n (p + used) o (omega arith)
           (λ kept v g. args-begun base (tagsIn (take m l)) (drop used l) (p + used) g))
 
@@ -72,7 +73,9 @@ module _ (base : ℕ) where
     where
       with-elements : (x : Elements) → ElementsBegun base (p + 8) x → OutBegun q base p (bundleWith (bundleItem q l) x)
       with-elements (upto f used) w =
-          (omega arith, no-range (bundleItem q l) refl, begun-from (omega arith) (begun-to (omega arith) w))
+          let h : q ≤ base + (p + 8) = omega arith in
+          let k : base + (p + 8 + used) ≤ base + (p + (8 + used)) = omega arith in
+          (omega arith, no-range (bundleItem q l) refl, begun-from h (begun-to k w))
 
   -- ---- packets
 
@@ -83,10 +86,10 @@ module _ (base : ℕ) where
     where
       by-start : (x : Start) → OutBegun (base + p) base p (startedBy base es l p x)
       by-start (start.Message n used) =
-          after-begun base p used (readMessage base (messageItem (base + p) n) (drop used l) (p + used))
+          after-begun (base + p) base p used (readMessage base (messageItem (base + p) n) (drop used l) (p + used))
           (message-begun (base + p) n (drop used l) (p + used) (omega arith))
       by-start (start.Bundle used) =
-          after-begun base p used (bundleBy (base + p) es (drop used l) (p + used))
+          after-begun (base + p) base p used (bundleBy (base + p) es (drop used l) (p + used))
           (bundle-begun (base + p) es (drop used l) (p + used) (omega arith) h)
       by-start (start.Refused k) = tt
 
@@ -95,36 +98,45 @@ module _ (base : ℕ) where
   joined-begun : (p n : ℕ) (item : Item) (f : Forest) (g : Elements) → base + p ≤ item .start → Begins item
       → Begun (item .start) f (base + (p + (4 + n))) → ElementsBegun base (p + (4 + n)) g
       → ElementsBegun base p (joined item f n g)
-  joined-begun p n item f (upto g used) h b w v = also h b w (begun-to (omega arith) v)
+  joined-begun p n item f (upto g used) h b w v =
+      let q : base + (p + (4 + n) + used) ≤ base + (p + (4 + n + used)) = omega arith in also h b w (begun-to q v)
 
-  -- an element's packet takes no more than the element
-  filled-begun : (es : List ℕ → ℕ → Elements) → ((m : List ℕ) (r : ℕ) → ElementsBegun base r (es m r))
-      → (l : List ℕ) (p n : ℕ) (o : Out) → Within n o → OutBegun (base + (p + 4)) base (p + 4) o
-      → ElementsBegun base p (goOn es l p (filling n o))
-  filled-begun es h l p n (fault k) v w = none (omega arith)
-  filled-begun es h l p n (one item f used) v w =
-      joined-begun p n item f (es (drop (4 + n) l) (p + (4 + n))) (omega (arith, w .0)) (w .1) (begun-to (omega (arith, v)) (w .2))
-      (h (drop (4 + n) l) (p + (4 + n)))
+  no-element-begun : (p : ℕ) → ElementsBegun base p (upto nil 0)
+  no-element-begun p = let q : base + p ≤ base + (p + 0) = omega arith in none q
+
+  module _ (pk : List ℕ → ℕ → Out) (es : List ℕ → ℕ → Elements) (hp : (m : List ℕ) (r : ℕ) → OutBegun (base + r) base r (pk m r))
+      (hw : (m : List ℕ) (r : ℕ) → Within (length m) (pk m r)) (he : (m : List ℕ) (r : ℕ) → ElementsBegun base r (es m r)) where
+    -- an element's packet takes no more than the element
+    filled-begun : (l : List ℕ) (p n : ℕ) (o : Out) → Within n o → OutBegun (base + (p + 4)) base (p + 4) o
+        → ElementsBegun base p (goOn es l p (filling n o))
+    filled-begun l p n (fault k) v w = no-element-begun p
+    filled-begun l p n (one item f used) v w =
+        let q : base + (p + 4 + used) ≤ base + (p + (4 + n)) = omega (arith, v) in
+        joined-begun p n item f (es (drop (4 + n) l) (p + (4 + n))) (omega (arith, w .0)) (w .1) (begun-to q (w .2))
+        (he (drop (4 + n) l) (p + (4 + n)))
+
+    elements-by-begun : (l : List ℕ) (p : ℕ) → ElementsBegun base p (elementsBy pk es l p)
+    unfolding elementsBy elementBy
+    elements-by-begun l p = by-size (sizeOf l) refl
+      where
+        by-size : (x : ElementSize) → x ≡ sizeOf l → ElementsBegun base p (goOn es l p (heldBy pk l p x))
+        by-size (size.Holds n) e =
+            let m = take n (drop 4 l) in
+            let same : length m ≡ n = omega (arith, size-in l e, length-take n (drop 4 l), length-drop 4 l) in
+            filled-begun l p n (pk m (p + 4)) (subst (λ (k : ℕ). Within k (pk m (p + 4))) same (hw m (p + 4))) (hp m (p + 4))
+        by-size size.RunsOut e = no-element-begun p
 
   mutual
-    unfolding packetAt elementsBy elementBy
+    unfolding packetAt
 
     packet-at-begun : (n : ℕ) (l : List ℕ) (p : ℕ) → OutBegun (base + p) base p (packetAt base n l p)
     packet-at-begun zero l p = tt
     packet-at-begun (suc n) l p = packet-by-begun _ l p (λ m q. elements-at-begun n m q)
 
     elements-at-begun : (n : ℕ) (l : List ℕ) (p : ℕ) → ElementsBegun base p (elementsAt base n l p)
-    elements-at-begun zero l p = none (omega arith)
-    elements-at-begun (suc n) l p = by-size (sizeOf l) refl
-      where
-        by-size : (x : ElementSize) → x ≡ sizeOf l
-            → ElementsBegun base p (goOn (λ m q. elementsAt base n m q) l p (heldBy (λ m q. packetAt base n m q) l p x))
-        by-size (size.Holds k) e =
-            let m = take k (drop 4 l) in
-            let same : length m ≡ k = omega (arith, size-in l e, length-take k (drop 4 l), length-drop 4 l) in
-            filled-begun _ (λ m q. elements-at-begun n m q) l p k (packetAt base n m (p + 4)) (rw same at (packet-at-in base n m (p + 4)))
-            (packet-at-begun n m (p + 4))
-        by-size size.RunsOut e = none (omega arith)
+    elements-at-begun zero l p = no-element-begun p
+    elements-at-begun (suc n) l p =
+        elements-by-begun _ _ (λ m q. packet-at-begun n m q) (λ m q. packet-at-in base n m q) (λ m q. elements-at-begun n m q) l p
 
   -- a packet and all that it contains begin in the bytes that are read of it
   pub packet-begun : (l : List ℕ) (p : ℕ) → OutBegun (base + p) base p (readPacket base l p)
