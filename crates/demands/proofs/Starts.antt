@@ -3,7 +3,9 @@
 --     Arguments   the arguments of a message begin one after another
 --     Packets     so do packets, and the elements of a bundle
 --     Tables      the starts of a decoder's table, for every framing
+--     Examples    calls that meet the hypothesis
 pub mod Forests
 pub mod Arguments
 pub mod Packets
 pub mod Tables
+pub mod Examples

@@ -10,10 +10,12 @@ use Rattle.wire.specs.Pad.{padOf}
 use Rattle.wire.specs.declared.Padded.{Padded}
 use Rattle.wire.specs.declared.Padded.the-variants as padded
 use Rattle.node.specs.Tags.{among}
-use Rattle.values.specs.Look.{lookAt, textNamed}
+use Rattle.values.specs.Look.{lookAt, startedAt, textNamed}
 use Rattle.values.specs.declared.value.OscType.{OscType}
 use Rattle.values.specs.declared.look.Looked.{Looked}
 use Rattle.values.specs.declared.look.Looked.the-variants as looked
+use Rattle.values.specs.declared.look.Started.{Started}
+use Rattle.values.specs.declared.look.Started.the-variants as started
 use Rattle.decoder.specs.Framing.{ruleOf}
 use Rattle.decoder.specs.declared.Framing.{Framing}
 use Rattle.decoder.specs.declared.Framing.the-variants.{Udp, Tcp, TcpVec}
@@ -32,6 +34,7 @@ pub data Call : Type 0 where
   encode-string : (text out : List ℕ) → Call
   pad : (pos : ℕ) → Call
   look : (table : List ℕ) (index : ℕ) → Call
+  start-of : (table : List ℕ) (index : ℕ) → Call
   text-of : (value : OscType) (packet label : List ℕ) → Call
 
 -- the type of its answer
@@ -42,6 +45,7 @@ Answer (encode-tcp table count source out) = Encoded
 Answer (encode-string text out) = Encoded
 Answer (pad pos) = Padded
 Answer (look table index) = Looked
+Answer (start-of table index) = Started
 Answer (text-of value packet label) = List ℕ
 
 -- the bytes that it is lent by `&mut`: at most one buffer; what is lent by `&` cannot change
@@ -52,6 +56,7 @@ Lent (encode-tcp table count source out) = List ℕ
 Lent (encode-string text out) = List ℕ
 Lent (pad pos) = Unit {0}
 Lent (look table index) = Unit {0}
+Lent (start-of table index) = Unit {0}
 Lent (text-of value packet label) = Unit {0}
 
 -- those bytes before the call
@@ -62,6 +67,7 @@ lentTo (encode-tcp table count source out) = out
 lentTo (encode-string text out) = out
 lentTo (pad pos) = tt
 lentTo (look table index) = tt
+lentTo (start-of table index) = tt
 lentTo (text-of value packet label) = tt
 
 -- how a call ends: its answer, and the lent bytes afterwards
@@ -77,6 +83,7 @@ Meets (encode-tcp table count source out) e = Encodes prefixed table count sourc
 Meets (encode-string text out) e = EncodesString text out (record { answer = e .answer; out = e .lent })
 Meets (pad pos) e = e .answer ≡ padOf pos
 Meets (look table index) e = e .answer ≡ lookAt table index
+Meets (start-of table index) e = e .answer ≡ startedAt table index
 Meets (text-of value packet label) e = e .answer ≡ textNamed value packet label
 
 -- what an answer gives: a result; Waiting; or a refusal, which has its number and nothing else (refusal's `numberOf`)
@@ -106,6 +113,11 @@ abbrev pub byLooked : Looked → Given
 byLooked (looked.Value v) = result
 byLooked (looked.Refused r) = refuses r
 
+-- of `start_of`
+abbrev pub byStarted : Started → Given
+byStarted (started.At start) = result
+byStarted (started.Refused r) = refuses r
+
 -- of any call
 abbrev pub given : (c : Call) → Answer c → Given
 given (decode framing msg table depth) r = byDecoded r
@@ -114,6 +126,7 @@ given (encode-tcp table count source out) r = byEncoded r
 given (encode-string text out) r = byEncoded r
 given (pad pos) r = byPadded r
 given (look table index) r = byLooked r
+given (start-of table index) r = byStarted r
 given (text-of value packet label) r = result
 
 -- the refusals that document 01 has for a call, by their numbers
@@ -124,6 +137,7 @@ numbersOf (encode-tcp table count source out) = encodeOrder
 numbersOf (encode-string text out) = stringOrder
 numbersOf (pad pos) = 14 ∷ []
 numbersOf (look table index) = 11 ∷ []
+numbersOf (start-of table index) = 11 ∷ []
 numbersOf (text-of value packet label) = []
 
 -- "`decode_tcp` may also answer Waiting"
@@ -136,6 +150,7 @@ mayWait (encode-tcp table count source out) = false
 mayWait (encode-string text out) = false
 mayWait (pad pos) = false
 mayWait (look table index) = false
+mayWait (start-of table index) = false
 mayWait (text-of value packet label) = false
 
 -- a result, Waiting where it may be, or one of these numbers

@@ -3,10 +3,11 @@
 use decoder::Decoded;
 use encoder::Encoded;
 use values::look::Looked;
+use values::look::Started;
 use values::value::OscType;
 use wire::Padded;
 ghost use Rattle.decoder.specs.declared.Framing.the-variants.{Udp, Tcp, TcpVec};
-ghost use Rattle.demands.specs.Calls.{Meets, decode, encode, encode-tcp, encode-string, pad, look, text-of};
+ghost use Rattle.demands.specs.Calls.{Meets, decode, encode, encode-tcp, encode-string, pad, look, start-of, text-of};
 
 fn decode_udp(msg: &[u8], table: &mut [u8], depth: usize) -> Decoded
     ensures { λ r. ⌜ Meets (decode Udp (now (msg .entry)) (now (table .entry)) depth) (record { answer = r; lent = now (table .exit) }) ⌝ }
@@ -57,6 +58,12 @@ fn look(table: &[u8], index: usize) -> Looked
     ensures { λ r. ⌜ Meets (look (now (table .entry)) index) (record { answer = r; lent = tt }) ⌝ }
 {
     values::look::look(table, index)
+}
+
+fn start_of(table: &[u8], index: usize) -> Started
+    ensures { λ r. ⌜ Meets (start-of (now (table .entry)) index) (record { answer = r; lent = tt }) ⌝ }
+{
+    values::look::start_of(table, index)
 }
 
 fn text_of<'a>(value: OscType, packet: &'a [u8], label: &'a [u8]) -> &'a [u8]

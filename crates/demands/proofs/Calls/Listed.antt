@@ -14,8 +14,9 @@ use Rattle.node.specs.Tags.{among}
 use Rattle.node.specs.Records.{zerosAt, itemAt, capacity}
 use Rattle.node.specs.declared.record.Item.{Item}
 use Rattle.node.specs.Rules.{ownRules}
-use Rattle.values.specs.Look.{lookAt}
+use Rattle.values.specs.Look.{lookAt, startedAt}
 use Rattle.values.specs.declared.look.Looked.{Looked}
+use Rattle.values.specs.declared.look.Started.{Started}
 use Rattle.wire.specs.declared.Padded.{Padded}
 use Rattle.packet.specs.Packet.{Out, fault, one, readPacket}
 use Rattle.decoder.specs.Framing.{Whole, trees, waiting, refusal, single, udp, Frame, wait, read, readFrame, tcp, before, afterFrame}
@@ -26,8 +27,8 @@ use Rattle.decoder.specs.declared.Decoded.{Decoded}
 use Rattle.strings.specs.Atomic.{oscString}
 use Rattle.writers.specs.Osc.{writePacket}
 use Rattle.encoder.specs.Outcome.{encodeOrder, Outcome, bytesOutcome, treeOutcome, Encodes, malformed, formed, stringOutcome}
-use Rattle.demands.specs.Calls.{decode, encode, encode-tcp, encode-string, pad, look, text-of}
-use Rattle.demands.specs.Calls.{byDecoded, byEncoded, byPadded, byLooked, numbersOf, Listed}
+use Rattle.demands.specs.Calls.{decode, encode, encode-tcp, encode-string, pad, look, start-of, text-of}
+use Rattle.demands.specs.Calls.{byDecoded, byEncoded, byPadded, byLooked, byStarted, numbersOf, Listed}
 use Rattle.demands.specs.Calls.{AnswersListed}
 use Rattle.wire.proofs.Choices.{by-test, by-le}
 use Rattle.decoder.proofs.Chosen.{by-decoded, by-trees}
@@ -122,7 +123,7 @@ string-listed text out =
     let numbers = numbersOf (encode-string text out) in
     by-test (Encoding numbers) (utf8 text) (λ h. write-listed numbers (oscString text) out refl refl) (λ h. refl)
 
--- ---- `pad` and `look`
+-- ---- `pad`, `look` and `start_of`
 
 abbrev Padding : ℕ → Padded → Type 0
 Padding pos r = Listed (numbersOf (pad pos)) false (byPadded r)
@@ -139,6 +140,13 @@ look-listed t i =
     by-test (Looking t i) (ltb i (capacity t))
     (λ h. by-test (Looking t i) (eqb (zerosAt t i) 0 && ownRules (itemAt t i)) (λ k. tt) (λ k. refl)) (λ h. refl)
 
+abbrev Starting : List ℕ → ℕ → Started → Type 0
+Starting t i r = Listed (numbersOf (start-of t i)) false (byStarted r)
+
+start-listed : (t : List ℕ) (i : ℕ) → Starting t i (startedAt t i)
+unfolding startedAt
+start-listed t i = by-test (Starting t i) (ltb i (capacity t)) (λ h. tt) (λ h. refl)
+
 -- ---- every call
 
 -- every answer is a result, Waiting from `decode_tcp`, or a refusal that document 01 lists for the call
@@ -151,4 +159,5 @@ listed (encode-tcp table count source out) e m = encodes-listed m
 listed (encode-string text out) e m = subst (Encoding (numbersOf (encode-string text out))) (sym m) (string-listed text out)
 listed (pad pos) e m = subst (Padding pos) (sym m) (pad-listed pos)
 listed (look table index) e m = subst (Looking table index) (sym m) (look-listed table index)
+listed (start-of table index) e m = subst (Starting table index) (sym m) (start-listed table index)
 listed (text-of value packet label) e m = tt

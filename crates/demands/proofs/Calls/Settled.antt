@@ -5,7 +5,7 @@ use Prim.Native.Nat.{ℕ}
 use lib.ListN.{length}
 use Rattle.utf8.specs.Derive.{utf8}
 use Rattle.wire.specs.Pad.{padOf}
-use Rattle.values.specs.Look.{lookAt, textNamed}
+use Rattle.values.specs.Look.{lookAt, startedAt, textNamed}
 use Rattle.wire.specs.Limits.{longest, deepest}
 use Rattle.node.specs.Forest.{Forest, nil, node, depth}
 use Rattle.decoder.specs.Framing.{ruleOf}
@@ -15,7 +15,7 @@ use Rattle.decoder.specs.declared.Decoded.the-variants.{Packets, Waiting, Refus
 use Rattle.writers.specs.Osc.{writePacket}
 use Rattle.encoder.specs.Outcome.{Outcome, bytesOutcome, treeOutcome, Encodes, malformed, formed, unframed, prefixed, stringOutcome}
 use Rattle.strings.specs.Atomic.{oscString}
-use Rattle.demands.specs.Calls.{Call, decode, encode, encode-tcp, encode-string, pad, look, text-of}
+use Rattle.demands.specs.Calls.{Call, decode, encode, encode-tcp, encode-string, pad, look, start-of, text-of}
 use Rattle.demands.specs.Calls.{Ending, Answer, Lent, result, byDecoded, byEncoded, Settled, Met, NothingChanged}
 use Rattle.demands.specs.Demands.{answerTo, tableAfter}
 use Rattle.wire.proofs.Choices.{by-test, by-le}
@@ -42,6 +42,7 @@ settled (encode-tcp table count source out) e e' m m' =
 settled (encode-string text out) e e' m m' = let x = outcome-one (m ∙ sym m') in ending (x .0) (x .1)
 settled (pad pos) e e' m m' = ending (m ∙ sym m') refl
 settled (look table index) e e' m m' = ending (m ∙ sym m') refl
+settled (start-of table index) e e' m m' = ending (m ∙ sym m') refl
 settled (text-of value packet label) e e' m m' = ending (m ∙ sym m') refl
 
 -- ---- an ending for every call
@@ -62,6 +63,7 @@ met (encode-tcp table count source out) n =
 met (encode-string text out) n = let r = stringOutcome text out in n (record { answer = r .answer; lent = r .out }) refl
 met (pad pos) n = n (record { answer = padOf pos; lent = tt }) refl
 met (look table index) n = n (record { answer = lookAt table index; lent = tt }) refl
+met (start-of table index) n = n (record { answer = startedAt table index; lent = tt }) refl
 met (text-of value packet label) n = n (record { answer = textNamed value packet label; lent = tt }) refl
 
 -- ---- nothing changed
@@ -103,4 +105,5 @@ nothing-changed (encode-tcp table count source out) e m n = encodes-same m n
 nothing-changed (encode-string text out) e m n = subst (Same out) (sym m) (string-same text out) n
 nothing-changed (pad pos) e m n = refl
 nothing-changed (look table index) e m n = refl
+nothing-changed (start-of table index) e m n = refl
 nothing-changed (text-of value packet label) e m n = refl
