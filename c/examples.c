@@ -57,11 +57,11 @@ static void holds(const char *name, const uint8_t *buffer, size_t room, const ui
 
 enum call { UDP, TCP, TCP_VEC };
 
-/* A decoder's answer, in its parts, and its whole table. */
-static void decodes(const char *name, enum call call, const char *hex, size_t records, uint64_t depth, unsigned refusal,
-                    uint32_t left, const char *table_hex) {
+/* A decoder's answer, in its parts, and its whole table, for which there are `room` bytes. */
+static void decodes_in(const char *name, enum call call, const char *hex, size_t room, uint64_t depth, unsigned refusal,
+                       uint32_t left, const char *table_hex) {
     uint8_t bytes[256], due[256];
-    size_t n = bytes_of(hex, bytes), m = bytes_of(table_hex, due), room = OSC_RECORD * records;
+    size_t n = bytes_of(hex, bytes), m = bytes_of(table_hex, due);
     uint8_t *msg = copy(bytes, n), *table = blank(room);
     uint64_t answer = call == UDP   ? osc_decode_udp(msg, n, table, room, depth)
                       : call == TCP ? osc_decode_tcp(msg, n, table, room, depth)
@@ -72,6 +72,12 @@ static void decodes(const char *name, enum call call, const char *hex, size_t re
     holds(name, table, room, due, m);
     free(msg);
     free(table);
+}
+
+/* The same with room for some records. */
+static void decodes(const char *name, enum call call, const char *hex, size_t records, uint64_t depth, unsigned refusal,
+                    uint32_t left, const char *table_hex) {
+    decodes_in(name, call, hex, OSC_RECORD * records, depth, refusal, left, table_hex);
 }
 
 /* What a decoder refuses. */
@@ -117,20 +123,51 @@ static void looks(const char *name, const char *table_hex, uint64_t index, unsig
     free(table);
 }
 
-/* "/a" with the integer 5, and its table. */
+static void starts(const char *name, const char *table_hex, uint64_t index, unsigned refusal, uint32_t start) {
+    uint8_t bytes[256];
+    size_t n = bytes_of(table_hex, bytes);
+    uint8_t *table = copy(bytes, n);
+    uint64_t answer = osc_start(table, n, index);
+    same(name, osc_refusal(answer), refusal);
+    same(name, osc_began(answer), start);
+    same(name, answer, (uint64_t)refusal << 56 | start);
+    free(table);
+}
+
+/* "/a" with the integer 5, and its table; a line of a table is a record. */
 #define FIVE "2F610000 2C690000 00000005"
-#define FIVE_TABLE "2F000000 00000002 00000000 00000002 69000000 00000002 00000005 00000000"
+#define FIVE_TABLE                                 \
+    "2F000000 00000002 00000000 00000002 00000000" \
+    "69000000 00000002 00000005 00000000 00000008"
+/* The same where a frame of a stream holds it. */
+#define FRAMED_TABLE                               \
+    "2F000000 00000002 00000004 00000002 00000004" \
+    "69000000 00000002 00000005 00000000 0000000C"
+/* The same with starts that no decoder writes. */
+#define OTHER_STARTS                               \
+    "2F000000 00000002 00000000 00000002 FFFFFFFF" \
+    "69000000 00000002 00000005 00000000 00000001"
 #define EMPTY_BUNDLE "2362756E 646C6500 00000000 00000001"
-#define BUNDLE_TABLE "23000000 00000001 00000000 00000001"
+#define BUNDLE_TABLE "23000000 00000001 00000000 00000001 00000000"
+/* "/a" with a text, true, a blob and an array with an integer, and its table. */
+#define KINDS "2F610000 2C735462 5B695D00 61000000 00000001 FF000000 00000007"
+#define KINDS_TABLE                                \
+    "2F000000 00000006 00000000 00000002 00000000" \
+    "73000000 00000002 0000000C 00000001 0000000C" \
+    "54000000 00000003 00000000 00000000 00000010" \
+    "62000000 00000004 00000014 00000001 00000010" \
+    "5B000000 00000006 00000000 00000000 00000018" \
+    "69000000 00000006 00000007 00000000 00000018"
 
 static void examples(void) {
     refuses("P1", UDP, "", OSC_EMPTY);
     refuses("P2", UDP, "2F000000", OSC_RUNS_OUT);
     decodes("P3", UDP, FIVE, 8, 64, 0, 0, FIVE_TABLE);
     decodes("P4", UDP, "2F610000 58690000 00000005", 8, 64, 0, 0, FIVE_TABLE);
-    decodes("P5", UDP, "2F610000 00000000", 8, 64, 0, 0, "2F000000 00000001 00000000 00000002");
+    decodes("P5", UDP, "2F610000 00000000", 8, 64, 0, 0, "2F000000 00000001 00000000 00000002 00000000");
     decodes("P6", UDP, "2F610000 2C695B69 00000000 00000001 00000002", 8, 64, 0, 0,
-            "2F000000 00000002 00000000 00000002 69000000 00000002 00000002 00000000");
+            "2F000000 00000002 00000000 00000002 00000000"
+            "69000000 00000002 00000002 00000000 00000010");
     refuses("P7", UDP, "2F610000 2C5D0000", OSC_NOT_OPEN);
     refuses("P8", UDP, "2F610000 2C780000", OSC_UNKNOWN_TAG);
     refuses("P9", UDP, "2F610000 2C630000 0000D800", OSC_NOT_SCALAR);
@@ -141,6 +178,28 @@ static void examples(void) {
     decodes("P14", TCP, "00000009 2F610000", 8, 64, 0, 8, "");
 }
 
+/* Where items begin: by the decoders' tables, and by osc_start, which looks at nothing else. */
+static void items(void) {
+    decodes("kinds", UDP, KINDS, 8, 64, 0, 0, KINDS_TABLE);
+    decodes("a true", UDP, "2F610000 2C540000", 8, 64, 0, 0,
+            "2F000000 00000002 00000000 00000002 00000000"
+            "54000000 00000002 00000000 00000000 00000008");
+    decodes("a message in a bundle", UDP, EMPTY_BUNDLE "0000000C" FIVE, 8, 64, 0, 0,
+            "23000000 00000003 00000000 00000001 00000000"
+            "2F000000 00000003 00000014 00000002 00000014"
+            "69000000 00000003 00000005 00000000 0000001C");
+    starts("start of a message", FIVE_TABLE, 0, 0, 0);
+    starts("start of an integer", FIVE_TABLE, 1, 0, 8);
+    starts("start of a blob", KINDS_TABLE, 3, 0, 16);
+    starts("start of no third record", FIVE_TABLE, 2, OSC_BAD_TABLE, 0);
+    starts("start of record 2^32", FIVE_TABLE, 0x100000000u, OSC_BAD_TABLE, 0);
+    starts("start of record 2^62", FIVE_TABLE, 0x4000000000000000u, OSC_BAD_TABLE, 0);
+    starts("start in no table", "", 0, OSC_BAD_TABLE, 0);
+    starts("start before a part of a record", BUNDLE_TABLE "69000000 00000002 00000005 00000000 000000", 0, 0, 0);
+    starts("start of a part of a record", BUNDLE_TABLE "69000000 00000002 00000005 00000000 000000", 1, OSC_BAD_TABLE, 0);
+    starts("start of a record that is none", "FFFFFFFF FFFFFFFF FFFFFFFF FFFFFFFF FFFFFFFE", 0, 0, 0xFFFFFFFEu);
+}
+
 static void limits(void) {
     uint8_t *msg = blank(65536);
     decodes("depth 1", UDP, EMPTY_BUNDLE, 1, 1, 0, 0, BUNDLE_TABLE);
@@ -148,6 +207,8 @@ static void limits(void) {
     decodes("depth 65", UDP, FIVE, 8, 65, OSC_DEPTH_LIMIT, 0, "");
     decodes("depth 2^32", UDP, FIVE, 8, 0x100000000u, OSC_DEPTH_LIMIT, 0, "");
     decodes("two records", UDP, FIVE, 2, 64, 0, 0, FIVE_TABLE);
+    decodes_in("two records and a part", UDP, FIVE, 3 * OSC_RECORD - 1, 64, 0, 0, FIVE_TABLE);
+    decodes_in("two records but for a byte", UDP, FIVE, 2 * OSC_RECORD - 1, 64, OSC_TABLE_FULL, 0, "");
     decodes("one record", UDP, FIVE, 1, 64, OSC_TABLE_FULL, 0, "");
     decodes("no record", UDP, FIVE, 0, 64, OSC_TABLE_FULL, 0, "");
     same("65,536 bytes", osc_refusal(osc_decode_udp(msg, 65536, NULL, 0, 64)), OSC_TOO_LONG);
@@ -156,12 +217,10 @@ static void limits(void) {
 }
 
 static void streams(void) {
-    decodes("a frame", TCP, "0000000C" FIVE "00", 8, 64, 0, 1,
-            "2F000000 00000002 00000004 00000002 69000000 00000002 00000005 00000000");
+    decodes("a frame", TCP, "0000000C" FIVE "00", 8, 64, 0, 1, FRAMED_TABLE);
     decodes("two frames", TCP_VEC, "0000000C" FIVE "00000010" EMPTY_BUNDLE, 8, 64, 0, 0,
-            "2F000000 00000002 00000004 00000002 69000000 00000002 00000005 00000000 23000000 00000003 00000000 00000001");
-    decodes("a frame and a part", TCP_VEC, "0000000C" FIVE "00000010 2362", 8, 64, 0, 6,
-            "2F000000 00000002 00000004 00000002 69000000 00000002 00000005 00000000");
+            FRAMED_TABLE "23000000 00000003 00000000 00000001 00000014");
+    decodes("a frame and a part", TCP_VEC, "0000000C" FIVE "00000010 2362", 8, 64, 0, 6, FRAMED_TABLE);
     refuses("three bytes", TCP_VEC, "000000", OSC_RUNS_OUT);
 }
 
@@ -171,6 +230,7 @@ static void encoders(void) {
     encodes("five in a stream", 1, FIVE_TABLE, 2, "/a", 16, 0, "0000000C" FIVE);
     encodes("a bundle", 0, BUNDLE_TABLE, 1, "", 16, 0, EMPTY_BUNDLE);
     encodes("a bundle in a stream", 1, BUNDLE_TABLE, 1, "", 16, 0, EMPTY_BUNDLE);
+    encodes("five, with other starts", 0, OTHER_STARTS, 2, "/a", 12, 0, FIVE);
     encodes("no room", 0, FIVE_TABLE, 2, "/a", 11, OSC_OUTPUT_SHORT, "");
     encodes("no room for the length", 1, FIVE_TABLE, 2, "/a", 15, OSC_OUTPUT_SHORT, "");
     encodes("no record", 0, FIVE_TABLE, 0, "/a", 12, OSC_BAD_TABLE, "");
@@ -192,13 +252,14 @@ static void leaves(void) {
     looks("an integer", FIVE_TABLE, 1, 0, 'i');
     looks("no third record", FIVE_TABLE, 2, OSC_BAD_TABLE, 0);
     looks("record 2^32", FIVE_TABLE, 0x100000000u, OSC_BAD_TABLE, 0);
-    looks("a second field", "69000000 00000001 00000005 00000001", 0, OSC_BAD_TABLE, 0);
-    looks("true", "54000000 00000001 00000000 00000000", 0, 0, 'T');
-    looks("false", "46000000 00000001 00000000 00000000", 0, 0, 'F');
+    looks("a second field", "69000000 00000001 00000005 00000001 00000000", 0, OSC_BAD_TABLE, 0);
+    looks("true", "54000000 00000001 00000000 00000000 FFFFFFFF", 0, 0, 'T');
+    looks("false", "46000000 00000001 00000000 00000000 00000000", 0, 0, 'F');
 }
 
 int main(void) {
     examples();
+    items();
     limits();
     streams();
     encoders();

@@ -3,7 +3,10 @@
  * No function allocates, keeps a pointer or has a state. Every pointer may be to any bytes, and a length may be 0;
  * slices that a call may write must not overlap the others. A refusal changes no byte.
  *
- * A node table has records of OSC_RECORD bytes, big-endian: kind (1), three zero bytes, end (4), a (4), b (4). */
+ * A node table has records of OSC_RECORD bytes, big-endian: kind (1), three zero bytes, end (4), a (4), b (4), start (4).
+ * The start is the offset, from the decoder's first input byte, where the item's data begins: a message's address, a bundle's
+ * "#bundle", a blob's size, a text's or number's first byte; of an array and of a tag without data, the place reached in the
+ * data. A table is well formed with any starts: osc_start alone reads them. */
 #ifndef SENNORBAI_OSC_H
 #define SENNORBAI_OSC_H
 
@@ -18,7 +21,7 @@ extern "C" {
 #endif
 
 /* The bytes of a record, the longest input and result in bytes, and the deepest nesting of bundles. */
-enum { OSC_RECORD = 16, OSC_LONGEST = 65535, OSC_DEEPEST = 64 };
+enum { OSC_RECORD = 20, OSC_LONGEST = 65535, OSC_DEEPEST = 64 };
 
 /* The refusals, by their numbers. */
 enum {
@@ -74,6 +77,10 @@ uint64_t osc_pad(uint64_t pos);
 /* The kind of a record in the low byte, by that record's own rules; bits 56 to 63 are the refusal's number. */
 uint64_t osc_look(const uint8_t *table, size_t table_len, uint64_t index);
 
+/* The start of a record in bits 0 to 31; bits 56 to 63 are the refusal's number, OSC_BAD_TABLE where the table has no such record.
+ * Nothing else of the record is looked at. */
+uint64_t osc_start(const uint8_t *table, size_t table_len, uint64_t index);
+
 /* ---- an answer, taken apart */
 
 /* The refusal's number, 0 where there is an answer. */
@@ -90,6 +97,9 @@ static inline uint32_t osc_written(uint64_t answer) { return (uint32_t)answer; }
 
 /* The kind that osc_look found. */
 static inline uint8_t osc_kind(uint64_t answer) { return (uint8_t)answer; }
+
+/* The offset that osc_start found: where the item's data began. */
+static inline uint32_t osc_began(uint64_t answer) { return (uint32_t)answer; }
 
 #ifdef __cplusplus
 }

@@ -15,17 +15,17 @@ ghost use Prim.Native.Nat.{_≤_, _<_};
 ghost use lib.ListN.{length};
 ghost use mathlib.Core.Path.{_≡_};
 
-// The tally: for each of the 8 operations, 18 counts, one for each answer (given, waiting, refused with 0 to 15); then the answers, those
+// The tally: for each of the 9 operations, 18 counts, one for each answer (given, waiting, refused with 0 to 15); then the answers, those
 // that differ, and the sums of what was answered and of what was lent.
-type Tally = [u64; 148];
+type Tally = [u64; 166];
 
-const ANSWERS: usize = 144;
+const ANSWERS: usize = 162;
 
-const DIFFERENCES: usize = 145;
+const DIFFERENCES: usize = 163;
 
-const ANSWERED: usize = 146;
+const ANSWERED: usize = 164;
 
-const LENT: usize = 147;
+const LENT: usize = 165;
 
 // Room for a file of 1,048,576 bytes and one more, which tells that a file is longer.
 fn file_space() -> [u8; 1048577]
@@ -54,7 +54,7 @@ fn place(operation: u8, answer: u64) -> usize
 
 // Adds to a sum of the tally.
 fn add_sum(tally: &mut Tally, at: usize, sum: u64)
-    requires { ⌜ at < 148 ⌝ }
+    requires { ⌜ at < 166 ⌝ }
 {
     tally[at] = std::num::wrapping_add_u64(tally[at], sum);
 }
@@ -67,7 +67,7 @@ fn differs(tally: &mut Tally, operation: u8, outcome: Outcome) {
 
 // Counts a case, and says whether and in what it differs.
 fn judge(tally: &mut Tally, operation: u8, met: Met)
-    requires { ⌜ operation < 8 ⌝ }
+    requires { ⌜ operation < 9 ⌝ }
 {
     add(
         tally,
@@ -132,7 +132,7 @@ fn say_all(tally: &Tally) {
 
 // Replays a file, and says what came of it.
 fn report(file: &[u8]) {
-    let mut tally = [0u64; 148];
+    let mut tally = [0u64; 166];
     let end = replay_all(file, &mut tally);
     say_all(&tally);
     fault(file.len(), end, tally[ANSWERS]);

@@ -29,7 +29,8 @@ fn answer(operation: u8, number: u64, first: &[u8], second: &[u8], out: &mut [u8
         4 => osc::osc_encode_tcp(first, number, second, out),
         5 => osc::osc_encode_string(first, out),
         6 => osc::osc_pad(number),
-        _ => osc::osc_look(first, number),
+        7 => osc::osc_look(first, number),
+        _ => osc::osc_start(first, number),
     }
 }
 

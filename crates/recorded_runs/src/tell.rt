@@ -8,8 +8,8 @@ ghost use Prim.Native.Nat.{_≤_, _<_};
 ghost use lib.ListN.{length};
 
 // The names of the operations, in the order of their numbers.
-const NAMES: [u8; 77] =
-    *b"decode_udp decode_tcp decode_tcp_vec encode encode_tcp encode_string pad look";
+const NAMES: [u8; 86] =
+    *b"decode_udp decode_tcp decode_tcp_vec encode encode_tcp encode_string pad look start_of";
 
 // Says the name of an operation.
 fn name(operation: u8) {
@@ -39,7 +39,7 @@ pub fn difference(number: u64, operation: u8, outcome: Outcome) {
 
 // Says how often an operation gave each answer.
 fn count(operation: u8, tally: &[u64])
-    requires { ⌜ (operation < 8) × (144 ≤ length (now tally)) ⌝ }
+    requires { ⌜ (operation < 9) × (162 ≤ length (now tally)) ⌝ }
 {
     name(operation);
     let from = 18 * operation as usize;
@@ -48,10 +48,10 @@ fn count(operation: u8, tally: &[u64])
 
 // Says it of every operation.
 pub fn counts(tally: &[u64])
-    requires { ⌜ 144 ≤ length (now tally) ⌝ }
+    requires { ⌜ 162 ≤ length (now tally) ⌝ }
 {
     let mut operation = 0;
-    while operation < 8 {
+    while operation < 9 {
         count(operation, tally);
         operation += 1;
     }

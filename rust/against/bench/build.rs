@@ -17,7 +17,9 @@ const PEERS: [Peer; 2] = [
 ];
 
 fn main() {
-    println!("cargo:rerun-if-changed=peers");
+    for watched in ["peers", "../../../include/osc.h"] {
+        println!("cargo:rerun-if-changed={watched}");
+    }
     for peer in PEERS {
         println!("cargo:rustc-check-cfg=cfg({})", peer.name);
         if builds(&peer) {

@@ -39,6 +39,7 @@ mod c {
         pub fn osc_encode_string(text: *const u8, len: usize, out: *mut u8, out_len: usize) -> u64;
         pub fn osc_pad(pos: u64) -> u64;
         pub fn osc_look(table: *const u8, table_len: usize, index: u64) -> u64;
+        pub fn osc_start(table: *const u8, table_len: usize, index: u64) -> u64;
     }
 }
 
@@ -86,6 +87,11 @@ pub fn pad(pos: u64) -> u64 {
 /// `osc_look`: the kind of a record in the low byte; bits 56 to 63 are the refusal's number.
 pub fn look(table: &[u8], index: u64) -> u64 {
     unsafe { c::osc_look(table.as_ptr(), table.len(), index) }
+}
+
+/// `osc_start`: where the item of a record begins, in bits 0 to 31; bits 56 to 63 are the refusal's number.
+pub fn start(table: &[u8], index: u64) -> u64 {
+    unsafe { c::osc_start(table.as_ptr(), table.len(), index) }
 }
 
 /// The three decoders.
@@ -156,10 +162,17 @@ impl<'a> Nodes<'a> {
         u32::from_be_bytes([e, f, g, h]) as usize
     }
 
+    /// Where the item of a record began. No rule of a well-formed tree is about it.
+    #[inline]
+    pub fn start(self, index: usize) -> usize {
+        let [.., e, f, g, h] = self.records[index];
+        u32::from_be_bytes([e, f, g, h]) as usize
+    }
+
     /// What a record says.
     #[inline]
     pub fn value(self, index: usize) -> Value<'a> {
-        let [kind, _, _, _, _, _, _, _, p, q, r, s, t, u, v, w] = self.records[index];
+        let [kind, _, _, _, _, _, _, _, p, q, r, s, t, u, v, w, ..] = self.records[index];
         let (a, b) = (u32::from_be_bytes([p, q, r, s]), u32::from_be_bytes([t, u, v, w]));
         let long = (a as u64) << 32 | b as u64;
         match kind {

@@ -39,10 +39,12 @@ impl core::error::Error for BuildError {}
 
 /// Builds the table of one packet in a lent table, its texts and blobs in a lent source.
 ///
+/// Nothing was read, so every record's [`start`](crate::Record::start) is 0.
+///
 /// ```
 /// use sennorbai::{encode, Builder, Time};
 ///
-/// let (mut table, mut source, mut out) = ([0; 96], [0; 32], [0; 128]);
+/// let (mut table, mut source, mut out) = ([0; 120], [0; 32], [0; 128]);
 /// let mut builder = Builder::new(&mut table, &mut source);
 /// builder.bundle(Time::IMMEDIATELY)?;
 /// builder.message("/cue")?.push(7)?.push("go")?;
@@ -66,8 +68,8 @@ pub struct Builder<'a> {
 const NONE: u32 = u32::MAX;
 
 impl<'a> Builder<'a> {
-    /// An empty table over the lent buffers: 16 bytes of `table` for each record, and as much of `source` as the texts, blobs
-    /// and addresses are long.
+    /// An empty table over the lent buffers: [`RECORD`](crate::RECORD) bytes of `table` for each record, and as much of `source`
+    /// as the texts, blobs and addresses are long.
     pub fn new(table: &'a mut [u8], source: &'a mut [u8]) -> Builder<'a> {
         Builder { records: table.as_chunks_mut().0, source, count: 0, used: 0, open: NONE }
     }

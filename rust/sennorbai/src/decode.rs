@@ -15,7 +15,7 @@ pub enum Decoded<'a> {
 
 /// Reads one packet from all of a UDP packet into the lent table.
 ///
-/// A table of 16 times the length of `msg` always has room. `depth` is how deep bundles may be nested, at most
+/// A table of [`RECORD`](crate::RECORD) times the length of `msg` always has room. `depth` is how deep bundles may be nested, at most
 /// [`DEEPEST`](crate::DEEPEST).
 ///
 /// ```

@@ -5,7 +5,8 @@
 //! numbered [`Refusal`]s, which changes no lent byte.
 //!
 //! - [`decode_udp`], [`decode_tcp`] and [`decode_tcp_vec`] read. They give a [`Packet`] or [`Packets`], whose [`Record`]s
-//!   are read as typed [`Value`]s: texts are `&str` and blobs `&[u8]`, both parts of the input.
+//!   are read as typed [`Value`]s: texts are `&str` and blobs `&[u8]`, both parts of the input. [`Record::start`] and
+//!   [`Record::data`] say where in the input each stood.
 //! - [`Builder`] makes a [`Table`] from values. [`Table::check`] reads a table from anywhere.
 //! - [`encode`], [`encode_tcp`] and [`encode_string`] write.
 //! - `rosc_compat` (feature `std`, which is on by default) has the types and signatures of the crate rosc 0.11.4.
@@ -50,5 +51,5 @@ pub use decode::{decode_tcp, decode_tcp_vec, decode_udp, Decoded};
 pub use encode::{encode, encode_string, encode_tcp, pad};
 pub use limits::{DEEPEST, LONGEST, MOST, RECORD};
 pub use refusal::Refusal;
-pub use table::{look, Packet, Packets, Record, Records, Siblings, Table};
+pub use table::{look, start_of, Packet, Packets, Record, Records, Siblings, Table};
 pub use value::{Color, Midi, Time, Value};

@@ -1,7 +1,7 @@
 //! Document 01's sizes and limits.
 
 /// The bytes of a record.
-pub const RECORD: usize = 16;
+pub const RECORD: usize = 20;
 
 /// The most records that a table may have.
 pub const MOST: usize = 65_535;

@@ -26,7 +26,7 @@ impl<'a> Table<'a> {
     /// ```
     /// use sennorbai::{Refusal, Table, Value};
     ///
-    /// let bytes = *b"/\0\0\0\0\0\0\x01\0\0\0\0\0\0\0\x02";
+    /// let bytes = *b"/\0\0\0\0\0\0\x01\0\0\0\0\0\0\0\x02\0\0\0\0";
     /// let table = Table { bytes: &bytes, count: 1, source: b"/a" };
     /// assert_eq!(table.check()?.root().value(), Value::Message("/a"));
     ///
@@ -154,6 +154,56 @@ impl<'a> Record<'a> {
         self.nodes.value(self.index)
     }
 
+    /// The offset, from the first byte of the decoded input, where its data begins: a message's address, a bundle's `#bundle`, a
+    /// blob's size, a text's or number's first byte; of an array and of a tag without data, the place reached in the data.
+    ///
+    /// No rule of a table is about it, so in a [`Table`] that no decoder wrote it may be any number.
+    ///
+    /// ```
+    /// use sennorbai::{decode_udp, Refusal, DEEPEST};
+    ///
+    /// let msg = b"/cue\0\0\0\0,sTi\0\0\0\0go\0\0\0\0\0\x07";
+    /// let mut table = [0; 100];
+    /// let packet = decode_udp(msg, &mut table, DEEPEST)?;
+    /// let starts: Vec<_> = packet.records().map(|record| record.start()).collect();
+    /// assert_eq!(starts, [0, 16, 20, 20]);
+    /// # Ok::<(), Refusal>(())
+    /// ```
+    #[inline]
+    pub fn start(&self) -> usize {
+        self.nodes.start(self.index)
+    }
+
+    /// The bytes of the input that its own data takes, from its [`start`](Record::start) on: a message's address, a bundle's
+    /// `#bundle`, a blob's size and bytes, a text, the 4 or 8 bytes of a number. A NUL after a text and padding are not among
+    /// them, and neither are a message's type text, a bundle's time tag and what either contains: a record does not say where
+    /// these stand. An array and a tag without data take no bytes and have none.
+    ///
+    /// In a [`Table`] that no decoder wrote the start may be any number, and the bytes are those that stand there; there are
+    /// none where that is not in the source.
+    ///
+    /// ```
+    /// use sennorbai::{decode_udp, Refusal, DEEPEST};
+    ///
+    /// let msg = b"/cue\0\0\0\0,sbT\0\0\0\0go\0\0\0\0\0\x01\xFF\0\0\0";
+    /// let mut table = [0; 100];
+    /// let packet = decode_udp(msg, &mut table, DEEPEST)?;
+    /// let data: Vec<_> = packet.records().map(|record| record.data()).collect();
+    /// assert_eq!(data, [Some(&b"/cue"[..]), Some(b"go"), Some(b"\0\0\0\x01\xFF"), None]);
+    /// # Ok::<(), Refusal>(())
+    /// ```
+    pub fn data(&self) -> Option<&'a [u8]> {
+        let length = match self.value() {
+            Value::Message(text) | Value::Text(text) => text.len(),
+            Value::Bundle(_) => b"#bundle".len(),
+            Value::Blob(bytes) => 4 + bytes.len(),
+            Value::Int(_) | Value::Float(_) | Value::Char(_) | Value::Color(_) | Value::Midi(_) => 4,
+            Value::Long(_) | Value::Double(_) | Value::Time(_) => 8,
+            Value::Bool(_) | Value::Nil | Value::Inf | Value::Array => return None,
+        };
+        self.nodes.source().get(self.start()..self.start() + length)
+    }
+
     /// What it contains directly: a message's arguments, a bundle's elements, an array's values.
     #[inline]
     pub fn inside(&self) -> Siblings<'a> {
@@ -244,10 +294,23 @@ impl fmt::Debug for Siblings<'_> {
 /// ```
 /// use sennorbai::{look, Refusal};
 ///
-/// let table = *b"i\0\0\0\0\0\0\x01\0\0\0\x05\0\0\0\0";
+/// let table = *b"i\0\0\0\0\0\0\x01\0\0\0\x05\0\0\0\0\0\0\0\x08";
 /// assert_eq!(look(&table, 0), Ok(b'i'));
 /// assert_eq!(look(&table, 1), Err(Refusal::BadTable));
 /// ```
 pub fn look(table: &[u8], index: usize) -> Result<u8, Refusal> {
     Refusal::settle(boundary::look(table, index as u64)).map(|answer| answer as u8)
+}
+
+/// The start of the record at `index` of any table, as [`Record::start`] has it: nothing else of the record is looked at.
+///
+/// ```
+/// use sennorbai::{start_of, Refusal};
+///
+/// let table = *b"i\0\0\0\0\0\0\x01\0\0\0\x05\0\0\0\0\0\0\0\x08";
+/// assert_eq!(start_of(&table, 0), Ok(8));
+/// assert_eq!(start_of(&table, 1), Err(Refusal::BadTable));
+/// ```
+pub fn start_of(table: &[u8], index: usize) -> Result<usize, Refusal> {
+    Refusal::settle(boundary::start(table, index as u64)).map(|answer| answer as usize)
 }

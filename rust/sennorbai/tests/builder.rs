@@ -1,6 +1,6 @@
 //! Tables from values: what a builder makes is well formed, comes back, and what it cannot make it refuses.
 
-use sennorbai::{decode_udp, encode, BuildError, Builder, Color, Midi, Refusal, Table, Time, Value, DEEPEST};
+use sennorbai::{decode_udp, encode, BuildError, Builder, Color, Midi, Refusal, Table, Time, Value, DEEPEST, RECORD};
 
 /// A packet of every kind: a container is closed where the list has none.
 const EVERY: [Option<Value<'_>>; 24] = [
@@ -78,7 +78,7 @@ fn what_cannot_stand_is_misplaced() {
 
 #[test]
 fn room_runs_out() {
-    let (mut table, mut source) = ([0; 47], [0; 4]);
+    let (mut table, mut source) = ([0; 3 * RECORD - 1], [0; 4]);
     let mut builder = Builder::new(&mut table, &mut source);
     builder.message("/a").unwrap();
     assert_eq!(builder.push("abc").unwrap_err(), BuildError::SourceFull);
@@ -89,7 +89,7 @@ fn room_runs_out() {
     assert_eq!((built.count, built.source), (2, &b"/abc"[..]));
     assert!(built.check().is_ok());
 
-    let mut table = vec![0; 16 * 65_536];
+    let mut table = vec![0; RECORD * 65_536];
     let mut builder = Builder::new(&mut table, &mut source);
     builder.message("/").unwrap();
     for _ in 1..65_535 {
@@ -121,7 +121,7 @@ fn tables_from_anywhere_are_checked() {
     builder.message("/é").unwrap().push('x').unwrap().close().unwrap();
     let built = builder.finish().unwrap();
     assert!(built.check().is_ok());
-    for (at, byte) in [(0, b'x'), (3, 1), (7, 1), (11, 1), (15, 4), (16, b'#'), (23, 3), (25, 0x11), (31, 1)] {
+    for (at, byte) in [(0, b'x'), (3, 1), (7, 1), (11, 1), (15, 4), (20, b'#'), (27, 3), (29, 0x11), (35, 1)] {
         let mut bytes = built.bytes.to_vec();
         bytes[at] = byte;
         assert_eq!(Table { bytes: &bytes, ..built }.check().unwrap_err(), Refusal::BadTable, "byte {at}");

@@ -2,7 +2,7 @@
 
 use sennorbai::{
     decode_tcp, decode_tcp_vec, decode_udp, encode, encode_string, encode_tcp, look, pad, Decoded, Refusal, Table, Time,
-    Value, DEEPEST, LONGEST,
+    Value, DEEPEST, LONGEST, RECORD,
 };
 
 /// Bytes from hex digits with spaces between.
@@ -50,13 +50,13 @@ fn examples_that_are_read() {
 
 #[test]
 fn example_3_byte_for_byte() {
-    let mut table = [0xAA; 48];
+    let mut table = [0xAA; 3 * RECORD];
     let msg = hex("2F610000 2C690000 00000005");
     let packet = decode_udp(&msg, &mut table, DEEPEST).unwrap();
     assert_eq!((packet.count(), packet.rest()), (2, &b""[..]));
-    let due = hex("2F000000 00000002 00000000 00000002 69000000 00000002 00000005 00000000");
+    let due = hex("2F000000 00000002 00000000 00000002 00000000 69000000 00000002 00000005 00000000 00000008");
     assert_eq!(packet.table(), Table { bytes: &due, count: 2, source: &msg });
-    assert_eq!(table[32..], [0xAA; 16]);
+    assert_eq!(table[2 * RECORD..], [0xAA; RECORD]);
 }
 
 #[test]
@@ -83,7 +83,7 @@ fn nested(levels: usize) -> Vec<u8> {
 
 #[test]
 fn limits_of_decoders() {
-    let mut table = vec![0; 16 * 65_535];
+    let mut table = vec![0; RECORD * 65_535];
     let mut msg = b"/a\0\0,b\0\0\0\0\xFF\xF0".to_vec();
     msg.resize(LONGEST, 7);
     let packet = decode_udp(&msg, &mut table, DEEPEST).unwrap();
@@ -98,9 +98,9 @@ fn limits_of_decoders() {
     assert_eq!(decode_udp(&nested(1), &mut table, 65).unwrap_err(), Refusal::DepthLimit);
 
     let msg = b"/a\0\0,TFN\0\0\0\0";
-    assert_eq!(decode_udp(msg, &mut table[..64], DEEPEST).unwrap().count(), 4);
+    assert_eq!(decode_udp(msg, &mut table[..4 * RECORD], DEEPEST).unwrap().count(), 4);
     table.fill(0xAA);
-    assert_eq!(decode_udp(msg, &mut table[..63], DEEPEST).unwrap_err(), Refusal::TableFull);
+    assert_eq!(decode_udp(msg, &mut table[..4 * RECORD - 1], DEEPEST).unwrap_err(), Refusal::TableFull);
     assert!(table.iter().all(|&byte| byte == 0xAA));
 }
 
@@ -134,7 +134,7 @@ fn values_of_every_kind() {
         "2F610000 2C696673 62746864 63726D54 464E495B 545D0000 FFFFFFFE 7FC00001 C3A90000 00000003 01020300 00000001 00000002 \
          80000000 00000000 7FF80000 00000001 0001F600 01020304 05060708",
     );
-    let mut table = [0; 16 * 32];
+    let mut table = [0; 32 * RECORD];
     let packet = decode_udp(&msg, &mut table, DEEPEST).unwrap();
     let values: Vec<Value<'_>> = packet.root().inside().map(|record| record.value()).collect();
     let bits = |value: &Value<'_>| match *value {

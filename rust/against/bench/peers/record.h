@@ -2,8 +2,7 @@
 #ifndef BENCH_RECORD_H
 #define BENCH_RECORD_H
 
-#include <stddef.h>
-#include <stdint.h>
+#include "../../../../include/osc.h"
 #include <string.h>
 
 typedef struct {
@@ -18,7 +17,7 @@ static inline uint32_t peer_word(const uint8_t *p) {
 static inline uint64_t peer_pair(uint32_t high, uint32_t low) { return (uint64_t)high << 32 | low; }
 
 static inline peer_record peer_record_at(const uint8_t *table, size_t index) {
-    const uint8_t *p = table + 16 * index;
+    const uint8_t *p = table + OSC_RECORD * index;
     peer_record r = {p[0], peer_word(p + 4), peer_word(p + 8), peer_word(p + 12)};
     return r;
 }

@@ -28,7 +28,7 @@ const STACK: usize = 1 << 30;
 
 const NOTES: &str = "\
 compat is the port by `sennorbai::rosc_compat`, with rosc's types and signatures.
-Buffers: the port's table (1 MB) and each output are lent again for every call and never cleared. rosc and compat allocate a
+Buffers: the port's table (1.3 MB) and each output are lent again for every call and never cleared. rosc and compat allocate a
 tree for each decode and a vector for each encode, liblo a message for each decode; freeing them counts. oscpack reads in place.
 Decode reads every argument: its number, or the length and the last byte of its text; all sides sum these up alike.
 Encode starts from what a program holds: the port's from a table, rosc's and liblo's from built packets, oscpack's from values.

@@ -13,10 +13,11 @@ pub enum Call {
     EncodeString = 5,
     Pad = 6,
     Look = 7,
+    Start = 8,
 }
 
 // Each call has a name in the counts.
-const _: () = assert!(Call::Look as usize + 1 == CALLS.len());
+const _: () = assert!(Call::Start as usize + 1 == CALLS.len());
 
 pub const DECODERS: [Call; 3] = [Call::Udp, Call::Tcp, Call::TcpVec];
 

@@ -32,6 +32,7 @@ impl Case {
             Call::EncodeString => judge::encode_string(asked, due, seen),
             Call::Pad => judge::pad(asked, due, seen),
             Call::Look => judge::look(asked, due, seen),
+            Call::Start => judge::start(asked, due, seen),
         }
         if call.encodes() || call == Call::EncodeString {
             self.asked.room = self.due.wrote.len() + 8;
@@ -76,7 +77,8 @@ impl Case {
             41..=54 => self.encode(r),
             55..=58 => self.string(r),
             59..=60 => self.pad(r),
-            _ => self.look(r),
+            61..=62 => self.look(r),
+            _ => self.start(r),
         }
     }
 
@@ -156,7 +158,7 @@ impl Case {
                     OscPacket::Bundle(OscBundle { timetag: OscTime { seconds: 0, fractional: 1 }, content: vec![packet] });
             }
         }
-        self.encode_tree(&packet);
+        self.encode_tree(r, &packet);
         let spoiled = r.one_in(2);
         if spoiled {
             spoil::table(r, &mut self.asked);
@@ -166,9 +168,12 @@ impl Case {
         self.fit(r);
     }
 
-    /// Asks for the table of a packet; what is odd in its texts is noted.
-    fn encode_tree(&mut self, packet: &OscPacket) {
-        crate::table::put_with_source(&mut self.asked.first, &mut self.asked.second, packet);
+    /// Asks for the table of a packet, with any starts; what is odd in its texts is noted.
+    fn encode_tree(&mut self, r: &mut Random, packet: &OscPacket) {
+        let any = !r.one_in(8);
+        self.seen.note_if(Rule::StartAny, any);
+        let start = || if any { r.next() as u32 } else { 0 };
+        crate::table::put_with_source(&mut self.asked.first, &mut self.asked.second, packet, start);
         self.asked.number = (self.asked.first.len() / RECORD) as u64;
         if let OscPacket::Message(OscMessage { addr, args }) = packet {
             self.seen.note_if(Rule::NoSlash, !addr.starts_with('/'));
@@ -220,6 +225,12 @@ impl Case {
         self.asked.begin(Call::Look);
         spoil::records(r, &mut self.asked);
         judge::look(&self.asked, &mut self.due, &mut self.seen);
+    }
+
+    fn start(&mut self, r: &mut Random) {
+        self.asked.begin(Call::Start);
+        spoil::records(r, &mut self.asked);
+        judge::start(&self.asked, &mut self.due, &mut self.seen);
     }
 }
 

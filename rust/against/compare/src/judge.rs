@@ -4,7 +4,7 @@ use crate::ask::{Asked, Call, Due};
 use crate::met::{Rule, Seen};
 use crate::oracle::{self, Told};
 use crate::rules;
-use crate::table::{Reader, RECORD};
+use crate::table::{word, Reader, RECORD};
 use crate::walk;
 use rosc::encoder;
 
@@ -134,6 +134,18 @@ pub fn pad(asked: &Asked, due: &mut Due, seen: &mut Seen) {
     let last = u64::MAX - 3;
     seen.note_if(Rule::PadTop, asked.number <= last && asked.number > last - 16);
     due.answer = if asked.number > last { 14 } else { encoder::pad(asked.number) };
+}
+
+/// What `start` must answer: the last number of a record, whatever else it says, and 11 where there is no such record.
+pub fn start(asked: &Asked, due: &mut Due, seen: &mut Seen) {
+    due.wrote.clear();
+    match asked.first.chunks_exact(RECORD).nth(asked.number as usize) {
+        Some(record) => due.answer = word(record, 16) as u64,
+        None => {
+            seen.note(Rule::StartIndex);
+            due.refuse(11);
+        }
+    }
 }
 
 /// What `look` must answer.

@@ -21,6 +21,7 @@ mod oracle;
 mod peers;
 mod port;
 mod random;
+mod reached;
 mod record;
 mod rules;
 mod run;

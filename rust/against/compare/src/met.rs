@@ -82,6 +82,13 @@ rules! {
     LookZeros 1 "look: zero bytes",
     LookField 1 "look: zero fields",
     LookScalar 1 "look: no scalar number",
+    StartIndex 1 "start: index at or over the capacity",
+    StartArray 1 "start: an array after data",
+    StartNoData 1 "start: a tag without data after data",
+    StartUnclosed 1 "start: kept of an unclosed array, data lost before it",
+    StartOdd 1 "start: data at no multiple of 4",
+    StartConfirmed 1 "start: the crate confirms how far it has read",
+    StartAny 1 "encode: starts that no decoder writes",
     PadTop 1 "pad: up to 2^64 - 4",
     LibloWhole 1 "liblo: as written",
     LibloRead 1 "liblo: as written, all of it read",
@@ -123,9 +130,9 @@ impl Seen {
 pub const KINDS: &[u8] = b"/#sbifhdtcrmTFNI[";
 
 /// The calls by name, in the order of their numbers.
-pub const CALLS: [&str; 8] = ["udp", "tcp", "tcp_vec", "encode", "encode_tcp", "encode_string", "pad", "look"];
+pub const CALLS: [&str; 9] = ["udp", "tcp", "tcp_vec", "encode", "encode_tcp", "encode_string", "pad", "look", "start"];
 
-/// How many of the calls `rosc_compat` has: all but the last.
+/// How many of the calls `rosc_compat` has: all but the last two.
 const SHARED: usize = 7;
 
 /// Numbers of refusals, 0 for an answer.

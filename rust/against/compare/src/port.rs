@@ -1,6 +1,7 @@
 //! The port, called in this process. What it may write lies between bytes of a known pattern, and so does what it reads.
 
 use crate::ask::{Asked, Call, Due};
+use crate::table::{word, RECORD};
 use sennorbai::boundary;
 
 /// The bytes of the pattern before and after each lent slice.
@@ -57,7 +58,21 @@ impl Bench {
             Call::EncodeString => boundary::encode_string(first, room),
             Call::Pad => boundary::pad(asked.number),
             Call::Look => boundary::look(first, asked.number),
+            Call::Start => boundary::start(first, asked.number),
         }
+    }
+
+    /// The first record of the table that a decoder wrote, or the one past the last that has room, whose start is told otherwise
+    /// than it stands there.
+    fn other_start(&self, asked: &Asked, due: &Due) -> Option<usize> {
+        if !asked.call.decodes() {
+            return None;
+        }
+        let (room, past) = (&self.room[GUARD..GUARD + asked.room], asked.room / RECORD);
+        let told = |index: usize| boundary::start(room, index as u64);
+        let records = due.wrote.chunks_exact(RECORD).map(|record| word(record, 16) as u64);
+        let other = records.enumerate().find(|(index, start)| told(*index) != *start).map(|(index, _)| index);
+        other.or((told(past) != 11 << 56).then_some(past))
     }
 
     /// Asks the port; the words say how the answer, a byte written or a byte not to be written differ from what is due.
@@ -72,6 +87,7 @@ impl Bench {
             && self.room[..GUARD] == *guard
             && self.room[GUARD..wrote] == *due.wrote
             && self.room[wrote..whole] == self.pattern[wrote..whole]
+            && self.other_start(asked, due).is_none()
             && kept(&self.first, guard, &asked.first)
             && kept(&self.second, guard, &asked.second);
         let words = if same { None } else { Some(self.words(asked, due, answer)) };
@@ -93,6 +109,9 @@ impl Bench {
                 self.room[at],
                 due_at(at)
             );
+        }
+        if let Some(index) = self.other_start(asked, due) {
+            words += &format!(", the start of record {index} is told otherwise");
         }
         if read {
             words += ", a byte that is only read was changed";

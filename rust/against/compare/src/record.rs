@@ -11,8 +11,8 @@ use std::fs;
 use std::path::Path;
 
 /// The longest case in the file, the most room that it needs, and how many random cases are looked at.
-const LONGEST_CASE: usize = 300;
-const MOST_ROOM: usize = 512;
+const LONGEST_CASE: usize = 360;
+const MOST_ROOM: usize = 640;
 const LOOKED_AT: u64 = 400_000;
 /// The short cases are looked at in steps.
 const STEP: u64 = 41;
@@ -80,6 +80,7 @@ fn buckets(asked: &Asked, due: &Due, seen: Seen) -> Vec<Bucket> {
         Call::Pad => all.push(Bucket::Position(64 - asked.number.leading_zeros() as u8, asked.number as u8 % 8)),
         Call::Look if refusal == 0 => all.push(Bucket::Kind(call, due.answer as u8)),
         Call::Look => all.push(Bucket::Looked(looked(asked))),
+        Call::Start => all.push(Bucket::Length(call, small(asked.first.len()))),
         _ => {
             all.push(Bucket::Length(call, small(asked.first.len())));
             all.push(Bucket::Wrote(call, small(due.wrote.len() / 4)));
@@ -194,10 +195,10 @@ fn note(sample: &Sample, seed: u64) -> String {
 const HEAD: &str = "# The recorded answers
 
 data/answers.bin holds a sample of the answers of rosc 0.11.4, built unchanged, as document 01 has them: its packets as node
-tables, its errors as numbers, and document 01's limits, rules of a table and of a record on top. The port had no part in it.
-The sample is chosen for coverage: a case is kept if it adds an answer, rule, kind, length or limit that is not there often
-enough. Document 01's examples P1 to P14 come first. What needs long slices (refusal 1, depth 64 and 65) is not here: the
-program case_runs has it.
+tables, its errors as numbers, and document 01's limits, rules of a table and of a record on top. Where each item began is
+found by a walk over the input that the crate's packets lead. The port had no part in it. The sample is chosen for coverage:
+a case is kept if it adds an answer, rule, kind, length or limit that is not there often enough. Document 01's examples P1 to
+P14 come first. What needs long slices (refusal 1, depth 64 and 65) is not here: the program case_runs has it.
 ";
 
 const FORMAT: &str = "
@@ -207,7 +208,7 @@ Cases one after another, all numbers big-endian.
 
 | Bytes | What |
 |---|---|
-| 1 | 0 `decode_udp`, 1 `decode_tcp`, 2 `decode_tcp_vec`, 3 `encode`, 4 `encode_tcp`, 5 `encode_string`, 6 `pad`, 7 `look` |
+| 1 | 0 `decode_udp`, 1 `decode_tcp`, 2 `decode_tcp_vec`, 3 `encode`, 4 `encode_tcp`, 5 `encode_string`, 6 `pad`, 7 `look`, 8 `start_of` |
 | 8 | depth, count, position or index; 0 for `encode_string` |
 | 4 | room: bytes of the buffer that the call may write |
 | 4, n | length and bytes of the input, table or text; none for `pad` |

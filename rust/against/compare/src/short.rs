@@ -16,7 +16,7 @@ enum Family {
     Texts,
     /// Records, as the whole table of each encoder.
     Tables,
-    /// Any kind byte with one bit of the zero bytes or fields set or none, as the one record for `look`.
+    /// Any kind byte with one bit of the zero bytes, fields or start set or none, as the one record for `look` and for `start`.
     Records,
     /// Positions for `pad`: low ones, and the very last.
     Positions,
@@ -78,7 +78,7 @@ impl Family {
     fn letters(self) -> u64 {
         match self {
             Family::Tables => CONTAINED.len() as u64 * ENDS,
-            Family::Records => 256 * (1 + 24 + 64),
+            Family::Records => 256 * (1 + 24 + 96),
             Family::Positions => LOW + LAST,
             _ => self.alphabet().len() as u64,
         }
@@ -99,7 +99,7 @@ impl Family {
             Family::Types => "characters of type text, each decoder",
             Family::Texts => "bytes of text, encode_string",
             Family::Tables => "records, each encoder",
-            Family::Records => "records with one bit set, look",
+            Family::Records => "records with one bit set, look and start",
             Family::Positions => "positions, pad",
         }
     }
@@ -109,7 +109,7 @@ impl Family {
             Family::Bytes | Family::Groups | Family::Types => &DECODERS,
             Family::Texts => &[Call::EncodeString],
             Family::Tables => &[Call::Encode, Call::EncodeTcp],
-            Family::Records => &[Call::Look],
+            Family::Records => &[Call::Look, Call::Start],
             Family::Positions => &[Call::Pad],
         }
     }
@@ -162,12 +162,13 @@ fn push(family: Family, letter: u64, asked: &mut Asked) {
             let mut record = [0; RECORD];
             record[0] = CONTAINED[(letter / ENDS) as usize];
             record[7] = (letter % ENDS) as u8;
+            record[16..].fill(letter as u8);
             asked.first.extend_from_slice(&record);
             asked.number += 1;
         }
         Family::Records => {
             let mut record = [0; RECORD];
-            let bits = [8..32, 64..128].into_iter().flatten();
+            let bits = [8..32, 64..160].into_iter().flatten();
             if let Some(bit) = (letter / 256).checked_sub(1).and_then(|nth| bits.clone().nth(nth as usize)) {
                 record[bit / 8] |= 1 << (bit % 8);
             }

@@ -8,8 +8,8 @@ use crate::table::{word, RECORD};
 /// Bytes for a record: numbers, kinds, and what is part of a surrogate or of no number.
 const BYTES: &[u8] = &[0, 1, 2, 4, 0x10, 0x11, b'/', b'#', b'[', b'T', b's', b'c', b'i', b'x', 0xD8, 0xDF, 0xE0, 0xFF];
 
-/// Counts that no table has, also where 16 times the count is over 2^64.
-const COUNTS: &[u64] = &[0, 65_535, 65_536, 1 << 32, 1 << 60, (1 << 60) + 1, u64::MAX];
+/// Counts that no table has, also where 20 times the count is over 2^64, and little over a multiple of it.
+const COUNTS: &[u64] = &[0, 65_535, 65_536, 1 << 32, 1 << 60, 1 << 62, (1 << 62) + 1, u64::MAX];
 
 /// Spoils one thing about a call to an encoder. The table may be well formed still: the rules tell.
 pub fn table(r: &mut Random, asked: &mut Asked) {
@@ -22,7 +22,7 @@ pub fn table(r: &mut Random, asked: &mut Asked) {
         3 => shift(r, &mut asked.first, at + 4, 2),
         4 => shift(r, &mut asked.first, at + 8, 9),
         5 => shift(r, &mut asked.first, at + 12, 9),
-        6 => asked.first[at + 4 + r.below(12)] = r.pick(BYTES),
+        6 => asked.first[at + 4 + r.below(RECORD - 4)] = r.pick(BYTES),
         7 => asked.number = if r.one_in(2) { r.pick(COUNTS) } else { asked.number + 1 - 2 * r.below(2) as u64 },
         8 => {
             let length = asked.first.len() - r.below(RECORD + 2);
@@ -71,20 +71,21 @@ pub fn records(r: &mut Random, asked: &mut Asked) {
     for _ in 0..records {
         let mut record = [0; RECORD];
         record[0] = if r.one_in(3) { r.next() as u8 } else { r.pick(KINDS) };
-        let end = r.next() as u32;
-        record[4..8].copy_from_slice(&end.to_be_bytes());
+        for at in [4, 16] {
+            record[at..at + 4].copy_from_slice(&(r.next() as u32).to_be_bytes());
+        }
         match r.below(6) {
             0 => record[1 + r.below(3)] = 1 << r.below(8),
             1 => record[8 + r.below(8)] = 1 << r.below(8),
             2 => scalar(r, &mut record),
-            3 => record[8..].copy_from_slice(&r.next().to_be_bytes()),
+            3 => record[8..16].copy_from_slice(&r.next().to_be_bytes()),
             _ => {}
         }
         asked.first.extend_from_slice(&record);
     }
     asked.first.resize(RECORD * records + r.below(RECORD), 0);
     asked.number = match r.below(12) {
-        0 => r.pick(&[1 << 28, 1 << 32, 1 << 60, u64::MAX]),
+        0 => r.pick(&[1 << 30, 1 << 32, 1 << 62, u64::MAX]),
         1 | 2 => (records + r.below(2)) as u64,
         _ => r.below(records.max(1)) as u64,
     };

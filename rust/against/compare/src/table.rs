@@ -3,18 +3,25 @@
 use rosc::{OscArray, OscBundle, OscColor, OscMessage, OscMidiMessage, OscPacket, OscTime, OscType};
 
 /// The bytes of a record.
-pub const RECORD: usize = 16;
+pub const RECORD: usize = 20;
 
-/// Tells where the bytes of an address, text or blob stand.
-pub type Place<'a> = dyn FnMut(&[u8]) -> u32 + 'a;
+/// Where an item begins, and where its range: only an address, text or blob has one.
+#[derive(Clone, Copy, Debug, PartialEq, Eq)]
+pub struct Spot {
+    pub start: u32,
+    pub range: u32,
+}
+
+/// Tells where the next item stands, by the bytes of its range, which may be none.
+pub type Place<'a> = dyn FnMut(&[u8]) -> Spot + 'a;
 
 /// Appends a record that ends right after itself; answers its place.
-fn open(to: &mut Vec<u8>, kind: u8, a: u32, b: u32) -> usize {
+fn open(to: &mut Vec<u8>, kind: u8, [a, b]: [u32; 2], start: u32) -> usize {
     let at = to.len();
     to.extend_from_slice(&[kind, 0, 0, 0]);
-    to.extend_from_slice(&((at / RECORD + 1) as u32).to_be_bytes());
-    to.extend_from_slice(&a.to_be_bytes());
-    to.extend_from_slice(&b.to_be_bytes());
+    for number in [(at / RECORD + 1) as u32, a, b, start] {
+        to.extend_from_slice(&number.to_be_bytes());
+    }
     at
 }
 
@@ -28,12 +35,13 @@ fn close(to: &mut [u8], at: usize) {
 pub fn put_packet(to: &mut Vec<u8>, packet: &OscPacket, place: &mut Place) {
     match packet {
         OscPacket::Message(message) => {
-            let at = open(to, b'/', place(message.addr.as_bytes()), message.addr.len() as u32);
+            let spot = place(message.addr.as_bytes());
+            let at = open(to, b'/', [spot.range, message.addr.len() as u32], spot.start);
             message.args.iter().for_each(|value| put_value(to, value, place));
             close(to, at);
         }
         OscPacket::Bundle(bundle) => {
-            let at = open(to, b'#', bundle.timetag.seconds, bundle.timetag.fractional);
+            let at = open(to, b'#', [bundle.timetag.seconds, bundle.timetag.fractional], place(&[]).start);
             bundle.content.iter().for_each(|packet| put_packet(to, packet, place));
             close(to, at);
         }
@@ -41,36 +49,44 @@ pub fn put_packet(to: &mut Vec<u8>, packet: &OscPacket, place: &mut Place) {
 }
 
 fn put_value(to: &mut Vec<u8>, value: &OscType, place: &mut Place) {
-    let halves = |x: u64| ((x >> 32) as u32, x as u32);
-    let (kind, (a, b)) = match value {
-        OscType::Int(x) => (b'i', (*x as u32, 0)),
-        OscType::Float(x) => (b'f', (x.to_bits(), 0)),
-        OscType::String(x) => (b's', (place(x.as_bytes()), x.len() as u32)),
-        OscType::Blob(x) => (b'b', (place(x), x.len() as u32)),
-        OscType::Time(x) => (b't', (x.seconds, x.fractional)),
+    let bytes = match value {
+        OscType::String(x) => x.as_bytes(),
+        OscType::Blob(x) => x,
+        _ => &[],
+    };
+    let spot = place(bytes);
+    let range = [spot.range, bytes.len() as u32];
+    let halves = |x: u64| [(x >> 32) as u32, x as u32];
+    let four = |x: [u8; 4]| [u32::from_be_bytes(x), 0];
+    let (kind, numbers) = match value {
+        OscType::String(_) => (b's', range),
+        OscType::Blob(_) => (b'b', range),
+        OscType::Int(x) => (b'i', [*x as u32, 0]),
+        OscType::Float(x) => (b'f', [x.to_bits(), 0]),
+        OscType::Time(x) => (b't', [x.seconds, x.fractional]),
         OscType::Long(x) => (b'h', halves(*x as u64)),
         OscType::Double(x) => (b'd', halves(x.to_bits())),
-        OscType::Char(x) => (b'c', (*x as u32, 0)),
-        OscType::Color(x) => (b'r', (u32::from_be_bytes([x.red, x.green, x.blue, x.alpha]), 0)),
-        OscType::Midi(x) => (b'm', (u32::from_be_bytes([x.port, x.status, x.data1, x.data2]), 0)),
-        OscType::Bool(x) => (if *x { b'T' } else { b'F' }, (0, 0)),
-        OscType::Nil => (b'N', (0, 0)),
-        OscType::Inf => (b'I', (0, 0)),
-        OscType::Array(_) => (b'[', (0, 0)),
+        OscType::Char(x) => (b'c', [*x as u32, 0]),
+        OscType::Color(x) => (b'r', four([x.red, x.green, x.blue, x.alpha])),
+        OscType::Midi(x) => (b'm', four([x.port, x.status, x.data1, x.data2])),
+        OscType::Bool(x) => (if *x { b'T' } else { b'F' }, [0, 0]),
+        OscType::Nil => (b'N', [0, 0]),
+        OscType::Inf => (b'I', [0, 0]),
+        OscType::Array(_) => (b'[', [0, 0]),
     };
-    let at = open(to, kind, a, b);
+    let at = open(to, kind, numbers, spot.start);
     if let OscType::Array(array) = value {
         array.content.iter().for_each(|value| put_value(to, value, place));
         close(to, at);
     }
 }
 
-/// Appends the table of a packet, and to `source` all that its ranges are over.
-pub fn put_with_source(table: &mut Vec<u8>, source: &mut Vec<u8>, packet: &OscPacket) {
+/// Appends the table of a packet, with any starts, and to `source` all that its ranges are over.
+pub fn put_with_source(table: &mut Vec<u8>, source: &mut Vec<u8>, packet: &OscPacket, mut start: impl FnMut() -> u32) {
     put_packet(table, packet, &mut |bytes| {
-        let at = source.len() as u32;
+        let range = source.len() as u32;
         source.extend_from_slice(bytes);
-        at
+        Spot { start: start(), range }
     });
 }
 

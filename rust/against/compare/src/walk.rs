@@ -1,9 +1,11 @@
-//! Where the texts of the crate's packets stand in the input, which the crate does not tell: a walk over the input's bytes
-//! that is led by the crate's packets. It decides nothing; it only finds offsets, and notes which rules were at work.
+//! Where the items of the crate's packets stand in the input, which the crate does not tell: a walk over the input's bytes
+//! that is led by the crate's packets. It decides nothing; it only finds offsets, and notes which rules were at work. What it
+//! finds is held to the crate: an item's value stands where it begins, and the crate confirms how far a message was read.
 
 use crate::met::{Rule, Seen};
 use crate::oracle;
-use crate::table::{put_packet, word};
+use crate::reached::Reached;
+use crate::table::{put_packet, word, Spot, RECORD};
 use rosc::{decoder, OscBundle, OscMessage, OscPacket};
 
 pub struct Walk<'a> {
@@ -11,13 +13,16 @@ pub struct Walk<'a> {
     /// Where the position is counted from: the start of the input or of the frame.
     base: usize,
     at: usize,
-    offsets: Vec<u32>,
+    /// Where each item stands that is kept, containers before what they contain.
+    spots: Vec<Spot>,
+    /// Where the data of the message stands before each tag and after the last.
+    positions: Vec<usize>,
     seen: Seen,
 }
 
 /// The table of the crate's packets over an input, with the offsets that the walk finds. The bytes left over must agree.
 pub fn table(input: &[u8], prefix: usize, packets: &[OscPacket], left: usize, to: &mut Vec<u8>, seen: &mut Seen) {
-    let mut walk = Walk { input, base: 0, at: 0, offsets: Vec::new(), seen: *seen };
+    let mut walk = Walk { input, base: 0, at: 0, spots: Vec::new(), positions: Vec::new(), seen: *seen };
     for packet in packets {
         walk.frame(prefix, packet);
     }
@@ -25,15 +30,32 @@ pub fn table(input: &[u8], prefix: usize, packets: &[OscPacket], left: usize, to
     walk.seen.note_if(Rule::LeftOver, left > 0);
     walk.seen.note_if(Rule::Several, packets.len() > 1);
     *seen = walk.seen;
-    let mut next = walk.offsets.iter();
+    let mut next = walk.spots.iter();
     for packet in packets {
         put_packet(to, packet, &mut |bytes| {
-            let at = *next.next().expect("an offset for each range");
-            assert_eq!(input[at as usize..][..bytes.len()], *bytes, "the walk found other bytes than the crate");
-            at
+            let spot = *next.next().expect("a spot for each item");
+            assert_eq!(input[spot.range as usize..][..bytes.len()], *bytes, "the walk found other bytes than the crate");
+            spot
         });
     }
-    assert!(next.next().is_none(), "a range for each offset");
+    assert!(next.next().is_none(), "an item for each spot");
+    for record in to.chunks_exact(RECORD) {
+        assert!(begins(input, record), "the crate's value does not stand where the walk says: {input:02X?}");
+    }
+}
+
+/// Whether the value of a record, as the crate gave it, stands where the walk says that the item begins. A tag without data and
+/// an array have none.
+fn begins(input: &[u8], record: &[u8]) -> bool {
+    let (a, b, start) = (word(record, 8), word(record, 12), word(record, 16) as usize);
+    match record[0] {
+        b'#' => input[start..].starts_with(b"#bundle\0"),
+        b'/' | b's' => a as usize == start && input[start + b as usize] == 0,
+        b'b' => a as usize == start + 4 && word(input, start) == b,
+        b'i' | b'f' | b'c' | b'r' | b'm' => word(input, start) == a,
+        b'h' | b'd' | b't' => word(input, start) == a && word(input, start + 4) == b,
+        _ => true,
+    }
 }
 
 impl Walk<'_> {
@@ -57,7 +79,7 @@ impl Walk<'_> {
     /// Walks over a packet whose bytes end at `end` at the latest.
     fn packet(&mut self, packet: &OscPacket, end: usize) {
         match packet {
-            OscPacket::Message(message) => self.message(message),
+            OscPacket::Message(message) => self.message(message, end),
             OscPacket::Bundle(bundle) => self.bundle(bundle, end),
         }
     }
@@ -78,12 +100,18 @@ impl Walk<'_> {
         from..from + length
     }
 
-    fn message(&mut self, message: &OscMessage) {
-        self.offsets.push(self.at as u32);
+    /// The next item begins here.
+    fn begin(&mut self) {
+        let start = self.at as u32;
+        self.spots.push(Spot { start, range: start });
+    }
+
+    fn message(&mut self, message: &OscMessage, end: usize) {
+        self.begin();
         let address = self.text();
         assert_eq!(address.len(), message.addr.len());
         let range = self.text();
-        let types = std::str::from_utf8(&self.input[range]).expect("type text is UTF-8");
+        let types = std::str::from_utf8(&self.input[range.clone()]).expect("type text is UTF-8");
         self.seen.note_if(Rule::TypesEmpty, types.is_empty());
         self.seen.note_if(Rule::TypesOne, types.len() == 1);
         if types.len() < 2 {
@@ -92,32 +120,63 @@ impl Walk<'_> {
         let first = types.chars().next().unwrap_or(',');
         self.seen.note_if(Rule::TypesNoComma, first != ',');
         self.seen.note_if(Rule::TypesWide, first.len_utf8() > 1);
-        let outside = self.offsets.len();
+        let tags = range.start + first.len_utf8()..range.end;
+        self.arguments(&types[first.len_utf8()..]);
+        self.confirm(address.start, tags, end);
+    }
+
+    /// Walks over arguments. Of an array that is not closed only what it contains is kept, without the array itself.
+    fn arguments(&mut self, tags: &str) {
+        let (outside, data) = (self.spots.len(), self.at);
         let mut open = Vec::new();
-        for tag in types.chars().skip(1) {
+        self.positions.clear();
+        for tag in tags.chars() {
             self.seen.note_if(Rule::ArrayNested, tag == '[' && !open.is_empty());
+            self.seen.note_if(Rule::StartArray, tag == '[' && self.at > data);
+            self.seen.note_if(Rule::StartNoData, "TFNI".contains(tag) && self.at > data);
+            self.positions.push(self.at);
+            if tag == ']' {
+                open.pop();
+                continue;
+            }
+            self.begin();
             match tag {
-                '[' => open.push(self.offsets.len()),
-                ']' => drop(open.pop()),
+                '[' => open.push(self.spots.len()),
                 _ => self.data(tag),
             }
         }
+        self.positions.push(self.at);
         if let Some(kept) = open.pop() {
             self.seen.note(Rule::ArrayUnclosed);
-            self.offsets.drain(outside..kept);
+            self.seen.note_if(Rule::StartUnclosed, self.spots.get(kept).is_some_and(|spot| spot.start as usize > data));
+            self.spots.drain(outside..kept);
+        }
+    }
+
+    /// Has the crate confirm how far it has read a small message before each of the tags.
+    fn confirm(&mut self, from: usize, tags: std::ops::Range<usize>, end: usize) {
+        self.positions.iter_mut().for_each(|position| *position -= from);
+        let reached = Reached {
+            message: &self.input[from..end],
+            odd: (from - self.base) % 4,
+            tags: tags.start - from..tags.end - from,
+            positions: &self.positions,
+        };
+        if reached.is_small() {
+            assert!(reached.is_so(), "the crate has not read as far as the walk: {:02X?}", self.input);
+            self.seen.note(Rule::StartConfirmed);
         }
     }
 
     fn data(&mut self, tag: char) {
+        self.seen.note_if(Rule::StartOdd, !self.at.is_multiple_of(4) && !"TFNI".contains(tag));
         match tag {
             'i' | 'f' | 'c' | 'r' | 'm' => self.at += 4,
             'h' | 'd' | 't' => self.at += 8,
-            's' => {
-                self.offsets.push(self.at as u32);
-                self.text();
-            }
+            's' => drop(self.text()),
             'b' => {
-                self.offsets.push(self.at as u32 + 4);
+                let last = self.spots.last_mut().expect("the blob's own spot");
+                last.range += 4;
                 self.at += 4 + word(self.input, self.at) as usize;
                 self.pad();
             }
@@ -126,6 +185,7 @@ impl Walk<'_> {
     }
 
     fn bundle(&mut self, bundle: &OscBundle, end: usize) {
+        self.begin();
         self.at += 8;
         self.pad();
         self.at += 8;

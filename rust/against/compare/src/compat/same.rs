@@ -6,7 +6,7 @@ use rosc::{OscMessage, OscPacket, OscType};
 pub fn same_packets(one: &OscPacket, other: &OscPacket) -> bool {
     let table = |packet: &OscPacket| {
         let (mut table, mut source) = (Vec::new(), Vec::new());
-        put_with_source(&mut table, &mut source, packet);
+        put_with_source(&mut table, &mut source, packet, || 0);
         (table, source)
     };
     table(one) == table(other)
