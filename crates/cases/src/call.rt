@@ -4,12 +4,13 @@ use encoder::Encoded;
 use refusal::Refusal;
 use runs::said::put_text;
 use values::look::Looked;
+use values::look::Started;
 use values::value::OscType;
 use wire::Padded;
 
 // The names of the calls. A call is the place of its name, from 0 on; the last is for what is none.
-pub const NAMES: [u8; 90] =
-    *b"decode_udp decode_tcp decode_tcp_vec encode encode_tcp encode_string pad look text_of none";
+pub const NAMES: [u8; 99] =
+    *b"decode_udp decode_tcp decode_tcp_vec encode encode_tcp encode_string pad look text_of start_of none";
 
 // The answers: given, waiting, refused with a number (this and the number), and none that is known.
 pub const GIVEN: usize = 0;
@@ -111,6 +112,14 @@ fn looked(answer: Looked) -> Outcome {
     }
 }
 
+// What `start_of` answered.
+fn started(answer: Started) -> Outcome {
+    match answer {
+        Started::At(position) => given(position as u64, 0),
+        Started::Refused(refusal) => refused(refusal),
+    }
+}
+
 // Puts the text that a value names into what is lent.
 fn put_named(value: OscType, packet: &[u8], lent: &mut [u8]) -> usize {
     put_text(lent, 0, values::look::text_of(value, packet, &LABEL))
@@ -156,6 +165,9 @@ fn leaf(call: usize, number: u64, packet: &[u8], table: &[u8], lent: &mut [u8]) 
     }
     if call == 8 {
         return named(values::look::look(table, number as usize), packet, lent);
+    }
+    if call == 9 {
+        return started(values::look::start_of(table, number as usize));
     }
     empty(UNKNOWN)
 }

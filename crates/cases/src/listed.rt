@@ -1,6 +1,7 @@
-// A table as a line lists it: records with " ; " between them, each its kind, end, a and b. A kind may have a number and '*' before it,
-// for so many records, and is four bytes in hexadecimal where the three bytes after it are not to be 0. An end or an a that is two
-// numbers with '+' between them is the first, and grows by the second from record to record.
+// A table as a line lists it: records with " ; " between them, each its kind, end, a, b and start, which may be left out where it is 0.
+// A kind may have a number and '*' before it, for so many records, and is four bytes in hexadecimal where the three bytes after it are
+// not to be 0. An end, an a or a start that is two numbers with '+' between them is the first, and grows by the second from record to
+// record.
 use runs::spelled::is_number;
 use wire::be_u32;
 use wire::put_u32;
@@ -13,10 +14,10 @@ use words::numeral::number;
 ghost use Prim.Native.Nat.{_≤_};
 ghost use Rattle.runs.specs.Put.{Put};
 
-// The bytes of a record, four numbers of four bytes: document 01, "The node table".
-const RECORD: usize = 16;
+// The bytes of a record, five numbers of four bytes: document 01, "The node table".
+const RECORD: usize = 20;
 
-// The numbers of a record: its first four bytes, its end and its a, with how much these grow, and its b.
+// The numbers of a record: its first four bytes, its end, its a and its start, with how much these grow, and its b.
 struct Row {
     first: u32,
     end: u32,
@@ -24,14 +25,16 @@ struct Row {
     a: u32,
     a_step: u32,
     b: u32,
+    start: u32,
+    start_step: u32,
 }
 
 // How many bytes so many records are; more than is ever lent where they are too many.
 pub fn size_of(records: u64) -> usize
-    ensures { λ r. ⌜ r ≤ 2097152 ⌝ }
+    ensures { λ r. ⌜ r ≤ 2621440 ⌝ }
 {
     if 131071 < records {
-        return 2097152;
+        return 2621440;
     }
     records as usize * RECORD
 }
@@ -92,11 +95,13 @@ fn row_of(kind: &[u8], record: &[u8]) -> Row {
         a: value_of(word(record, 2)),
         a_step: step_of(word(record, 2)),
         b: value_of(word(record, 3)),
+        start: value_of(word(record, 4)),
+        start_step: step_of(word(record, 4)),
     }
 }
 
-// Puts four numbers as a record, if there is room.
-fn put_record(first: u32, end: u32, a: u32, b: u32, out: &mut [u8]) -> usize
+// Puts five numbers as a record, if there is room.
+fn put_record(first: u32, end: u32, a: u32, b: u32, start: u32, out: &mut [u8]) -> usize
     ensures { λ r. ⌜ Put r (now (out .entry)) (now (out .exit)) ⌝ }
 {
     if out.len() < RECORD {
@@ -106,6 +111,7 @@ fn put_record(first: u32, end: u32, a: u32, b: u32, out: &mut [u8]) -> usize
     put_u32(&mut out[4..], end);
     put_u32(&mut out[8..], a);
     put_u32(&mut out[12..], b);
+    put_u32(&mut out[16..], start);
     RECORD
 }
 
@@ -116,11 +122,13 @@ fn put_records(times: u64, row: Row, out: &mut [u8]) -> usize
     let mut at = 0;
     let mut end = row.end;
     let mut a = row.a;
+    let mut start = row.start;
     let mut left = times;
     while 0 < left {
-        at += put_record(row.first, end, a, row.b, &mut out[at..]);
+        at += put_record(row.first, end, a, row.b, start, &mut out[at..]);
         end = std::num::wrapping_add_u32(end, row.end_step);
         a = std::num::wrapping_add_u32(a, row.a_step);
+        start = std::num::wrapping_add_u32(start, row.start_step);
         left -= 1;
     }
     at
@@ -182,6 +190,14 @@ fn is_field(field: &[u8]) -> bool {
     is_number(field)
 }
 
+// Whether a word is a start, or none.
+fn is_start(field: &[u8]) -> bool {
+    if field.len() == 0 {
+        return true;
+    }
+    is_field(field)
+}
+
 // Whether a part of a list is a record.
 fn is_record(record: &[u8]) -> bool {
     if !is_kinds(word(record, 0)) {
@@ -190,7 +206,10 @@ fn is_record(record: &[u8]) -> bool {
     if !is_field(word(record, 1)) {
         return false;
     }
-    is_field(word(record, 2)) && is_number(word(record, 3))
+    if !is_field(word(record, 2)) {
+        return false;
+    }
+    is_number(word(record, 3)) && is_start(word(record, 4))
 }
 
 // Whether bytes list records, or none.

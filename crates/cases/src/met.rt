@@ -11,14 +11,14 @@ ghost use Prim.Native.Nat.{_≤_};
 ghost use lib.ListN.{length};
 
 // For each call, and for what is none, forty counts, one for each answer; then the cases, those that differ, and the sum of what was lent.
-pub type Met = [u64; 403];
+pub type Met = [u64; 443];
 
 // The places of the cases, of those that differ, and of the sum.
-const CASES: usize = 400;
+const CASES: usize = 440;
 
-const DIFFER: usize = 401;
+const DIFFER: usize = 441;
 
-const SUM: usize = 402;
+const SUM: usize = 442;
 
 // The lesser of two numbers.
 fn least(a: usize, b: usize) -> usize
@@ -30,7 +30,7 @@ fn least(a: usize, b: usize) -> usize
 // Counts a case.
 pub fn count(met: &mut Met, call: usize, answer: usize, is_right: bool) {
     add(met, CASES);
-    add(met, 40 * least(call, 9) + least(answer, call::UNKNOWN));
+    add(met, 40 * least(call, 10) + least(answer, call::UNKNOWN));
     if !is_right {
         add(met, DIFFER);
     }
@@ -64,7 +64,7 @@ pub fn say_case(call: usize, outcome: Outcome) {
 
 // Says how often a call gave each answer that is known.
 fn say_call(met: &[u64], call: usize)
-    requires { ⌜ (call ≤ 8) × (400 ≤ length (now met)) ⌝ }
+    requires { ⌜ (call ≤ 9) × (440 ≤ length (now met)) ⌝ }
 {
     io::write_all(1, word(&call::NAMES, call));
     let from = 40 * call;
@@ -73,10 +73,10 @@ fn say_call(met: &[u64], call: usize)
 
 // Says it of every call.
 fn say_calls(met: &[u64])
-    requires { ⌜ 400 ≤ length (now met) ⌝ }
+    requires { ⌜ 440 ≤ length (now met) ⌝ }
 {
     let mut call = 0;
-    while call <= 8 {
+    while call <= 9 {
         say_call(met, call);
         call += 1;
     }

@@ -10,6 +10,7 @@ use refusal::Refusal;
 use text::Lack;
 use text::Text;
 use values::look::Looked;
+use values::look::Started;
 use wire::Padded;
 use words::hex;
 use words::hex::put_bytes;
@@ -133,7 +134,7 @@ fn is_record(table: &[u8], item: Item, end: u32) -> bool {
     if record::field_at(table, 0, END) != end {
         return false;
     }
-    found.kind == item.kind && found.a == item.a && found.b == item.b
+    found.kind == item.kind && found.a == item.a && found.b == item.b && found.start == item.start
 }
 
 // The bytes of a record, where reading them gives its fields back. What stood there before is not 0.
@@ -146,12 +147,13 @@ fn put_record(out: &mut Space, item: Item, end: u32) -> usize {
     put(out, 0, b" read otherwise")
 }
 
-// A record of any four numbers.
+// A record of any five numbers.
 fn record_answer(out: &mut Space, asked: &[u8]) -> usize {
     let kind = numeral::number(asked, 1);
     let end = numeral::number(asked, 2);
     let a = numeral::number(asked, 3);
     let b = numeral::number(asked, 4);
+    let start = numeral::number(asked, 5);
     if 255 < kind {
         return put_out_of_range(out);
     }
@@ -164,12 +166,16 @@ fn record_answer(out: &mut Space, asked: &[u8]) -> usize {
     if MOST < b {
         return put_out_of_range(out);
     }
+    if MOST < start {
+        return put_out_of_range(out);
+    }
     put_record(
         out,
         Item {
             kind: kind as u8,
             a: a as u32,
             b: b as u32,
+            start: start as u32,
         },
         end as u32,
     )
@@ -183,6 +189,14 @@ fn look_answer(out: &mut Space, index: u64, table: &[u8]) -> usize {
     }
 }
 
+// Where the data of a record of a table begins.
+fn start_answer(out: &mut Space, index: u64, table: &[u8]) -> usize {
+    match values::look::start_of(table, index as usize) {
+        Started::At(start) => put_number(out, 0, start as u64),
+        Started::Refused(refusal) => put_refusal(out, refusal),
+    }
+}
+
 // The text that the value of a record names.
 fn put_text<'a>(out: &mut Space, item: Item, packet: &'a [u8], label: &'a [u8]) -> usize {
     let mut table = [0u8; record::RECORD_SIZE];
@@ -193,7 +207,7 @@ fn put_text<'a>(out: &mut Space, item: Item, packet: &'a [u8], label: &'a [u8]) 
     }
 }
 
-// The text that a record of a kind and two fields names.
+// The text that a record of a kind and two fields names. Its start, which is not read, is the largest number.
 fn name_in<'a>(out: &mut Space, asked: &[u8], packet: &'a [u8], label: &'a [u8]) -> usize {
     let kind = numeral::number(asked, 1);
     let a = numeral::number(asked, 2);
@@ -213,6 +227,7 @@ fn name_in<'a>(out: &mut Space, asked: &[u8], packet: &'a [u8], label: &'a [u8])
             kind: kind as u8,
             a: a as u32,
             b: b as u32,
+            start: MOST as u32,
         },
         packet,
         label,
@@ -237,6 +252,7 @@ fn answer_of(out: &mut Space, question: Question, x: u64, bytes: &[u8]) -> usize
         Question::U64 => u64_answer(out, bytes),
         Question::Text => text_answer(out, x, bytes),
         Question::Look => look_answer(out, x, bytes),
+        Question::Start => start_answer(out, x, bytes),
         _ => put(out, 0, b" not understood"),
     }
 }

@@ -15,9 +15,9 @@ use words::written::filled;
 ghost use Prim.Native.Nat.{_≤_, _<_};
 ghost use lib.ListN.{length};
 
-// The tally has 25 numbers for each of the 10 questions: how many vectors there are, how many of them differ, the sum of the answers, and
+// The tally has 25 numbers for each of the 11 questions: how many vectors there are, how many of them differ, the sum of the answers, and
 // how many answers begin with each of 22 words.
-type Tally = [u64; 250];
+type Tally = [u64; 275];
 
 const EACH: usize = 25;
 
@@ -33,7 +33,7 @@ const WORDS: [u8; 121] =
 
 // The place of a question in the tally.
 fn place(question: Question) -> usize
-    ensures { λ r. ⌜ r < 10 ⌝ }
+    ensures { λ r. ⌜ r < 11 ⌝ }
 {
     match question {
         Question::Utf8 => 0,
@@ -45,7 +45,8 @@ fn place(question: Question) -> usize
         Question::Record => 6,
         Question::Look => 7,
         Question::Name => 8,
-        Question::Unclear => 9,
+        Question::Start => 9,
+        Question::Unclear => 10,
     }
 }
 
@@ -59,7 +60,7 @@ fn word_place(answered: &[u8]) -> usize
 
 // Counts an answer of the question whose numbers begin at a place.
 fn count(tally: &mut Tally, from: usize, answered: &[u8])
-    requires { ⌜ from ≤ 225 ⌝ }
+    requires { ⌜ from ≤ 250 ⌝ }
 {
     add(tally, from);
     add(tally, from + FIRST_WORDS + word_place(answered));
@@ -116,7 +117,7 @@ fn run(input: &[u8], tally: &mut Tally) {
 
 // Says what was met of the question whose numbers begin at a place.
 fn total(name: &[u8], tally: &[u64], from: usize)
-    requires { ⌜ (from ≤ 225) × (250 ≤ length (now tally)) ⌝ }
+    requires { ⌜ (from ≤ 250) × (275 ≤ length (now tally)) ⌝ }
 {
     io::write_all(1, name);
     say_counts(
@@ -132,10 +133,10 @@ fn total(name: &[u8], tally: &[u64], from: usize)
 
 // Says it of every question.
 fn totals(tally: &[u64])
-    requires { ⌜ 250 ≤ length (now tally) ⌝ }
+    requires { ⌜ 275 ≤ length (now tally) ⌝ }
 {
     let mut at = 0;
-    while at < 10 {
+    while at < 11 {
         total(line::word(&question::NAMES, at), tally, EACH * at);
         at += 1;
     }
@@ -150,7 +151,7 @@ fn report(tally: &Tally) {
 fn main() {
     let mut space = io::large_buffer();
     let n = io::read_full(0, &mut space);
-    let mut tally = [0u64; 250];
+    let mut tally = [0u64; 275];
     run(&space[..n], &mut tally);
     report(&tally);
 }

@@ -6,7 +6,7 @@ use words::numeral::Numeral;
 ghost use Prim.Native.Nat.{_≤_};
 
 // The names of the questions, in the order of the tally; the last is for what is none.
-pub const NAMES: [u8; 51] = *b"utf8 lead pad u32 u64 text record look name unclear";
+pub const NAMES: [u8; 57] = *b"utf8 lead pad u32 u64 text record look name start unclear";
 
 pub enum Question {
     // `utf8 BYTES`: are they UTF-8?
@@ -21,12 +21,14 @@ pub enum Question {
     U64,
     // `text POSITION BYTES`: the text that stands there.
     Text,
-    // `record KIND END A B`: the bytes of a record.
+    // `record KIND END A B START`: the bytes of a record.
     Record,
     // `look INDEX TABLE`: a record as a value.
     Look,
     // `name KIND A B PACKET LABEL`: the text that a value names.
     Name,
+    // `start INDEX TABLE`: where the data of a record begins.
+    Start,
     // Anything else.
     Unclear,
 }
@@ -58,7 +60,7 @@ fn is_fitting(asked: &[u8], n: usize, numbers: usize) -> bool {
 
 // Whether a name is followed by so many numbers and words of bytes, and by nothing else.
 fn has_shape(asked: &[u8], numbers: usize, parts: usize) -> bool
-    requires { ⌜ (numbers ≤ 4) × (parts ≤ 2) ⌝ }
+    requires { ⌜ (numbers ≤ 5) × (parts ≤ 2) ⌝ }
 {
     let mut n = 1;
     while n <= numbers + parts {
@@ -72,14 +74,15 @@ fn has_shape(asked: &[u8], numbers: usize, parts: usize) -> bool
 
 // How many numbers a question has.
 pub fn numbers(question: Question) -> usize
-    ensures { λ r. ⌜ r ≤ 4 ⌝ }
+    ensures { λ r. ⌜ r ≤ 5 ⌝ }
 {
     match question {
         Question::Pad => 1,
         Question::Text => 1,
-        Question::Record => 4,
+        Question::Record => 5,
         Question::Look => 1,
         Question::Name => 3,
+        Question::Start => 1,
         _ => 0,
     }
 }
@@ -108,6 +111,7 @@ fn named(place: usize) -> Question {
         6 => Question::Record,
         7 => Question::Look,
         8 => Question::Name,
+        9 => Question::Start,
         _ => Question::Unclear,
     }
 }

@@ -4,10 +4,10 @@ ghost use mathlib.Core.Path.{_≡_};
 ghost use lib.ListN.{length};
 
 // Room for 65,540 records.
-fn table_space() -> [u8; 1048640]
-    ensures { λ r. ⌜ 1048640 ≡ length r ⌝ }
+fn table_space() -> [u8; 1310800]
+    ensures { λ r. ⌜ 1310800 ≡ length r ⌝ }
 {
-    [0; 1048640]
+    [0; 1310800]
 }
 
 // Room for an input that is too long by far.

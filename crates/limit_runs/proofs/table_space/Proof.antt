@@ -6,7 +6,7 @@ use Rattle.limit_runs.proofs.table_space.Statement.{statement}
 use Rattle.limit_runs.proofs.table_space.Tie as tie
 
 returns : tie.Need-returns
-returns c = sym (length-replicate {0} {A = ℕ} 1048640 0)
+returns c = sym (length-replicate {0} {A = ℕ} 1310800 0)
 
 pub table-space-spec : {M : Type 1} → statement M
 table-space-spec = tie.close (tie.spec returns)

@@ -5,10 +5,10 @@ use Rattle.cases.proofs.listed.put_records.Statement.{statement}
 use Rattle.cases.proofs.listed.put_records.Tie as tie
 
 abbrev Inv-loop : tie.InvT-loop
-Inv-loop times row out₀ at₀ end₀ a₀ left₀ out at end a left = Put at out₀ out
+Inv-loop times row out₀ at₀ end₀ a₀ start₀ left₀ out at end a start left = Put at out₀ out
 
 abbrev μ-loop : tie.MeasureT-loop
-μ-loop times row out₀ at₀ end₀ a₀ left₀ out at end a left = left
+μ-loop times row out₀ at₀ end₀ a₀ start₀ left₀ out at end a start left = left
 
 pub put-records-spec : {M : Type 1} → statement M
 put-records-spec =
@@ -22,6 +22,7 @@ put-records-spec =
     (λ c. search needs)
     (λ c κs. search needs)
     (λ c. search needs)
+    (λ c κs. search needs)
     (λ c κs. search needs)
     (λ c κs. search needs)
     (λ c. search needs)

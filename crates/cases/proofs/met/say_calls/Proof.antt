@@ -1,14 +1,14 @@
--- `cases::met::say_calls` meets its contract: there are nine calls.
+-- `cases::met::say_calls` meets its contract: there are ten calls.
 use borrow.Author.Needs.{needs}
 use Prim.Native.Nat.{_≤_, _-_}
 use Rattle.cases.proofs.met.say_calls.Statement.{statement}
 use Rattle.cases.proofs.met.say_calls.Tie as tie
 
 abbrev Inv-loop : tie.InvT-loop
-Inv-loop met call₀ call = call ≤ 9
+Inv-loop met call₀ call = call ≤ 10
 
 abbrev μ-loop : tie.MeasureT-loop
-μ-loop met call₀ call = 9 - call
+μ-loop met call₀ call = 10 - call
 
 pub say-calls-spec : {M : Type 1} → statement M
 say-calls-spec =
