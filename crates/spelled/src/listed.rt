@@ -1,7 +1,7 @@
 // A table as a line lists it: records with " ; " between them, each its kind, end, a and b. A kind may have a number and '*' before it,
 // for so many records, and is four bytes in hexadecimal where the three bytes after it are not to be 0. An end or an a that is two
 // numbers with '+' between them is the first, and grows by the second from record to record.
-use runs::spelled::is_number;
+use crate::is_number;
 use wire::be_u32;
 use wire::put_u32;
 use words::hex;
@@ -11,7 +11,7 @@ use words::line::until;
 use words::line::word;
 use words::numeral::number;
 ghost use Prim.Native.Nat.{_≤_};
-ghost use Rattle.runs.specs.Put.{Put};
+ghost use Rattle.spelled.specs.Put.{Put};
 
 // The bytes of a record, four numbers of four bytes: document 01, "The node table".
 const RECORD: usize = 16;
