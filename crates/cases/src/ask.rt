@@ -2,11 +2,11 @@
 use crate::call;
 use crate::call::Outcome;
 use crate::expected;
-use crate::listed::is_table;
-use crate::listed::put_table;
-use crate::listed::size_of;
-use runs::spelled::is_bytes;
-use runs::spelled::put_bytes;
+use spelled::is_bytes;
+use spelled::listed::is_table;
+use spelled::listed::put_table;
+use spelled::listed::size_of;
+use spelled::put_bytes;
 use words::line::front;
 use words::line::start;
 use words::line::word;

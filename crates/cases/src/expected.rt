@@ -3,15 +3,15 @@ use crate::call;
 use crate::call::Outcome;
 use crate::call::empty;
 use crate::call::given;
-use crate::listed::kind_of;
-use crate::listed::put_table;
-use crate::listed::records_in;
-use runs::spelled::put_bytes;
+use spelled::listed::kind_of;
+use spelled::listed::put_table;
+use spelled::listed::records_in;
+use spelled::put_bytes;
 use words::line::place_of;
 use words::line::start;
 use words::line::word;
 use words::numeral::number;
-ghost use Rattle.runs.specs.Put.{Put};
+ghost use Rattle.spelled.specs.Put.{Put};
 
 // The place of the answer among these names; another number for any other.
 fn answer_of(expected: &[u8]) -> usize {

@@ -2,7 +2,6 @@
 // answer and every byte of what was lent is compared with what it should be. An empty line, and one that begins with '#', has no case;
 // `about NAME` says what the cases after it are of.
 mod call; // call.rt: the calls of the library
-mod listed; // listed.rt: a table as a line lists it
 mod expected; // expected.rt: what a line expects
 mod ask; // ask.rt: one case
 mod met; // met.rt: what was met

@@ -1,4 +1,3 @@
 pub mod Kept
-pub mod Put
 pub mod Said
 pub mod Sum

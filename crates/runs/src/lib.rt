@@ -1,5 +1,4 @@
 // What the programs that run calls and compare share: a slice filled before a call, and what stands in it after.
-pub mod spelled; // spelled.rt: the bytes of a case as its line spells them
 pub mod said; // said.rt: what a run says
 pub mod tally; // tally.rt: how often each answer was met
 

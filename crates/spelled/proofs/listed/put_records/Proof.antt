@@ -1,8 +1,8 @@
--- `cases::listed::put_records` meets its contract. The invariant: what was put so far fits; the measure is the times that are left.
+-- `spelled::listed::put_records` meets its contract. The invariant: what was put so far fits; the measure is the times that are left.
 use borrow.Author.Needs.{needs}
-use Rattle.runs.specs.Put.{Put}
-use Rattle.cases.proofs.listed.put_records.Statement.{statement}
-use Rattle.cases.proofs.listed.put_records.Tie as tie
+use Rattle.spelled.specs.Put.{Put}
+use Rattle.spelled.proofs.listed.put_records.Statement.{statement}
+use Rattle.spelled.proofs.listed.put_records.Tie as tie
 
 abbrev Inv-loop : tie.InvT-loop
 Inv-loop times row out₀ at₀ end₀ a₀ start₀ left₀ out at end a start left = Put at out₀ out

@@ -1,9 +1,9 @@
--- `runs::spelled::is_bytes` meets its contract: it ends, since each part takes at least one byte.
+-- `spelled::is_bytes` meets its contract: it ends, since each part takes at least one byte.
 use borrow.Author.Needs.{needs}
 use Prim.Native.Nat.{_≤_, _-_, _+_}
 use lib.ListN.{length}
-use Rattle.runs.proofs.spelled.is_bytes.Statement.{statement}
-use Rattle.runs.proofs.spelled.is_bytes.Tie as tie
+use Rattle.spelled.proofs.is_bytes.Statement.{statement}
+use Rattle.spelled.proofs.is_bytes.Tie as tie
 
 abbrev Inv-loop : tie.InvT-loop
 Inv-loop word at₀ at = at ≤ length word + 1

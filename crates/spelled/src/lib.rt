@@ -1,5 +1,7 @@
 // The bytes of a case as its line spells them: parts with '+' between them. A part is hexadecimal digits ("-" for none), a number, '*'
 // and digits, their bytes so many times, or a number and '#', so many bundles, each in the one before it.
+pub mod listed; // listed.rt: a table as a line lists it
+
 use words::hex;
 use words::line::after;
 use words::line::front;
@@ -7,7 +9,7 @@ use words::line::until;
 use words::numeral::Numeral;
 use words::numeral::decimal;
 use words::numeral::number;
-ghost use Rattle.runs.specs.Put.{Put};
+ghost use Rattle.spelled.specs.Put.{Put};
 
 // A bundle's name and the immediate time tag.
 const BUNDLE: [u8; 32] = *b"2362756E646C65000000000000000001";

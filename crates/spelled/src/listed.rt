@@ -2,7 +2,7 @@
 // A kind may have a number and '*' before it, for so many records, and is four bytes in hexadecimal where the three bytes after it are
 // not to be 0. An end, an a or a start that is two numbers with '+' between them is the first, and grows by the second from record to
 // record.
-use runs::spelled::is_number;
+use crate::is_number;
 use wire::be_u32;
 use wire::put_u32;
 use words::hex;
@@ -12,7 +12,7 @@ use words::line::until;
 use words::line::word;
 use words::numeral::number;
 ghost use Prim.Native.Nat.{_≤_};
-ghost use Rattle.runs.specs.Put.{Put};
+ghost use Rattle.spelled.specs.Put.{Put};
 
 // The bytes of a record, five numbers of four bytes: document 01, "The node table".
 const RECORD: usize = 20;

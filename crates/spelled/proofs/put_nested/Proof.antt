@@ -1,8 +1,8 @@
--- `runs::spelled::put_nested` meets its contract. The invariant: what was put so far fits; the measure is the bundles that are left.
+-- `spelled::put_nested` meets its contract. The invariant: what was put so far fits; the measure is the bundles that are left.
 use borrow.Author.Needs.{needs}
-use Rattle.runs.specs.Put.{Put}
-use Rattle.runs.proofs.spelled.put_nested.Statement.{statement}
-use Rattle.runs.proofs.spelled.put_nested.Tie as tie
+use Rattle.spelled.specs.Put.{Put}
+use Rattle.spelled.proofs.put_nested.Statement.{statement}
+use Rattle.spelled.proofs.put_nested.Tie as tie
 
 abbrev Inv-loop : tie.InvT-loop
 Inv-loop n out₀ at₀ left₀ out at left = Put at out₀ out

@@ -1,9 +1,9 @@
--- `runs::spelled::put_bundle` meets its contract. A byte more leaves the length as it is.
+-- `spelled::put_bundle` meets its contract. A byte more leaves the length as it is.
 use borrow.Author.Needs.{needs}
 use native.Mathlib.Omega.{arith}
 use lib.ListN.{length-set}
-use Rattle.runs.proofs.spelled.put_bundle.Statement.{statement}
-use Rattle.runs.proofs.spelled.put_bundle.Tie as tie
+use Rattle.spelled.proofs.put_bundle.Statement.{statement}
+use Rattle.spelled.proofs.put_bundle.Tie as tie
 
 slice-write-out-2 : tie.Need-slice-write-out-2
 slice-write-out-2 c = simp length-set (omega arith)

@@ -1,19 +1,19 @@
--- `cases::listed::put_table` meets its contract. The invariant: what was put so far fits; each record takes at least one byte.
+-- `spelled::put_bytes` meets its contract. The invariant: what was put so far fits; each part takes at least one byte of the word.
 use borrow.Author.Needs.{needs}
 use Prim.Native.Nat.{_≤_, _-_, _+_}
 use lib.ListN.{length}
-use Rattle.runs.specs.Put.{Put}
-use Rattle.cases.proofs.listed.put_table.Statement.{statement}
-use Rattle.cases.proofs.listed.put_table.Tie as tie
+use Rattle.spelled.specs.Put.{Put}
+use Rattle.spelled.proofs.put_bytes.Statement.{statement}
+use Rattle.spelled.proofs.put_bytes.Tie as tie
 
 abbrev Inv-loop : tie.InvT-loop
-Inv-loop list out₀ done₀ at₀ out done at = (at ≤ length list + 2) × Put done out₀ out
+Inv-loop word out₀ done₀ at₀ out done at = (at ≤ length word + 1) × Put done out₀ out
 
 abbrev μ-loop : tie.MeasureT-loop
-μ-loop list out₀ done₀ at₀ out done at = length list + 2 - at
+μ-loop word out₀ done₀ at₀ out done at = length word + 1 - at
 
-pub put-table-spec : {M : Type 1} → statement M
-put-table-spec =
+pub put-bytes-spec : {M : Type 1} → statement M
+put-bytes-spec =
     tie.close
     (tie.spec
     Inv-loop

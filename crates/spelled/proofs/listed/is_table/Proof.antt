@@ -1,9 +1,9 @@
--- `cases::listed::is_table` meets its contract: it ends, since each record takes at least one byte.
+-- `spelled::listed::is_table` meets its contract: it ends, since each record takes at least one byte.
 use borrow.Author.Needs.{needs}
 use Prim.Native.Nat.{_≤_, _-_, _+_}
 use lib.ListN.{length}
-use Rattle.cases.proofs.listed.is_table.Statement.{statement}
-use Rattle.cases.proofs.listed.is_table.Tie as tie
+use Rattle.spelled.proofs.listed.is_table.Statement.{statement}
+use Rattle.spelled.proofs.listed.is_table.Tie as tie
 
 abbrev Inv-loop : tie.InvT-loop
 Inv-loop list at₀ at = at ≤ length list + 2

@@ -1,8 +1,8 @@
--- `runs::spelled::put_times` meets its contract. The invariant: what was put so far fits; the measure is the times that are left.
+-- `spelled::put_times` meets its contract. The invariant: what was put so far fits; the measure is the times that are left.
 use borrow.Author.Needs.{needs}
-use Rattle.runs.specs.Put.{Put}
-use Rattle.runs.proofs.spelled.put_times.Statement.{statement}
-use Rattle.runs.proofs.spelled.put_times.Tie as tie
+use Rattle.spelled.specs.Put.{Put}
+use Rattle.spelled.proofs.put_times.Statement.{statement}
+use Rattle.spelled.proofs.put_times.Tie as tie
 
 abbrev Inv-loop : tie.InvT-loop
 Inv-loop times digits out₀ at₀ left₀ out at left = Put at out₀ out
