@@ -76,7 +76,7 @@ length-front i f item below =
 
 apart : (item : Item) (end : ℕ) (l r : List ℕ)
     → l ++ (recordOf item end ++ r)
-    ≡ (l ++ (item .kind ∷ 0 ∷ 0 ∷ 0 ∷ [])) 
+    ≡ (l ++ (item .kind ∷ 0 ∷ 0 ∷ 0 ∷ []))
     ++ (bytes 4 end ++ ((bytes 4 (item .a) ++ (bytes 4 (item .b) ++ bytes 4 (item .start))) ++ r))
 unfolding recordOf
 apart item end l r = simp append-assoc

@@ -42,14 +42,7 @@ pub fn decode_packet(
             decode_message(&input[used..], base, pos + used, item, table, index)
         }
         Start::Bundle { used } => {
-            decode_bundle(
-                &input[used..],
-                base,
-                pos + used,
-                base + pos,
-                table,
-                index,
-            )
+            decode_bundle(&input[used..], base, pos + used, base + pos, table, index)
         }
         Start::Refused(_) => Reread::Nothing,
     }
@@ -178,14 +171,8 @@ pub fn write_packet(
             write_message(&input[used..], base, pos + used, item, table, index, count);
         }
         Start::Bundle { used } => {
-            decode_bundle(
-                &input[used..],
-                base,
-                pos + used,
-                base + pos,
-                table,
-                index,
-            );
+            let word = base + pos;
+            decode_bundle(&input[used..], base, pos + used, word, table, index);
         }
         Start::Refused(_) => {}
     }

@@ -66,6 +66,9 @@ write-message-requires c κs =
       ),
     )
 
+add-word : tie.Need-add-word
+add-word c = let p6 = c .before .before .before .before .before .before in omega (arith, p6 .pre .0)
+
 sub-decode-bundle : tie.Need-sub-decode-bundle
 sub-decode-bundle c =
     let p3 = c .before .before .before in
@@ -87,11 +90,6 @@ add-decode-bundle c =
     let p7 = p4 .before .before .before in
     let a = p7 .args in
     omega (arith, bundle-start-in (a .input .now) (a .pos) (sym (p2 .used .given .1) ∙ p4 .read-start .ensures), p7 .pre .0)
-
-add-decode-bundle-2 : tie.Need-add-decode-bundle-2
-add-decode-bundle-2 c =
-    let p7 = c .before .before .before .before .before .before .before in
-    omega (arith, p7 .pre .0)
 
 decode-bundle-requires : tie.Need-decode-bundle-requires
 decode-bundle-requires c κs =
@@ -148,11 +146,11 @@ write-packet-spec =
     add-write-message
     write-message-requires
     (λ c. search needs)
+    add-word
     sub-decode-bundle
     part-decode-bundle-start
     (λ c. search needs)
     add-decode-bundle
-    add-decode-bundle-2
     decode-bundle-requires
     (λ c. search needs)
     (λ c. search needs)
