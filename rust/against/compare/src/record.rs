@@ -197,7 +197,7 @@ data/answers.bin holds a sample of the answers of rosc 0.11.4, built unchanged, 
 tables, its errors as numbers, and document 01's limits, rules of a table and of a record on top. The port had no part in it.
 The sample is chosen for coverage: a case is kept if it adds an answer, rule, kind, length or limit that is not there often
 enough. Document 01's examples P1 to P14 come first. What needs long slices (refusal 1, depth 64 and 65) is not here: the
-program case_runs has it.
+program limit_runs has it.
 ";
 
 const FORMAT: &str = "
