@@ -1,14 +1,14 @@
--- `recorded_runs::tell::counts` meets its contract: there are eight operations.
+-- `recorded_runs::tell::counts` meets its contract: there are nine operations.
 use borrow.Author.Needs.{needs}
 use Prim.Native.Nat.{_≤_, _-_}
 use Rattle.recorded_runs.proofs.tell.counts.Statement.{statement}
 use Rattle.recorded_runs.proofs.tell.counts.Tie as tie
 
 abbrev Inv-loop : tie.InvT-loop
-Inv-loop tally operation₀ operation = operation ≤ 8
+Inv-loop tally operation₀ operation = operation ≤ 9
 
 abbrev μ-loop : tie.MeasureT-loop
-μ-loop tally operation₀ operation = 8 - operation
+μ-loop tally operation₀ operation = 9 - operation
 
 pub counts-spec : {M : Type 1} → statement M
 counts-spec =
