@@ -1,0 +1,3 @@
+pub mod Told
+pub mod Decimals
+pub mod Tables

@@ -1,0 +1,6 @@
+pub mod Ascii
+pub mod Decimal
+pub mod Forms
+pub mod CodePut
+pub mod CodeLines
+pub mod Answers
