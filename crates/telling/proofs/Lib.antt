@@ -1,3 +1,4 @@
 pub mod Told
 pub mod Decimals
 pub mod Tables
+pub mod Values

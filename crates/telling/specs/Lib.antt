@@ -4,3 +4,4 @@ pub mod Forms
 pub mod CodePut
 pub mod CodeLines
 pub mod Answers
+pub mod Shown
