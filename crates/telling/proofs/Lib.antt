@@ -1,4 +1,4 @@
 pub mod Told
 pub mod Decimals
 pub mod Tables
-pub mod Values
+pub mod Said

@@ -9,30 +9,42 @@ use Rattle.decoder.specs.declared.Decoded.{Decoded}
 use Rattle.decoder.specs.declared.Decoded.the-variants as decoded
 use Rattle.encoder.specs.declared.Encoded.{Encoded}
 use Rattle.encoder.specs.declared.Encoded.the-variants as encoded
-use Rattle.telling.specs.Ascii.{ascii}
 use Rattle.telling.specs.Forms.{line}
 
--- document 01's words for the refusals, each at the place of its number; none has the number 0
-abbrev pub refusalWords : List String
-refusalWords =
-    "" ∷ "decode input over 65,535 bytes, or encoded result (prefix included) over it" ∷ "a packet of no bytes"
-    ∷ "a field, NUL, padding or TCP prefix runs past the bytes there" ∷ "text is not UTF-8"
-    ∷ "first string is neither /-led nor exactly #bundle" ∷ "] with no array open" ∷ "unknown type tag" ∷ "c is not a scalar number"
-    ∷ "bundles nested deeper than the limit" ∷ "the result has more records than the capacity"
-    ∷ "table not well formed, or a record asked for does not exist" ∷ "output slice shorter than the result" ∷ "depth limit over 64"
-    ∷ "pad of a position over 2^64 - 4" ∷ []
+-- the words of document 01's "Refusal numbers", each at the place of its number; none has the number 0
+abbrev pub refusedForms : List String
+refusedForms =
+    "\n" ∷ "refused %: decode input over 65,535 bytes, or encoded result (prefix included) over it\n" ∷ "refused %: a packet of no bytes\n"
+    ∷ "refused %: a field, NUL, padding or TCP prefix runs past the bytes there\n" ∷ "refused %: text is not UTF-8\n"
+    ∷ "refused %: first string is neither /-led nor exactly #bundle\n" ∷ "refused %: ] with no array open\n"
+    ∷ "refused %: unknown type tag\n" ∷ "refused %: c is not a scalar number\n" ∷ "refused %: bundles nested deeper than the limit\n"
+    ∷ "refused %: the result has more records than the capacity\n"
+    ∷ "refused %: table not well formed, or a record asked for does not exist\n" ∷ "refused %: output slice shorter than the result\n"
+    ∷ "refused %: depth limit over 64\n" ∷ "refused %: pad of a position over 2^64 - 4\n" ∷ []
+
+-- how many packets were read, their records, and the bytes that were not read
+abbrev pub packetsForm : String
+packetsForm = "packets: %, records: %, bytes left: %\n"
+
+-- the first frame is not all there
+abbrev pub waitingForm : String
+waitingForm = "waiting: % bytes, nothing read\n"
+
+-- how long the result is
+abbrev pub writtenForm : String
+writtenForm = "written: % bytes\n"
 
 -- a refusal: its number and its words
 unfoldable pub refusedLine : Refusal → List ℕ
-refusedLine refusal = line "refused %: ~\n" (numberOf refusal ∷ []) (ascii (getD refusalWords (numberOf refusal) ""))
+refusedLine refusal = line (getD refusedForms (numberOf refusal) "") (numberOf refusal ∷ []) []
 
 -- a decoder's answer to an input of so many packets and bytes
 abbrev pub decodedLine : ℕ → ℕ → Decoded → List ℕ
-decodedLine packets bytes (decoded.Packets count left) = line "packets: %, records: %, bytes left: %\n" (packets ∷ count ∷ left ∷ []) []
-decodedLine packets bytes decoded.Waiting = line "waiting: % bytes, nothing read\n" (bytes ∷ []) []
+decodedLine packets bytes (decoded.Packets count left) = line packetsForm (packets ∷ count ∷ left ∷ []) []
+decodedLine packets bytes decoded.Waiting = line waitingForm (bytes ∷ []) []
 decodedLine packets bytes (decoded.Refused refusal) = refusedLine refusal
 
 -- an encoder's answer
 abbrev pub encodedLine : Encoded → List ℕ
-encodedLine (encoded.Written n) = line "written: % bytes\n" (n ∷ []) []
+encodedLine (encoded.Written n) = line writtenForm (n ∷ []) []
 encodedLine (encoded.Refused refusal) = refusedLine refusal

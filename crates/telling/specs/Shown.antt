@@ -1,23 +1,24 @@
 -- The line for a record that is looked at.
-use mathlib.Core.List.{List, [], _∷_, _++_}
+use mathlib.Core.List.{List, [], _∷_, _++_ as _+++_}
 use Prim.Native.Nat.{ℕ, _/_, _%_}
-use Prim.Native.String.{String}
+use Prim.Native.String.{String, _++_}
 use lib.IntN.{ℤ, pos, negsuc, natAbs}
 use Rattle.node.specs.Records.{kindAt, endAt}
 use Rattle.values.specs.Look.{lookAt}
 use Rattle.values.specs.declared.look.Looked.{Looked}
 use Rattle.values.specs.declared.look.Looked.the-variants as looked
-use Rattle.values.specs.declared.value.OscTime.{OscTime}
 use Rattle.values.specs.declared.value.OscType.{OscType}
 use Rattle.values.specs.declared.value.OscType.the-variants as value
-use Rattle.telling.specs.Ascii.{ascii}
-use Rattle.telling.specs.Forms.{filledIn}
+use Rattle.telling.specs.Forms.{line}
 use Rattle.telling.specs.Answers.{refusedLine}
 
 -- a record: its index, the letter of its kind, the words for what it holds, and its end
+abbrev pub recordForm : String → String
+recordForm words = "record %: ~" ++ (words ++ ", end %\n")
+
+-- the same with the numbers of what it holds
 abbrev pub shownAs : ℕ → ℕ → ℕ → String → List ℕ → List ℕ
-shownAs index kind end words numbers =
-    filledIn (kind ∷ []) (index ∷ (numbers ++ (end ∷ []))) (ascii "record %: ~" ++ (ascii words ++ ascii ", end %\n"))
+shownAs index kind end words numbers = line (recordForm words) (index ∷ (numbers +++ (end ∷ []))) (kind ∷ [])
 
 -- the words for a number with its sign
 abbrev pub signWords : ℤ → String

@@ -1,62 +1,56 @@
 // The line for an answer of the library.
-use crate::form::tell;
-use crate::lines::line;
+use crate::line::Line;
+use crate::line::PACKETS;
+use crate::line::WAITING;
+use crate::line::WRITTEN;
+use crate::line::formed;
 use decoder::Decoded;
 use encoder::Encoded;
 use refusal::Refusal;
-ghost use Rattle.telling.specs.Forms.{Says};
+use refusal::number_of;
+ghost use mathlib.Core.Path.{_≡_};
+ghost use mathlib.Core.List.{List, []};
+ghost use Prim.Native.Nat.{ℕ};
 ghost use Rattle.telling.specs.Answers.{refusedLine, decodedLine, encodedLine};
-
-// Document 01's words for the refusals: line n is for the refusal of number n, and line 0 is empty.
-const REFUSALS: [u8; 523] = *b"
-decode input over 65,535 bytes, or encoded result (prefix included) over it
-a packet of no bytes
-a field, NUL, padding or TCP prefix runs past the bytes there
-text is not UTF-8
-first string is neither /-led nor exactly #bundle
-] with no array open
-unknown type tag
-c is not a scalar number
-bundles nested deeper than the limit
-the result has more records than the capacity
-table not well formed, or a record asked for does not exist
-output slice shorter than the result
-depth limit over 64
-pad of a position over 2^64 - 4
-";
+ghost use Rattle.telling.specs.CodeTable.{saidBy};
 
 // A refusal: its number and its words.
 //
 // Ruled out: the number raised by one; the words of another number.
-pub fn tell_refused(refusal: Refusal, out: &mut [u8]) -> usize
-    ensures { λ r. ⌜ Says (refusedLine refusal) (now (out .exit)) r ⌝ }
+pub fn refused_line(refusal: Refusal) -> Line
+    ensures { λ r. ⌜ ((text : List ℕ) → saidBy r text ≡ refusedLine refusal) ⌝ }
 {
-    let n = refusal::number_of(refusal);
-    tell(b"refused %: ~\n", &[n as u64], line(&REFUSALS, n as usize), out)
+    let n = number_of(refusal);
+    formed(n as usize, n as u64, 0, 0, 0, 0, 0)
 }
 
 // A decoder's answer to an input of so many packets and bytes.
-pub fn tell_decoded(packets: usize, bytes: usize, answer: Decoded, out: &mut [u8]) -> usize
-    ensures { λ r. ⌜ Says (decodedLine packets bytes answer) (now (out .exit)) r ⌝ }
+//
+// Ruled out: the count of records in the place of that of packets; Waiting told as packets.
+pub fn decoded_line(packets: usize, bytes: usize, answer: Decoded) -> Line
+    ensures { λ r. ⌜ saidBy r [] ≡ decodedLine packets bytes answer ⌝ }
 {
     match answer {
-        Decoded::Packets { count, left } => tell(
-            b"packets: %, records: %, bytes left: %\n",
-            &[packets as u64, count as u64, left as u64],
-            b"",
-            out,
+        Decoded::Packets { count, left } => formed(
+            PACKETS,
+            packets as u64,
+            count as u64,
+            left as u64,
+            0,
+            0,
+            0,
         ),
-        Decoded::Waiting => tell(b"waiting: % bytes, nothing read\n", &[bytes as u64], b"", out),
-        Decoded::Refused(refusal) => tell_refused(refusal, out),
+        Decoded::Waiting => formed(WAITING, bytes as u64, 0, 0, 0, 0, 0),
+        Decoded::Refused(refusal) => refused_line(refusal),
     }
 }
 
 // An encoder's answer.
-pub fn tell_encoded(answer: Encoded, out: &mut [u8]) -> usize
-    ensures { λ r. ⌜ Says (encodedLine answer) (now (out .exit)) r ⌝ }
+pub fn encoded_line(answer: Encoded) -> Line
+    ensures { λ r. ⌜ saidBy r [] ≡ encodedLine answer ⌝ }
 {
     match answer {
-        Encoded::Written(n) => tell(b"written: % bytes\n", &[n as u64], b"", out),
-        Encoded::Refused(refusal) => tell_refused(refusal, out),
+        Encoded::Written(n) => formed(WRITTEN, n as u64, 0, 0, 0, 0, 0),
+        Encoded::Refused(refusal) => refused_line(refusal),
     }
 }

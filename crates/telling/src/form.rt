@@ -81,7 +81,7 @@ fn number_at(numbers: &[u64], k: usize) -> u64
 // Puts a form with its marks filled in at the front of `out`, and answers how long it is. What has no room is left out.
 //
 // Ruled out: the second number in the place of the first; a number raised by one.
-pub fn tell(form: &[u8], numbers: &[u64], text: &[u8], out: &mut [u8]) -> usize
+pub fn fill_in(form: &[u8], numbers: &[u64], text: &[u8], out: &mut [u8]) -> usize
     ensures { λ r.
         ⌜ Says (filledIn (now (text .entry)) (now (numbers .entry)) (now (form .entry))) (now (out .exit)) r ⌝ }
 {

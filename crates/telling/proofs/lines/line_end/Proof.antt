@@ -4,7 +4,7 @@ use Prim.Native.Nat.{_+_, _≤_, _-_}
 use native.Mathlib.Omega.{arith}
 use borrow.Author.Needs.{needs}
 use lib.ListN.{length, drop}
-use Rattle.telling.specs.CodeLines.{lineOf}
+use Rattle.telling.specs.CodeTable.{lineOf}
 use Rattle.telling.proofs.Tables.{line-ends, line-on, line-none}
 use Rattle.telling.proofs.lines.line_end.Statement.{statement}
 use Rattle.telling.proofs.lines.line_end.Tie as tie
@@ -43,6 +43,7 @@ line-end-spec =
     Inv-loop
     μ-loop
     loop-holds
+    (λ c. search needs)
     (λ c. search needs)
     returns
     (λ c. search needs)

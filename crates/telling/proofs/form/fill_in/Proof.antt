@@ -1,4 +1,4 @@
--- `telling::form::tell` meets its contract. The invariant: what stands there, and what the rest of the form gives, make the whole.
+-- `telling::form::fill_in` meets its contract. The invariant: what stands there, and what the rest of the form gives, make the whole.
 use mathlib.Core.Path.{_≡_, refl, _∙_}
 use mathlib.Core.List.{_++_}
 use Prim.Native.Nat.{_+_, _≤_, _-_}
@@ -7,8 +7,8 @@ use borrow.Author.Needs.{needs}
 use lib.ListN.{length, take, drop}
 use Rattle.telling.specs.Forms.{filledIn}
 use Rattle.telling.proofs.Told.{mark-told, all-told}
-use Rattle.telling.proofs.form.tell.Statement.{statement}
-use Rattle.telling.proofs.form.tell.Tie as tie
+use Rattle.telling.proofs.form.fill_in.Statement.{statement}
+use Rattle.telling.proofs.form.fill_in.Tie as tie
 
 abbrev Inv-loop : tie.InvT-loop
 Inv-loop form numbers text out₀ at₀ k₀ i₀ out at k i =
@@ -47,8 +47,8 @@ returns c =
     all-told (a .text .now) (a .numbers .now) (a .form .now) (p1 .loop .out) (p1 .loop .at) (p1 .loop .k) (p1 .loop .i) (omega arith) (v .2)
     (v .4)
 
-pub tell-spec : {M : Type 1} → statement M
-tell-spec =
+pub fill-in-spec : {M : Type 1} → statement M
+fill-in-spec =
     tie.close
     (tie.spec
     Inv-loop
