@@ -9,16 +9,13 @@ use encoder::Encoded;
 use refusal::Refusal;
 use refusal::number_of;
 ghost use mathlib.Core.Path.{_≡_};
-ghost use mathlib.Core.List.{List, []};
-ghost use Prim.Native.Nat.{ℕ};
-ghost use Rattle.telling.specs.Answers.{refusedLine, decodedLine, encodedLine};
-ghost use Rattle.telling.specs.CodeTable.{saidBy};
+ghost use Rattle.telling.specs.CodeTable.{refusedAs, decodedAs, encodedAs};
 
 // A refusal: its number and its words.
 //
 // Ruled out: the number raised by one; the words of another number.
 pub fn refused_line(refusal: Refusal) -> Line
-    ensures { λ r. ⌜ ((text : List ℕ) → saidBy r text ≡ refusedLine refusal) ⌝ }
+    ensures { λ r. ⌜ r ≡ refusedAs refusal ⌝ }
 {
     let n = number_of(refusal);
     formed(n as usize, n as u64, 0, 0, 0, 0, 0)
@@ -28,7 +25,7 @@ pub fn refused_line(refusal: Refusal) -> Line
 //
 // Ruled out: the count of records in the place of that of packets; Waiting told as packets.
 pub fn decoded_line(packets: usize, bytes: usize, answer: Decoded) -> Line
-    ensures { λ r. ⌜ saidBy r [] ≡ decodedLine packets bytes answer ⌝ }
+    ensures { λ r. ⌜ r ≡ decodedAs packets bytes answer ⌝ }
 {
     match answer {
         Decoded::Packets { count, left } => formed(
@@ -47,7 +44,7 @@ pub fn decoded_line(packets: usize, bytes: usize, answer: Decoded) -> Line
 
 // An encoder's answer.
 pub fn encoded_line(answer: Encoded) -> Line
-    ensures { λ r. ⌜ saidBy r [] ≡ encodedLine answer ⌝ }
+    ensures { λ r. ⌜ r ≡ encodedAs answer ⌝ }
 {
     match answer {
         Encoded::Written(n) => formed(WRITTEN, n as u64, 0, 0, 0, 0, 0),

@@ -3,7 +3,7 @@ use crate::form::fill_in;
 use crate::lines::line_at;
 ghost use mathlib.Core.Path.{_≡_};
 ghost use Rattle.telling.specs.Forms.{Says};
-ghost use Rattle.telling.specs.CodeTable.{saidBy};
+ghost use Rattle.telling.specs.CodeTable.{with, saidBy};
 
 // Which form, and the numbers for its marks.
 pub struct Line {
@@ -88,7 +88,7 @@ pub const TROUBLES: usize = 26;
 
 // A line of a form and as many numbers as one has.
 pub fn formed(form: usize, a: u64, b: u64, c: u64, d: u64, e: u64, f: u64) -> Line
-    ensures { λ r. ⌜ r ≡ record { form = form; a = a; b = b; c = c; d = d; e = e; f = f } ⌝ }
+    ensures { λ r. ⌜ r ≡ with form a b c d e f ⌝ }
 {
     Line {
         form,

@@ -21,16 +21,14 @@ use values::look::look;
 use values::value::OscType;
 use words::written::magnitude;
 ghost use mathlib.Core.Path.{_≡_};
-ghost use mathlib.Core.List.{[], _∷_};
-ghost use Prim.Native.Nat.{ℕ};
-ghost use lib.IntN.{natAbs};
+ghost use Prim.Native.Nat.{_/_, _%_};
 ghost use Rattle.telling.specs.Forms.{Says};
-ghost use Rattle.telling.specs.Shown.{shownAs, signWords, valueLine, lookedLine, recordLine};
-ghost use Rattle.telling.specs.CodeTable.{saidBy};
+ghost use Rattle.telling.specs.Shown.{recordLine};
+ghost use Rattle.telling.specs.CodeTable.{with, signedAs, valueAs, lookedAs};
 
 // A number with its sign.
-fn signed_line(index: u64, end: u64, x: i64) -> Line
-    ensures { λ r. ⌜ ((k : ℕ) → saidBy r (k ∷ []) ≡ shownAs index k end (signWords x) (natAbs x ∷ [])) ⌝ }
+fn signed(index: u64, end: u64, x: i64) -> Line
+    ensures { λ r. ⌜ r ≡ signedAs index end x ⌝ }
 {
     let number = magnitude(x);
     if x < 0 {
@@ -39,54 +37,61 @@ fn signed_line(index: u64, end: u64, x: i64) -> Line
     formed(NUMBER, index, number, end, 0, 0, 0)
 }
 
-// Four bytes as numbers.
-fn four_line(index: u64, end: u64, a: u8, b: u8, c: u8, d: u8) -> Line
-    ensures { λ r. ⌜ ((k : ℕ) → saidBy r (k ∷ []) ≡ shownAs index k end " % % % %" (a ∷ b ∷ c ∷ d ∷ [])) ⌝ }
-{
-    formed(FOUR, index, a as u64, b as u64, c as u64, d as u64, end)
-}
-
-// Two numbers of 32 bits: a range, a time or the halves of a float.
-fn two_line(form: usize, index: u64, end: u64, a: u32, b: u32) -> Line
-    ensures { λ r. ⌜ r ≡ record { form = form; a = index; b = a; c = b; d = end; e = 0; f = 0 } ⌝ }
+// Two numbers of 32 bits: a range or a time.
+fn two(form: usize, index: u64, a: u32, b: u32, end: u64) -> Line
+    ensures { λ r. ⌜ r ≡ with form index a b end 0 0 ⌝ }
 {
     formed(form, index, a as u64, b as u64, end, 0, 0)
+}
+
+// The two halves of 64 bits.
+fn halves(index: u64, bits: u64, end: u64) -> Line
+    ensures { λ r. ⌜ r ≡ with 24 index (bits / 0x1_0000_0000) (bits % 0x1_0000_0000) end 0 0 ⌝ }
+{
+    formed(
+        DOUBLE,
+        index,
+        bits / 0x1_0000_0000,
+        bits % 0x1_0000_0000,
+        end,
+        0,
+        0,
+    )
+}
+
+// Four bytes as numbers.
+fn four(index: u64, a: u8, b: u8, c: u8, d: u8, end: u64) -> Line
+    ensures { λ r. ⌜ r ≡ with 25 index a b c d end ⌝ }
+{
+    formed(FOUR, index, a as u64, b as u64, c as u64, d as u64, end)
 }
 
 // What a value holds.
 //
 // Ruled out: the seconds of a time in the place of its fraction; the offset of a text alone.
 fn value_line(index: u64, end: u64, value: OscType) -> Line
-    ensures { λ r. ⌜ ((k : ℕ) → saidBy r (k ∷ []) ≡ valueLine index k end value) ⌝ }
+    ensures { λ r. ⌜ r ≡ valueAs index end value ⌝ }
 {
     match value {
-        OscType::Message { offset, length } => two_line(RANGE, index, end, offset, length),
-        OscType::Bundle(t) => two_line(TIME, index, end, t.seconds, t.fractional),
-        OscType::Int(x) => signed_line(index, end, x as i64),
+        OscType::Message { offset, length } => two(RANGE, index, offset, length, end),
+        OscType::Bundle(t) => two(TIME, index, t.seconds, t.fractional, end),
+        OscType::Int(x) => signed(index, end, x as i64),
         OscType::Float { bits, value: _ } => formed(SINGLE, index, bits as u64, end, 0, 0, 0),
-        OscType::String { offset, length } => two_line(RANGE, index, end, offset, length),
-        OscType::Blob { offset, length } => two_line(RANGE, index, end, offset, length),
-        OscType::Time(t) => two_line(TIME, index, end, t.seconds, t.fractional),
-        OscType::Long(x) => signed_line(index, end, x),
-        OscType::Double { bits, value: _ } => formed(
-            DOUBLE,
-            index,
-            bits / 0x1_0000_0000,
-            bits % 0x1_0000_0000,
-            end,
-            0,
-            0,
-        ),
+        OscType::String { offset, length } => two(RANGE, index, offset, length, end),
+        OscType::Blob { offset, length } => two(RANGE, index, offset, length, end),
+        OscType::Time(t) => two(TIME, index, t.seconds, t.fractional, end),
+        OscType::Long(x) => signed(index, end, x),
+        OscType::Double { bits, value: _ } => halves(index, bits, end),
         OscType::Char(x) => formed(NUMBER, index, x as u64, end, 0, 0, 0),
-        OscType::Color(c) => four_line(index, end, c.red, c.green, c.blue, c.alpha),
-        OscType::Midi(m) => four_line(index, end, m.port, m.status, m.data1, m.data2),
+        OscType::Color(c) => four(index, c.red, c.green, c.blue, c.alpha, end),
+        OscType::Midi(m) => four(index, m.port, m.status, m.data1, m.data2, end),
         _ => formed(BARE, index, end, 0, 0, 0, 0),
     }
 }
 
 // What `look` answers.
 fn looked_line(index: u64, end: u64, looked: Looked) -> Line
-    ensures { λ r. ⌜ ((k : ℕ) → saidBy r (k ∷ []) ≡ lookedLine index k end looked) ⌝ }
+    ensures { λ r. ⌜ r ≡ lookedAs index end looked ⌝ }
 {
     match looked {
         Looked::Value(value) => value_line(index, end, value),

@@ -3,10 +3,8 @@ use crate::line::Line;
 use crate::line::TROUBLES;
 use crate::line::formed;
 ghost use mathlib.Core.Path.{_≡_};
-ghost use mathlib.Core.List.{List};
-ghost use Prim.Native.Nat.{ℕ, _<_};
-ghost use Rattle.telling.specs.Troubles.{troubleLine};
-ghost use Rattle.telling.specs.CodeTable.{saidBy, placeOf};
+ghost use Prim.Native.Nat.{_<_};
+ghost use Rattle.telling.specs.CodeTable.{placeOf, troubleAs};
 
 // What may be wrong with the words of a command, and with the files that they name.
 pub enum Trouble {
@@ -56,7 +54,7 @@ fn place_of(trouble: Trouble) -> usize
 //
 // Ruled out: the words of another trouble; another number.
 pub fn trouble_line(trouble: Trouble, number: u64) -> Line
-    ensures { λ r. ⌜ ((word : List ℕ) → saidBy r word ≡ troubleLine trouble number word) ⌝ }
+    ensures { λ r. ⌜ r ≡ troubleAs trouble number ⌝ }
 {
     formed(TROUBLES + place_of(trouble), number, 0, 0, 0, 0, 0)
 }
