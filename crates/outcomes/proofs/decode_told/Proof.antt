@@ -1,0 +1,91 @@
+-- `outcomes::decode_told` meets its contract: what is kept and said is by the one answer.
+use mathlib.Core.Path.{_≡_, ap, _∙_}
+use mathlib.Core.List.{[]}
+use Prim.Native.Nat.{ℕ, _*_, _≤_}
+use native.Mathlib.Omega.{arith}
+use lib.ListN.{length}
+use borrow.Author.Needs.{needs}
+use Rattle.decoder.specs.Framing.{ruleOf}
+use Rattle.decoder.specs.Limits.{decoded, forestOf}
+use Rattle.decoder.specs.declared.Decoded.{Decoded}
+use Rattle.node.specs.Records.{recordsOf}
+use Rattle.telling.specs.Answers.{decodedLine}
+use Rattle.telling.proofs.Told.{says-as}
+use Rattle.telling.proofs.Said.{same-said, decoded-said}
+use Rattle.outcomes.specs.Kept.{rootsOf, isPackets, keptTrees}
+use Rattle.outcomes.proofs.Answers.{leaves, answered, answer-fits, records-in, stand, bytes-kept, bytes-counted, packets-told}
+use Rattle.outcomes.proofs.decode_told.Statement.{statement}
+use Rattle.outcomes.proofs.decode_told.Tie as tie
+
+root-count-requires : tie.Need-root-count-requires
+root-count-requires c κs =
+    let p1 = c .before in
+    let p4 = p1 .before .before .before in
+    let a = p4 .before .before .before .before .before .before .args in
+    let msg = a .msg .now in
+    let rule = ruleOf (a .framing) in
+    let e = p4 .decode .ensures in
+    records-in (leaves (p4 .decode .result) (forestOf (rule msg)) _ _ (e .1))
+    (answer-fits rule (a .options .depth) msg (a .table .now) (a .options .records) (search needs) (e .0)) (p1 .kept-count .ensures)
+
+mul-t13 : tie.Need-mul-t13
+mul-t13 c =
+    let p9 = c .before .before .before .before .before .before .before .before .before in
+    let p12 = p9 .before .before .before in
+    let a = p12 .before .before .before .before .before .before .args in
+    let msg = a .msg .now in
+    let rule = ruleOf (a .framing) in
+    let e = p12 .decode .ensures in
+    let x = answer-fits rule (a .options .depth) msg (a .table .now) (a .options .records) (search needs) (e .0) in
+    record { fits = omega (arith, x .few, p9 .kept-count .ensures) }
+
+returns : tie.Need-returns
+returns c =
+    let p3 = c .before .before .before in
+    let p6 = p3 .before .before .before in
+    let p7 = p6 .before in
+    let p9 = p7 .before .before in
+    let p12 = p9 .before .before .before in
+    let s = p12 .before .before .before .before .before .before in
+    let a = s .args in
+    let h : a .options .records * 16 ≤ length (a .table .now) = omega (arith, s .pre .0, s .pre .1) in
+    let msg = a .msg .now in
+    let rule = ruleOf (a .framing) in
+    let f = forestOf (rule msg) in
+    let e = p12 .decode .ensures in
+    let d = p12 .decode .result in
+    let r : d ≡ decoded rule (a .options .records) (a .options .depth) msg
+    = answered rule (a .options .depth) msg (a .table .now) (a .options .records) h (e .0) in
+    let x = answer-fits rule (a .options .depth) msg (a .table .now) (a .options .records) h (e .0) in
+    let l = leaves d f _ _ (e .1) in
+    let n : p7 .root-count .result ≡ rootsOf (keptTrees d f) = p7 .root-count .ensures (keptTrees d f) (stand l x (p9 .kept-count .ensures) (s .pre .0)) in
+    record {
+      kept = c .is-packets .ensures ∙ ap isPackets r;
+      counts = bytes-counted l x (p9 .kept-count .ensures);
+      bytes = bytes-kept l x (p9 .kept-count .ensures) ∙ ap (λ (y : Decoded). recordsOf 0 (keptTrees y f)) r;
+      says = says-as
+          (same-said [] (p6 .decoded-line .ensures) ∙ decoded-said (p7 .root-count .result) (length msg) d
+          ∙ ap (λ (m : ℕ). decodedLine m (length msg) d) n ∙ packets-told d f (length msg)
+          ∙ ap (decodedLine (rootsOf f) (length msg)) r)
+          (p3 .tell .ensures);
+    }
+
+pub decode-told-spec : {M : Type 1} → statement M
+decode-told-spec =
+    tie.close
+    (tie.spec
+    (λ c. search needs)
+    (λ c. search needs)
+    (λ c. search needs)
+    (λ c. search needs)
+    (λ c κs. search needs)
+    (λ c κs. search needs)
+    root-count-requires
+    (λ c κs. search needs)
+    (λ c. search needs)
+    (λ c κs. search needs)
+    (λ c κs. search needs)
+    mul-t13
+    (λ c. search needs)
+    (λ c. search needs)
+    returns)
