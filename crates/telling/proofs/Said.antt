@@ -17,6 +17,8 @@ use Rattle.refusal.specs.declared.Refusal.{Refusal}
 use Rattle.refusal.specs.declared.Refusal.the-variants as refusal
 use Rattle.values.specs.declared.look.Looked.{Looked}
 use Rattle.values.specs.declared.look.Looked.the-variants as looked
+use Rattle.values.specs.declared.look.Started.{Started}
+use Rattle.values.specs.declared.look.Started.the-variants as started
 use Rattle.values.specs.declared.value.OscType.{OscType}
 use Rattle.values.specs.declared.value.OscType.the-variants as value
 use Rattle.values.proofs.value.OscType as kinds
@@ -26,9 +28,10 @@ use Rattle.encoder.specs.declared.Encoded.{Encoded}
 use Rattle.encoder.specs.declared.Encoded.the-variants as encoded
 use Rattle.telling.specs.Forms.{pieceOf, takenBy, filledIn}
 use Rattle.telling.specs.Answers.{refusedLine, decodedLine, encodedLine}
-use Rattle.telling.specs.Shown.{shownAs, signWords, valueLine, lookedLine}
+use Rattle.telling.specs.Shown.{shownAs, signWords, valueLine, lookedLine, startedLine}
 use Rattle.telling.specs.Troubles.{troubleLine}
-use Rattle.telling.specs.CodeTable.{saidBy, with, refusedAs, decodedAs, encodedAs, signedAs, valueAs, lookedAs, troubleAs}
+use Rattle.telling.specs.CodeTable.{saidBy, with, refusedAs, decodedAs, encodedAs, signedAs, valueAs, lookedAs, startedAs}
+use Rattle.telling.specs.CodeTable.{troubleAs}
 use Rattle.telling.specs.declared.line.Line.{Line}
 use Rattle.telling.specs.declared.troubles.Trouble.{Trouble}
 use Rattle.telling.specs.declared.troubles.Trouble.the-variants as trouble
@@ -121,6 +124,12 @@ module _ (i k e : ℕ) where
   pub looked-said : (x : Looked) → saidBy (lookedAs i e x) (k ∷ []) ≡ lookedLine i k e x
   looked-said (looked.Value v) = value-said v
   looked-said (looked.Refused r) = refused-said r (k ∷ [])
+
+-- what `start_of` answers
+pub started-said : (x : Started) → saidBy (startedAs x) [] ≡ startedLine x
+unfolding saidBy filledIn pieceOf takenBy
+started-said (started.At start) = refl
+started-said (started.Refused r) = refused-said r []
 
 -- ---- values that hold nothing
 

@@ -10,6 +10,8 @@ use Rattle.refusal.specs.Refusal.{numberOf}
 use Rattle.refusal.specs.declared.Refusal.{Refusal}
 use Rattle.values.specs.declared.look.Looked.{Looked}
 use Rattle.values.specs.declared.look.Looked.the-variants as looked
+use Rattle.values.specs.declared.look.Started.{Started}
+use Rattle.values.specs.declared.look.Started.the-variants as started
 use Rattle.values.specs.declared.value.OscType.{OscType}
 use Rattle.values.specs.declared.value.OscType.the-variants as value
 use Rattle.decoder.specs.declared.Decoded.{Decoded}
@@ -19,7 +21,7 @@ use Rattle.encoder.specs.declared.Encoded.the-variants as encoded
 use Rattle.telling.specs.Ascii.{ascii}
 use Rattle.telling.specs.Forms.{filledIn}
 use Rattle.telling.specs.Answers.{refusedForms, packetsForm, waitingForm, writtenForm}
-use Rattle.telling.specs.Shown.{recordForm}
+use Rattle.telling.specs.Shown.{recordForm, startForm}
 use Rattle.telling.specs.Troubles.{troubleForm}
 use Rattle.telling.specs.declared.line.Line.{Line}
 use Rattle.telling.specs.declared.troubles.Trouble.{Trouble}
@@ -34,7 +36,8 @@ forms =
     ∷ troubleForm trouble.NoCommand ∷ troubleForm trouble.DecodeWords ∷ troubleForm trouble.EncodeWords ∷ troubleForm trouble.LookWords
     ∷ troubleForm trouble.NoFraming ∷ troubleForm trouble.OnePacket ∷ troubleForm trouble.NoOption ∷ troubleForm trouble.Twice
     ∷ troubleForm trouble.NoNumber ∷ troubleForm trouble.ManyRecords ∷ troubleForm trouble.NoName ∷ troubleForm trouble.LongName
-    ∷ troubleForm trouble.NoFile ∷ troubleForm trouble.OneFile ∷ troubleForm trouble.TooLarge ∷ troubleForm trouble.NoTable ∷ [])
+    ∷ troubleForm trouble.NoFile ∷ troubleForm trouble.OneFile ∷ troubleForm trouble.TooLarge ∷ troubleForm trouble.NoTable
+    ∷ startForm ∷ [])
 
 -- what a line says, with a text
 unfoldable pub saidBy : Line → List ℕ → List ℕ
@@ -87,6 +90,11 @@ valueAs i e value.Array = with 18 i e 0 0 0 0
 abbrev pub lookedAs : ℕ → ℕ → Looked → Line
 lookedAs i e (looked.Value x) = valueAs i e x
 lookedAs i e (looked.Refused refusal) = refusedAs refusal
+
+-- what `start_of` answers
+abbrev pub startedAs : Started → Line
+startedAs (started.At start) = with 42 start 0 0 0 0 0
+startedAs (started.Refused refusal) = refusedAs refusal
 
 -- the place of a trouble among the others
 abbrev pub placeOf : Trouble → ℕ

@@ -4,9 +4,11 @@ use Prim.Native.Nat.{ℕ, _/_, _%_}
 use Prim.Native.String.{String, _++_}
 use lib.IntN.{ℤ, pos, negsuc, natAbs}
 use Rattle.node.specs.Records.{kindAt, endAt}
-use Rattle.values.specs.Look.{lookAt}
+use Rattle.values.specs.Look.{lookAt, startedAt}
 use Rattle.values.specs.declared.look.Looked.{Looked}
 use Rattle.values.specs.declared.look.Looked.the-variants as looked
+use Rattle.values.specs.declared.look.Started.{Started}
+use Rattle.values.specs.declared.look.Started.the-variants as started
 use Rattle.values.specs.declared.value.OscType.{OscType}
 use Rattle.values.specs.declared.value.OscType.the-variants as value
 use Rattle.telling.specs.Forms.{line}
@@ -52,3 +54,16 @@ lookedLine i k e (looked.Refused refusal) = refusedLine refusal
 -- record i of a table
 unfoldable pub recordLine : List ℕ → ℕ → List ℕ
 recordLine table i = lookedLine i (kindAt table i) (endAt table i) (lookAt table i)
+
+-- where the data of a record begins, on a line of its own
+abbrev pub startForm : String
+startForm = "start %\n"
+
+-- the start, or the refusal
+abbrev pub startedLine : Started → List ℕ
+startedLine (started.At start) = line startForm (start ∷ []) []
+startedLine (started.Refused refusal) = refusedLine refusal
+
+-- of record i of a table
+unfoldable pub startLine : List ℕ → ℕ → List ℕ
+startLine table i = startedLine (startedAt table i)

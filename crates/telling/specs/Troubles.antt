@@ -25,7 +25,7 @@ troubleForm LongName = "osc: ~: the name of the file is too long\n"
 troubleForm NoFile = "osc: ~: not a file that can be replaced\n"
 troubleForm OneFile = "osc: ~: the output would replace this input\n"
 troubleForm TooLarge = "osc: ~: the file is too large: it has at least % bytes\n"
-troubleForm NoTable = "osc: ~: a table has a multiple of 16 bytes, and this has % bytes\n"
+troubleForm NoTable = "osc: ~: a table has a multiple of 20 bytes, and this has % bytes\n"
 
 -- the same with its word and its number
 abbrev pub troubleLine : Trouble → ℕ → List ℕ → List ℕ

@@ -8,6 +8,7 @@ use crate::line::NEGATIVE;
 use crate::line::NUMBER;
 use crate::line::RANGE;
 use crate::line::SINGLE;
+use crate::line::START;
 use crate::line::TIME;
 use crate::line::formed;
 use crate::line::tell;
@@ -17,14 +18,16 @@ use node::record::field_at;
 use node::record::kind_at;
 use refusal::Refusal;
 use values::look::Looked;
+use values::look::Started;
 use values::look::look;
+use values::look::start_of;
 use values::value::OscType;
 use words::written::magnitude;
 ghost use mathlib.Core.Path.{_≡_};
 ghost use Prim.Native.Nat.{_/_, _%_};
 ghost use Rattle.telling.specs.Forms.{Says};
-ghost use Rattle.telling.specs.Shown.{recordLine};
-ghost use Rattle.telling.specs.CodeTable.{with, signedAs, valueAs, lookedAs};
+ghost use Rattle.telling.specs.Shown.{recordLine, startLine};
+ghost use Rattle.telling.specs.CodeTable.{with, signedAs, valueAs, lookedAs, startedAs};
 
 // A number with its sign.
 fn signed(index: u64, end: u64, x: i64) -> Line
@@ -111,4 +114,23 @@ pub fn tell_record(table: &[u8], index: usize, out: &mut [u8]) -> usize
     let end = field_at(table, index, END);
     let line = looked_line(index as u64, end as u64, look(table, index));
     tell(line, &[kind_at(table, index)], out)
+}
+
+// What `start_of` answers.
+fn started_line(started: Started) -> Line
+    ensures { λ r. ⌜ r ≡ startedAs started ⌝ }
+{
+    match started {
+        Started::At(start) => formed(START, start as u64, 0, 0, 0, 0, 0),
+        Started::Refused(refusal) => refused_line(refusal),
+    }
+}
+
+// Puts the line for where the data of record `index` begins at the front of `out`, and answers how long it is.
+//
+// Ruled out: the end of the record in its place; a start for a record that does not exist.
+pub fn tell_start(table: &[u8], index: usize, out: &mut [u8]) -> usize
+    ensures { λ r. ⌜ Says (startLine (now (table .entry)) index) (now (out .exit)) r ⌝ }
+{
+    tell(started_line(start_of(table, index)), b"", out)
 }
