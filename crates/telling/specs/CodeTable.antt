@@ -18,7 +18,7 @@ use Rattle.encoder.specs.declared.Encoded.{Encoded}
 use Rattle.encoder.specs.declared.Encoded.the-variants as encoded
 use Rattle.telling.specs.Ascii.{ascii}
 use Rattle.telling.specs.Forms.{filledIn}
-use Rattle.telling.specs.Answers.{refusedForms, packetsForm, waitingForm, writtenForm}
+use Rattle.telling.specs.Answers.{refusedForms, packetsForm, waitingForm, writtenForm, versionForm}
 use Rattle.telling.specs.Shown.{recordForm}
 use Rattle.telling.specs.Troubles.{troubleForm}
 use Rattle.telling.specs.declared.line.Line.{Line}
@@ -34,7 +34,7 @@ forms =
     ∷ troubleForm trouble.NoCommand ∷ troubleForm trouble.DecodeWords ∷ troubleForm trouble.EncodeWords ∷ troubleForm trouble.LookWords
     ∷ troubleForm trouble.NoFraming ∷ troubleForm trouble.OnePacket ∷ troubleForm trouble.NoOption ∷ troubleForm trouble.Twice
     ∷ troubleForm trouble.NoNumber ∷ troubleForm trouble.ManyRecords ∷ troubleForm trouble.NoName ∷ troubleForm trouble.LongName
-    ∷ troubleForm trouble.NoFile ∷ troubleForm trouble.OneFile ∷ troubleForm trouble.TooLarge ∷ troubleForm trouble.NoTable ∷ [])
+    ∷ troubleForm trouble.NoFile ∷ troubleForm trouble.OneFile ∷ troubleForm trouble.TooLarge ∷ troubleForm trouble.NoTable ∷ versionForm ∷ [])
 
 -- what a line says, with a text
 unfoldable pub saidBy : Line → List ℕ → List ℕ
@@ -58,6 +58,10 @@ decodedAs packets bytes (decoded.Refused refusal) = refusedAs refusal
 abbrev pub encodedAs : Encoded → Line
 encodedAs (encoded.Written n) = with 17 n 0 0 0 0 0
 encodedAs (encoded.Refused refusal) = refusedAs refusal
+
+-- the version
+abbrev pub versionAs : Line
+versionAs = with 42 0 0 0 0 0 0
 
 -- a number with its sign
 abbrev pub signedAs : ℕ → ℕ → ℤ → Line

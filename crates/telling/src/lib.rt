@@ -10,6 +10,7 @@ pub use line::Line;
 pub use line::tell;
 pub use answers::decoded_line;
 pub use answers::encoded_line;
+pub use answers::version_line;
 pub use shown::tell_record;
 pub use troubles::Trouble;
 pub use troubles::trouble_line;
