@@ -7,6 +7,7 @@ use decoder::Decoded;
 use decoder::Framing;
 use decoder::decode;
 use encoder::Encoded;
+use node::record::MOST_RECORDS;
 use node::record::RECORD_SIZE;
 use node::record::capacity_of;
 use roots::root_count;
@@ -14,7 +15,7 @@ use telling::decoded_line;
 use telling::encoded_line;
 use telling::tell;
 ghost use mathlib.Core.Path.{_≡_};
-ghost use Prim.Native.Nat.{_*_, _≤_};
+ghost use Prim.Native.Nat.{_*_, _≤_, min};
 ghost use lib.ListN.{length};
 ghost use Rattle.node.specs.Records.{recordSize, mostRecords, capacity};
 ghost use Rattle.encoder.specs.Outcome.{Encodes};
@@ -50,6 +51,16 @@ fn kept_count(answer: Decoded) -> usize
     }
 }
 
+// The less of two numbers.
+fn least(a: usize, b: usize) -> usize
+    ensures { λ r. ⌜ r ≡ min a b ⌝ }
+{
+    if a < b {
+        return a;
+    }
+    b
+}
+
 // Decodes `msg` to `table`, with room for as many records as the options say, and puts the line for the answer into `line`.
 //
 // Ruled out: a depth that is not the one asked for; the whole table kept.
@@ -60,10 +71,10 @@ pub fn decode_told(
     table: &mut [u8],
     line: &mut [u8],
 ) -> Told
-    requires { ⌜ (options .records ≤ mostRecords) × (recordSize * mostRecords ≤ length (now table)) ⌝ }
+    requires { ⌜ recordSize * mostRecords ≤ length (now table) ⌝ }
     ensures { λ r. ⌜ DecodeTold framing options (now (msg .entry)) (now (table .exit)) (now (line .exit)) r ⌝ }
 {
-    let room = options.records * RECORD_SIZE;
+    let room = least(options.records, MOST_RECORDS) * RECORD_SIZE;
     let answer = decode(framing, msg, &mut table[0..room], options.depth);
     let count = kept_count(answer);
     let packets = root_count(table, count);

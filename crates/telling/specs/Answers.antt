@@ -34,6 +34,10 @@ waitingForm = "waiting: % bytes, nothing read\n"
 abbrev pub writtenForm : String
 writtenForm = "written: % bytes\n"
 
+-- the version, which is the text
+abbrev pub versionForm : String
+versionForm = "osc ~\n"
+
 -- a refusal: its number and its words
 unfoldable pub refusedLine : Refusal → List ℕ
 refusedLine refusal = line (getD refusedForms (numberOf refusal) "") (numberOf refusal ∷ []) []

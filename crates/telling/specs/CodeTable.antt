@@ -20,7 +20,7 @@ use Rattle.encoder.specs.declared.Encoded.{Encoded}
 use Rattle.encoder.specs.declared.Encoded.the-variants as encoded
 use Rattle.telling.specs.Ascii.{ascii}
 use Rattle.telling.specs.Forms.{filledIn}
-use Rattle.telling.specs.Answers.{refusedForms, packetsForm, waitingForm, writtenForm}
+use Rattle.telling.specs.Answers.{refusedForms, packetsForm, waitingForm, writtenForm, versionForm}
 use Rattle.telling.specs.Shown.{recordForm, startForm}
 use Rattle.telling.specs.Troubles.{troubleForm}
 use Rattle.telling.specs.declared.line.Line.{Line}
@@ -36,7 +36,7 @@ forms =
     ∷ troubleForm trouble.NoCommand ∷ troubleForm trouble.DecodeWords ∷ troubleForm trouble.EncodeWords ∷ troubleForm trouble.LookWords
     ∷ troubleForm trouble.NoFraming ∷ troubleForm trouble.OnePacket ∷ troubleForm trouble.NoOption ∷ troubleForm trouble.Twice
     ∷ troubleForm trouble.NoNumber ∷ troubleForm trouble.ManyRecords ∷ troubleForm trouble.NoName ∷ troubleForm trouble.LongName
-    ∷ troubleForm trouble.NoFile ∷ troubleForm trouble.OneFile ∷ troubleForm trouble.TooLarge ∷ troubleForm trouble.NoTable
+    ∷ troubleForm trouble.NoFile ∷ troubleForm trouble.OneFile ∷ troubleForm trouble.TooLarge ∷ troubleForm trouble.NoTable ∷ versionForm
     ∷ startForm ∷ [])
 
 -- what a line says, with a text
@@ -61,6 +61,10 @@ decodedAs packets bytes (decoded.Refused refusal) = refusedAs refusal
 abbrev pub encodedAs : Encoded → Line
 encodedAs (encoded.Written n) = with 17 n 0 0 0 0 0
 encodedAs (encoded.Refused refusal) = refusedAs refusal
+
+-- the version
+abbrev pub versionAs : Line
+versionAs = with 42 0 0 0 0 0 0
 
 -- a number with its sign
 abbrev pub signedAs : ℕ → ℕ → ℤ → Line
@@ -93,7 +97,7 @@ lookedAs i e (looked.Refused refusal) = refusedAs refusal
 
 -- what `start_of` answers
 abbrev pub startedAs : Started → Line
-startedAs (started.At start) = with 42 start 0 0 0 0 0
+startedAs (started.At start) = with 43 start 0 0 0 0 0
 startedAs (started.Refused refusal) = refusedAs refusal
 
 -- the place of a trouble among the others

@@ -23,7 +23,7 @@ troubleForm ManyRecords = "osc: more than 65535 for --records: ~\n"
 troubleForm NoName = "osc: the name of a file is empty\n"
 troubleForm LongName = "osc: ~: the name of the file is too long\n"
 troubleForm NoFile = "osc: ~: not a file that can be replaced\n"
-troubleForm OneFile = "osc: ~: the output would replace this input\n"
+troubleForm OneFile = "osc: ~: the output is the same file, or cannot be told from it\n"
 troubleForm TooLarge = "osc: ~: the file is too large: it has at least % bytes\n"
 troubleForm NoTable = "osc: ~: a table has a multiple of 20 bytes, and this has % bytes\n"
 

@@ -1,6 +1,7 @@
 // The line for an answer of the library.
 use crate::line::Line;
 use crate::line::PACKETS;
+use crate::line::VERSION;
 use crate::line::WAITING;
 use crate::line::WRITTEN;
 use crate::line::formed;
@@ -9,7 +10,7 @@ use encoder::Encoded;
 use refusal::Refusal;
 use refusal::number_of;
 ghost use mathlib.Core.Path.{_≡_};
-ghost use Rattle.telling.specs.CodeTable.{refusedAs, decodedAs, encodedAs};
+ghost use Rattle.telling.specs.CodeTable.{refusedAs, decodedAs, encodedAs, versionAs};
 
 // A refusal: its number and its words.
 //
@@ -50,4 +51,11 @@ pub fn encoded_line(answer: Encoded) -> Line
         Encoded::Written(n) => formed(WRITTEN, n as u64, 0, 0, 0, 0, 0),
         Encoded::Refused(refusal) => refused_line(refusal),
     }
+}
+
+// The version, which is the text.
+pub fn version_line() -> Line
+    ensures { λ r. ⌜ r ≡ versionAs ⌝ }
+{
+    formed(VERSION, 0, 0, 0, 0, 0, 0)
 }

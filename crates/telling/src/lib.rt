@@ -8,8 +8,7 @@ mod troubles; // troubles.rt: the line for trouble with a word or a file
 
 pub use answers::decoded_line;
 pub use answers::encoded_line;
-pub use line::Line;
-pub use line::tell;
+pub use answers::version_line;
 pub use shown::tell_record;
 pub use shown::tell_start;
 pub use troubles::Trouble;

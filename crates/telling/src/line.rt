@@ -17,7 +17,7 @@ pub struct Line {
 }
 
 // The forms, a line to each: those of the refusals stand at their numbers, and line 0 is empty.
-const FORMS: [u8; 1710] = *b"
+const FORMS: [u8; 1735] = *b"
 refused %: decode input over 65,535 bytes, or encoded result (prefix included) over it
 refused %: a packet of no bytes
 refused %: a field, NUL, padding or TCP prefix runs past the bytes there
@@ -56,9 +56,10 @@ osc: more than 65535 for --records: ~
 osc: the name of a file is empty
 osc: ~: the name of the file is too long
 osc: ~: not a file that can be replaced
-osc: ~: the output would replace this input
+osc: ~: the output is the same file, or cannot be told from it
 osc: ~: the file is too large: it has at least % bytes
 osc: ~: a table has a multiple of 20 bytes, and this has % bytes
+osc ~
 start %
 ";
 
@@ -87,8 +88,9 @@ pub const FOUR: usize = 25;
 // The first of the forms of troubles, which stand in the order of `Trouble`.
 pub const TROUBLES: usize = 26;
 
-// The form of a start stands after them.
-pub const START: usize = 42;
+pub const VERSION: usize = 42;
+
+pub const START: usize = 43;
 
 // A line of a form and as many numbers as one has.
 pub fn formed(form: usize, a: u64, b: u64, c: u64, d: u64, e: u64, f: u64) -> Line

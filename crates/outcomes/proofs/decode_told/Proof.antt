@@ -13,6 +13,7 @@ use Rattle.telling.specs.Answers.{decodedLine}
 use Rattle.telling.proofs.Told.{says-as}
 use Rattle.telling.proofs.Said.{same-said, decoded-said}
 use Rattle.outcomes.specs.Kept.{rootsOf, isPackets, keptTrees}
+use Rattle.outcomes.specs.Told.{decodedWith}
 use Rattle.outcomes.proofs.Answers.{leaves, answered, answer-fits, records-in, stand, bytes-kept, bytes-counted, packets-told}
 use Rattle.outcomes.proofs.decode_told.Statement.{statement}
 use Rattle.outcomes.proofs.decode_told.Tie as tie
@@ -21,23 +22,24 @@ root-count-requires : tie.Need-root-count-requires
 root-count-requires c κs =
     let p1 = c .before in
     let p4 = p1 .before .before .before in
-    let a = p4 .before .before .before .before .before .before .args in
+    let p6 = p4 .before .before in
+    let a = p6 .before .before .before .before .args in
     let msg = a .msg .now in
     let rule = ruleOf (a .framing) in
     let e = p4 .decode .ensures in
     records-in (leaves (p4 .decode .result) (forestOf (rule msg)) _ _ (e .1))
-    (answer-fits rule (a .options .depth) msg (a .table .now) (a .options .records) (search needs) (e .0)) (p1 .kept-count .ensures)
+    (answer-fits rule (a .options .depth) msg (a .table .now) (p6 .least .result) (search needs) (e .0)) (p1 .kept-count .ensures)
 
-mul-t13 : tie.Need-mul-t13
-mul-t13 c =
+mul-t12 : tie.Need-mul-t12
+mul-t12 c =
     let p9 = c .before .before .before .before .before .before .before .before .before in
     let p12 = p9 .before .before .before in
-    let a = p12 .before .before .before .before .before .before .args in
-    let msg = a .msg .now in
-    let rule = ruleOf (a .framing) in
-    let e = p12 .decode .ensures in
-    let x = answer-fits rule (a .options .depth) msg (a .table .now) (a .options .records) (search needs) (e .0) in
-    record { fits = omega (arith, x .few, p9 .kept-count .ensures) }
+    let p14 = p12 .before .before in
+    let s = p14 .before .before .before .before in
+    let a = s .args in
+    let h : p14 .least .result * 16 ≤ length (a .table .now) = omega (arith, s .pre, p14 .least .ensures) in
+    let x = answer-fits (ruleOf (a .framing)) (a .options .depth) (a .msg .now) (a .table .now) (p14 .least .result) h (p12 .decode .ensures .0) in
+    record { fits = omega (arith, x .few, p9 .kept-count .ensures, p14 .least .ensures) }
 
 returns : tie.Need-returns
 returns c =
@@ -46,19 +48,22 @@ returns c =
     let p7 = p6 .before in
     let p9 = p7 .before .before in
     let p12 = p9 .before .before .before in
-    let s = p12 .before .before .before .before .before .before in
+    let p14 = p12 .before .before in
+    let s = p14 .before .before .before .before in
     let a = s .args in
-    let h : a .options .records * 16 ≤ length (a .table .now) = omega (arith, s .pre .0, s .pre .1) in
     let msg = a .msg .now in
     let rule = ruleOf (a .framing) in
     let f = forestOf (rule msg) in
     let e = p12 .decode .ensures in
     let d = p12 .decode .result in
-    let r : d ≡ decoded rule (a .options .records) (a .options .depth) msg
-    = answered rule (a .options .depth) msg (a .table .now) (a .options .records) h (e .0) in
-    let x = answer-fits rule (a .options .depth) msg (a .table .now) (a .options .records) h (e .0) in
+    let h : p14 .least .result * 16 ≤ length (a .table .now) = omega (arith, s .pre, p14 .least .ensures) in
+    let r : d ≡ decodedWith (a .framing) (a .options) msg
+    = answered rule (a .options .depth) msg (a .table .now) (p14 .least .result) h (e .0)
+    ∙ ap (λ (n : ℕ). decoded rule n (a .options .depth) msg) (p14 .least .ensures) in
+    let x = answer-fits rule (a .options .depth) msg (a .table .now) (p14 .least .result) h (e .0) in
     let l = leaves d f _ _ (e .1) in
-    let n : p7 .root-count .result ≡ rootsOf (keptTrees d f) = p7 .root-count .ensures (keptTrees d f) (stand l x (p9 .kept-count .ensures) (s .pre .0)) in
+    let n : p7 .root-count .result ≡ rootsOf (keptTrees d f)
+    = p7 .root-count .ensures (keptTrees d f) (stand l x (p9 .kept-count .ensures) (omega (arith, p14 .least .ensures))) in
     record {
       kept = c .is-packets .ensures ∙ ap isPackets r;
       counts = bytes-counted l x (p9 .kept-count .ensures);
@@ -74,6 +79,7 @@ pub decode-told-spec : {M : Type 1} → statement M
 decode-told-spec =
     tie.close
     (tie.spec
+    (λ c κs. search needs)
     (λ c. search needs)
     (λ c. search needs)
     (λ c. search needs)
@@ -85,7 +91,7 @@ decode-told-spec =
     (λ c. search needs)
     (λ c κs. search needs)
     (λ c κs. search needs)
-    mul-t13
+    mul-t12
     (λ c. search needs)
     (λ c. search needs)
     returns)
