@@ -5,6 +5,7 @@ use crate::space;
 use commands::LookAsked;
 use commands::look_asked;
 use telling::tell_record;
+use telling::tell_start;
 
 // Looks at a record of the table of the file that word 2 names. It writes no file, and no word names one that it could write.
 fn look_in_file(index: usize) {
@@ -17,6 +18,8 @@ fn look_in_file(index: usize) {
     let mut line = io::buffer();
     let m = tell_record(&table[..n], index, &mut line);
     say::answer(&line[..m]);
+    let more = tell_start(&table[..n], index, &mut line);
+    say::answer(&line[..more]);
 }
 
 pub fn run() {

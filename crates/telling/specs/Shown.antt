@@ -64,6 +64,11 @@ abbrev pub startedLine : Started → List ℕ
 startedLine (started.At start) = line startForm (start ∷ []) []
 startedLine (started.Refused refusal) = refusedLine refusal
 
+-- it is said of a record that is shown; after a refusal nothing more is said
+abbrev pub afterLook : Started → Looked → List ℕ
+afterLook s (looked.Value x) = startedLine s
+afterLook s (looked.Refused refusal) = []
+
 -- of record i of a table
 unfoldable pub startLine : List ℕ → ℕ → List ℕ
-startLine table i = startedLine (startedAt table i)
+startLine table i = afterLook (startedAt table i) (lookAt table i)

@@ -6,6 +6,8 @@ mod answers; // answers.rt: the line for an answer of the library
 mod shown; // shown.rt: the line for a record that is looked at
 mod troubles; // troubles.rt: the line for trouble with a word or a file
 
+pub use line::Line;
+pub use line::tell;
 pub use answers::decoded_line;
 pub use answers::encoded_line;
 pub use answers::version_line;

@@ -126,11 +126,15 @@ fn started_line(started: Started) -> Line
     }
 }
 
-// Puts the line for where the data of record `index` begins at the front of `out`, and answers how long it is.
+// Puts the line for where the data of record `index` begins at the front of `out`, and answers how long it is: 0 where `tell_record` says a
+// refusal.
 //
-// Ruled out: the end of the record in its place; a start for a record that does not exist.
+// Ruled out: the end of the record in its place; a second line after a refusal.
 pub fn tell_start(table: &[u8], index: usize, out: &mut [u8]) -> usize
     ensures { λ r. ⌜ Says (startLine (now (table .entry)) index) (now (out .exit)) r ⌝ }
 {
-    tell(started_line(start_of(table, index)), b"", out)
+    match look(table, index) {
+        Looked::Value(_) => tell(started_line(start_of(table, index)), b"", out),
+        Looked::Refused(_) => 0,
+    }
 }
