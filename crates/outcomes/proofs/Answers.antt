@@ -61,14 +61,14 @@ leaves {p} d f t rest e =
     record { more = l .more ++ rest; is = ap (λ (x : List ℕ). x ++ rest) (e ∙ l .is) ∙ append-assoc (recordsOf 0 (keptTrees d f)) (l .more) rest }
 
 -- the room that is lent is for as many records as are asked for
-room-lent : (t : List ℕ) (records : ℕ) → records * 16 ≤ length t → capacity (midOf 0 (records * 16 - 0) t) ≡ records
+room-lent : (t : List ℕ) (records : ℕ) → records * recordSize ≤ length t → capacity (midOf 0 (records * recordSize - 0) t) ≡ records
 room-lent t records h =
-    let z : records * 16 - 0 ≡ records * 16 = omega arith in
-    let l : length (take (records * 16) t) ≡ records * 16 = length-take-le (records * 16) t h in
+    let z : records * recordSize - 0 ≡ records * recordSize = omega arith in
+    let l : length (take (records * recordSize) t) ≡ records * recordSize = length-take-le (records * recordSize) t h in
     rw (z, l) (mul-div-cancel records (omega arith))
 
-module _ {d : Decoded} (rule : List ℕ → Whole) (limit : ℕ) (msg t : List ℕ) (records : ℕ) (h : records * 16 ≤ length t)
-    (e : d ≡ decoded rule (capacity (midOf 0 (records * 16 - 0) t)) limit msg) where
+module _ {d : Decoded} (rule : List ℕ → Whole) (limit : ℕ) (msg t : List ℕ) (records : ℕ) (h : records * recordSize ≤ length t)
+    (e : d ≡ decoded rule (capacity (midOf 0 (records * recordSize - 0) t)) limit msg) where
   -- so the answer is the one for so many records
   pub answered : d ≡ decoded rule records limit msg
   answered = e ∙ ap (λ (n : ℕ). decoded rule n limit msg) (room-lent t records h)
@@ -81,26 +81,26 @@ module _ {capacity′ count : ℕ} {d : Decoded} {f : Forest} {t : List ℕ} (l 
   same-size : size (keptTrees d f) ≡ count
   same-size = x .counts ∙ sym e
 
-  bytes-in : count * 16 ≤ length t
+  bytes-in : count * recordSize ≤ length t
   bytes-in = omega (arith, ap length (l .is), length-append (recordsOf 0 (keptTrees d f)) (l .more), length-records 0 (keptTrees d f), same-size)
 
   -- the records that are kept lie in the table
   pub records-in : count ≤ capacity t
-  records-in = le-div-iff-mul-le {k = 16} (omega arith) .1 bytes-in
+  records-in = le-div-iff-mul-le {k = recordSize} (omega arith) .1 bytes-in
 
   -- as the trees that they are
   pub stand : capacity′ ≤ mostRecords → StandAt t 0 count (keptTrees d f)
   stand h = record { more = l .more; records = l .is; ends = omega (arith, same-size); few = omega (arith, x .few) }
 
   -- the bytes that are kept are those records
-  pub bytes-kept : take (count * 16) t ≡ recordsOf 0 (keptTrees d f)
+  pub bytes-kept : take (count * recordSize) t ≡ recordsOf 0 (keptTrees d f)
   bytes-kept =
-      ap (take (count * 16)) (l .is)
-      ∙ take-at (recordsOf 0 (keptTrees d f)) (l .more) (count * 16) (omega (arith, length-records 0 (keptTrees d f), same-size))
+      ap (take (count * recordSize)) (l .is)
+      ∙ take-at (recordsOf 0 (keptTrees d f)) (l .more) (count * recordSize) (omega (arith, length-records 0 (keptTrees d f), same-size))
 
   -- and they lie in the table
-  pub bytes-counted : Counts (count * 16) t
-  bytes-counted = (bytes-in, sym (length-take-le (count * 16) t bytes-in))
+  pub bytes-counted : Counts (count * recordSize) t
+  bytes-counted = (bytes-in, sym (length-take-le (count * recordSize) t bytes-in))
 
 -- the number of packets is told of packets alone
 pub packets-told : (d : Decoded) (f : Forest) (bytes : ℕ) → decodedLine (rootsOf (keptTrees d f)) bytes d ≡ decodedLine (rootsOf f) bytes d

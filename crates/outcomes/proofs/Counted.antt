@@ -19,7 +19,7 @@ end-read : (t more : List ℕ) (i : ℕ) (item : Item) (end : ℕ) → end < 256
     → endAt t i ≡ end
 unfolding fieldAt recordOf
 end-read t more i item end h e =
-    let fields : List ℕ = bytes 4 (item .a) ++ bytes 4 (item .b) in
+    let fields : List ℕ = bytes 4 (item .a) ++ (bytes 4 (item .b) ++ bytes 4 (item .start)) in
     let d : drop (recordStart i + 4) t ≡ bytes 4 end ++ (fields ++ more)
     = sym (drop-drop 4 (recordStart i) t) ∙ ap (drop 4) e ∙ append-assoc (bytes 4 end) fields more in
     ap (number 4) d ∙ read-written 4 end (fields ++ more) h

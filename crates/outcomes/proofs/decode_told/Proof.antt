@@ -8,7 +8,7 @@ use borrow.Author.Needs.{needs}
 use Rattle.decoder.specs.Framing.{ruleOf}
 use Rattle.decoder.specs.Limits.{decoded, forestOf}
 use Rattle.decoder.specs.declared.Decoded.{Decoded}
-use Rattle.node.specs.Records.{recordsOf}
+use Rattle.node.specs.Records.{recordSize, recordsOf}
 use Rattle.telling.specs.Answers.{decodedLine}
 use Rattle.telling.proofs.Told.{says-as}
 use Rattle.telling.proofs.Said.{same-said, decoded-said}
@@ -27,8 +27,8 @@ root-count-requires c κs =
     let msg = a .msg .now in
     let rule = ruleOf (a .framing) in
     let e = p4 .decode .ensures in
-    records-in (leaves (p4 .decode .result) (forestOf (rule msg)) _ _ (e .1))
-    (answer-fits rule (a .options .depth) msg (a .table .now) (p6 .least .result) (search needs) (e .0)) (p1 .kept-count .ensures)
+    records-in (leaves (p4 .decode .result) (forestOf (rule msg)) _ _ (e .left))
+    (answer-fits rule (a .options .depth) msg (a .table .now) (p6 .least .result) (search needs) (e .answered)) (p1 .kept-count .ensures)
 
 mul-t12 : tie.Need-mul-t12
 mul-t12 c =
@@ -37,8 +37,8 @@ mul-t12 c =
     let p14 = p12 .before .before in
     let s = p14 .before .before .before .before in
     let a = s .args in
-    let h : p14 .least .result * 16 ≤ length (a .table .now) = omega (arith, s .pre, p14 .least .ensures) in
-    let x = answer-fits (ruleOf (a .framing)) (a .options .depth) (a .msg .now) (a .table .now) (p14 .least .result) h (p12 .decode .ensures .0) in
+    let h : p14 .least .result * recordSize ≤ length (a .table .now) = omega (arith, s .pre, p14 .least .ensures) in
+    let x = answer-fits (ruleOf (a .framing)) (a .options .depth) (a .msg .now) (a .table .now) (p14 .least .result) h (p12 .decode .ensures .answered) in
     record { fits = omega (arith, x .few, p9 .kept-count .ensures, p14 .least .ensures) }
 
 returns : tie.Need-returns
@@ -56,12 +56,12 @@ returns c =
     let f = forestOf (rule msg) in
     let e = p12 .decode .ensures in
     let d = p12 .decode .result in
-    let h : p14 .least .result * 16 ≤ length (a .table .now) = omega (arith, s .pre, p14 .least .ensures) in
+    let h : p14 .least .result * recordSize ≤ length (a .table .now) = omega (arith, s .pre, p14 .least .ensures) in
     let r : d ≡ decodedWith (a .framing) (a .options) msg
-    = answered rule (a .options .depth) msg (a .table .now) (p14 .least .result) h (e .0)
+    = answered rule (a .options .depth) msg (a .table .now) (p14 .least .result) h (e .answered)
     ∙ ap (λ (n : ℕ). decoded rule n (a .options .depth) msg) (p14 .least .ensures) in
-    let x = answer-fits rule (a .options .depth) msg (a .table .now) (p14 .least .result) h (e .0) in
-    let l = leaves d f _ _ (e .1) in
+    let x = answer-fits rule (a .options .depth) msg (a .table .now) (p14 .least .result) h (e .answered) in
+    let l = leaves d f _ _ (e .left) in
     let n : p7 .root-count .result ≡ rootsOf (keptTrees d f)
     = p7 .root-count .ensures (keptTrees d f) (stand l x (p9 .kept-count .ensures) (omega (arith, p14 .least .ensures))) in
     record {
