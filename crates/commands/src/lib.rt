@@ -8,7 +8,6 @@ use words::numeral::decimal;
 ghost use mathlib.Core.Path.{_≡_};
 ghost use Rattle.commands.specs.Words.{sameWord, commandOf, framingOf, numberOfWord};
 ghost use Rattle.commands.specs.Asked.{decodeWith, encodeWith, encodeAsked, lookAsked};
-
 pub use options::Chosen;
 pub use options::Options;
 pub use options::options_of;

@@ -48,8 +48,8 @@ unfolding decimalOf
 told-decimal zero x h f = absurd (omega (arith, f .0))
 told-decimal (suc k) x h f = ⊎-elim
     (λ l.
-      let most : 10 ^ 20 ≤ 10 ^ (suc k - 1) = pow-le-pow-right {n = 10} (omega arith) {i = 20} {j = suc k - 1} (omega arith) in
-      absurd (omega (arith, f .2 (omega arith))))
+    let most : 10 ^ 20 ≤ 10 ^ (suc k - 1) = pow-le-pow-right {n = 10} (omega arith) {i = 20} {j = suc k - 1} (omega arith) in
+    absurd (omega (arith, f .2 (omega arith))))
     (λ l. fewest-ten 19 k x l f)
     (lt-or-le 19 k)
 
@@ -58,7 +58,7 @@ pub told-eight : (k x : ℕ) → Fewest 16 (min (max 8 1) 16) (x % 0x1_0000_0000
 unfolding eightOf
 told-eight k x f = ⊎-elim
     (λ h.
-      let most : 16 ^ 8 ≤ 16 ^ (k - 1) = pow-le-pow-right {n = 16} (omega arith) {i = 8} {j = k - 1} (omega arith) in
-      absurd (omega (arith, f .2 h, mod-lt x {m = 0x1_0000_0000} (omega arith))))
+    let most : 16 ^ 8 ≤ 16 ^ (k - 1) = pow-le-pow-right {n = 16} (omega arith) {i = 8} {j = k - 1} (omega arith) in
+    absurd (omega (arith, f .2 h, mod-lt x {m = 0x1_0000_0000} (omega arith))))
     (λ h. let e : k ≡ 8 = omega (arith, f .0) in rw e)
     (lt-or-le 8 k)
