@@ -3,9 +3,8 @@ use commands::VERSION;
 use libc::STDERR_FILENO;
 use libc::STDOUT_FILENO;
 use telling::Trouble;
-use telling::tell;
-use telling::trouble_line;
-use telling::version_line;
+use telling::tell_trouble;
+use telling::tell_version;
 
 // An answer.
 pub fn answer(line: &[u8]) {
@@ -17,14 +16,14 @@ pub fn trouble(trouble: Trouble, i: usize, number: usize) {
     let mut word = io::buffer();
     let n = os::arg(i, &mut word);
     let mut line = io::large_buffer();
-    let m = tell(trouble_line(trouble, number as u64), &word[..n], &mut line);
+    let m = tell_trouble(trouble, number as u64, &word[..n], &mut line);
     io::write_all(STDERR_FILENO, &line[..m]);
 }
 
 // The version.
 pub fn version() {
     let mut line = io::buffer();
-    let n = tell(version_line(), &VERSION, &mut line);
+    let n = tell_version(&VERSION, &mut line);
     answer(&line[..n]);
 }
 

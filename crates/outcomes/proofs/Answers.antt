@@ -58,7 +58,10 @@ tabled-leaves (answer.Refused r) f t = record { more = t; is = refl }
 pub leaves : {p : List ℕ} (d : Decoded) (f : Forest) (t rest : List ℕ) → p ≡ tabled d f t → Leaves d f (p ++ rest)
 leaves {p} d f t rest e =
     let l = tabled-leaves d f t in
-    record { more = l .more ++ rest; is = ap (λ (x : List ℕ). x ++ rest) (e ∙ l .is) ∙ append-assoc (recordsOf 0 (keptTrees d f)) (l .more) rest }
+    record {
+      more = l .more ++ rest;
+      is = ap (λ (x : List ℕ). x ++ rest) (e ∙ l .is) ∙ append-assoc (recordsOf 0 (keptTrees d f)) (l .more) rest;
+    }
 
 -- the room that is lent is for as many records as are asked for
 room-lent : (t : List ℕ) (records : ℕ) → records * recordSize ≤ length t → capacity (midOf 0 (records * recordSize - 0) t) ≡ records
@@ -77,12 +80,15 @@ module _ {d : Decoded} (rule : List ℕ → Whole) (limit : ℕ) (msg t : List �
   pub answer-fits : Fits records (forestOf (rule msg)) d
   answer-fits = rw answered (decoded-fits rule records limit msg)
 
-module _ {capacity′ count : ℕ} {d : Decoded} {f : Forest} {t : List ℕ} (l : Leaves d f t) (x : Fits capacity′ f d) (e : count ≡ keptCount d) where
+module _ {capacity′ count : ℕ} {d : Decoded} {f : Forest} {t : List ℕ} (l : Leaves d f t) (x : Fits capacity′ f d)
+    (e : count ≡ keptCount d) where
   same-size : size (keptTrees d f) ≡ count
   same-size = x .counts ∙ sym e
 
   bytes-in : count * recordSize ≤ length t
-  bytes-in = omega (arith, ap length (l .is), length-append (recordsOf 0 (keptTrees d f)) (l .more), length-records 0 (keptTrees d f), same-size)
+  bytes-in =
+      let rs = recordsOf 0 (keptTrees d f) in
+      omega (arith, ap length (l .is), length-append rs (l .more), length-records 0 (keptTrees d f), same-size)
 
   -- the records that are kept lie in the table
   pub records-in : count ≤ capacity t

@@ -73,8 +73,8 @@ record Next (t : List ℕ) (count : ℕ) (f : Forest) (i n : ℕ) : Type 0 where
   on : i < endAt t i
   passed : Passed t count f (endAt t i) (n + 1)
 
-next-of : (t : List ℕ) (count : ℕ) (f : Forest) (i n : ℕ) (rest : Forest) → i < count → StandAt t i count rest → n + rootsOf rest ≡ rootsOf f
-    → Next t count f i n
+next-of : (t : List ℕ) (count : ℕ) (f : Forest) (i n : ℕ) (rest : Forest) → i < count → StandAt t i count rest
+    → n + rootsOf rest ≡ rootsOf f → Next t count f i n
 unfolding rootsOf size
 next-of t count f i n nil h s e = absurd (omega (arith, s .ends))
 next-of t count f i n (node item inside rest) h s e =

@@ -11,9 +11,8 @@ use node::record::MOST_RECORDS;
 use node::record::RECORD_SIZE;
 use node::record::capacity_of;
 use roots::root_count;
-use telling::decoded_line;
-use telling::encoded_line;
-use telling::tell;
+use telling::tell_decoded;
+use telling::tell_encoded;
 ghost use mathlib.Core.Path.{_≡_};
 ghost use Prim.Native.Nat.{_*_, _≤_, min};
 ghost use lib.ListN.{length};
@@ -78,7 +77,7 @@ pub fn decode_told(
     let answer = decode(framing, msg, &mut table[0..room], options.depth);
     let count = kept_count(answer);
     let packets = root_count(table, count);
-    let n = tell(decoded_line(packets, msg.len(), answer), b"", line);
+    let n = tell_decoded(packets, msg.len(), answer, line);
     Told {
         is_kept: is_packets(answer),
         bytes: count * RECORD_SIZE,
@@ -132,7 +131,7 @@ pub fn encode_told(
         ⌜ EncodeTold «has_length» (now (table .entry)) (now (source .entry)) (now (out .entry)) (now (out .exit)) (now (line .exit)) r ⌝ }
 {
     let answer = encoded(has_length, table, source, out);
-    let n = tell(encoded_line(answer), b"", line);
+    let n = tell_encoded(answer, line);
     Told {
         is_kept: is_written(answer),
         bytes: written_count(answer),

@@ -26,11 +26,11 @@ use Rattle.decoder.specs.declared.Decoded.{Decoded}
 use Rattle.decoder.specs.declared.Decoded.the-variants as decoded
 use Rattle.encoder.specs.declared.Encoded.{Encoded}
 use Rattle.encoder.specs.declared.Encoded.the-variants as encoded
-use Rattle.telling.specs.Forms.{pieceOf, takenBy, filledIn, line}
-use Rattle.telling.specs.Answers.{versionForm, refusedLine, decodedLine, encodedLine}
+use Rattle.telling.specs.Forms.{pieceOf, takenBy, filledIn}
+use Rattle.telling.specs.Answers.{refusedLine, decodedLine, encodedLine, versionLine}
 use Rattle.telling.specs.Shown.{shownAs, signWords, valueLine, lookedLine, startedLine}
 use Rattle.telling.specs.Troubles.{troubleLine}
-use Rattle.telling.specs.CodeTable.{saidBy, with, refusedAs, decodedAs, encodedAs, versionAs, signedAs, valueAs, lookedAs}
+use Rattle.telling.specs.CodeTable.{saidBy, with, refusedAs, decodedAs, encodedAs, signedAs, valueAs, lookedAs}
 use Rattle.telling.specs.CodeTable.{startedAs, troubleAs}
 use Rattle.telling.specs.declared.line.Line.{Line}
 use Rattle.telling.specs.declared.troubles.Trouble.{Trouble}
@@ -96,9 +96,9 @@ encoded-said (encoded.Written n) = refl
 encoded-said (encoded.Refused r) = refused-said r []
 
 -- the version
-pub version-said : (text : List ℕ) → saidBy versionAs text ≡ line versionForm [] text
+pub version-said : (version : List ℕ) → saidBy (with 42 0 0 0 0 0 0) version ≡ versionLine version
 unfolding saidBy filledIn pieceOf takenBy
-version-said text = refl
+version-said version = refl
 
 module _ (i k e : ℕ) where
   signed-said : (z : ℤ) → saidBy (signedAs i e z) (k ∷ []) ≡ shownAs i k e (signWords z) (natAbs z ∷ [])

@@ -16,7 +16,8 @@ use Rattle.telling.specs.CodePut.{PutAfter}
 pub byte-more : (o o₀ bs : List ℕ) (at i end : ℕ) → take end o ≡ take at o₀ ++ take i bs → end < length o → i < length bs
     → take (end + 1) (set o end (getD bs i 0)) ≡ take at o₀ ++ take (i + 1) bs
 byte-more o o₀ bs at i end e h l =
-    rw (add-one end, add-one i, take-suc-set o end (getD bs i 0) h, take-suc bs i 0 l, e) (append-assoc (take at o₀) (take i bs) (getD bs i 0 ∷ []))
+    rw (add-one end, add-one i, take-suc-set o end (getD bs i 0) h, take-suc bs i 0 l, e)
+    (append-assoc (take at o₀) (take i bs) (getD bs i 0 ∷ []))
 
 -- the slice is full
 pub put-full : {o o₀ bs : List ℕ} (at i end : ℕ) → at ≤ length o₀ → end ≡ at + i → end ≡ length o₀ → length o ≡ length o₀

@@ -52,3 +52,7 @@ decodedLine packets bytes (decoded.Refused refusal) = refusedLine refusal
 abbrev pub encodedLine : Encoded → List ℕ
 encodedLine (encoded.Written n) = line writtenForm (n ∷ []) []
 encodedLine (encoded.Refused refusal) = refusedLine refusal
+
+-- the version
+abbrev pub versionLine : List ℕ → List ℕ
+versionLine version = line versionForm [] version

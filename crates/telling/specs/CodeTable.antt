@@ -33,11 +33,11 @@ forms =
     refusedForms
     ++ (packetsForm ∷ waitingForm ∷ writtenForm ∷ recordForm "" ∷ recordForm " %" ∷ recordForm " -%" ∷ recordForm " offset % length %"
     ∷ recordForm " seconds % fraction %" ∷ recordForm " bits 0x$" ∷ recordForm " bits 0x$$" ∷ recordForm " % % % %"
-    ∷ troubleForm trouble.NoCommand ∷ troubleForm trouble.DecodeWords ∷ troubleForm trouble.EncodeWords ∷ troubleForm trouble.LookWords
-    ∷ troubleForm trouble.NoFraming ∷ troubleForm trouble.OnePacket ∷ troubleForm trouble.NoOption ∷ troubleForm trouble.Twice
-    ∷ troubleForm trouble.NoNumber ∷ troubleForm trouble.ManyRecords ∷ troubleForm trouble.NoName ∷ troubleForm trouble.LongName
-    ∷ troubleForm trouble.NoFile ∷ troubleForm trouble.OneFile ∷ troubleForm trouble.TooLarge ∷ troubleForm trouble.NoTable ∷ versionForm
-    ∷ startForm ∷ [])
+    ∷ troubleForm trouble.NoCommand ∷ troubleForm trouble.DecodeWords ∷ troubleForm trouble.EncodeWords
+    ∷ troubleForm trouble.LookWords ∷ troubleForm trouble.NoFraming ∷ troubleForm trouble.OnePacket ∷ troubleForm trouble.NoOption
+    ∷ troubleForm trouble.Twice ∷ troubleForm trouble.NoNumber ∷ troubleForm trouble.ManyRecords ∷ troubleForm trouble.NoName
+    ∷ troubleForm trouble.LongName ∷ troubleForm trouble.NoFile ∷ troubleForm trouble.OneFile ∷ troubleForm trouble.TooLarge
+    ∷ troubleForm trouble.NoTable ∷ versionForm ∷ startForm ∷ [])
 
 -- what a line says, with a text
 unfoldable pub saidBy : Line → List ℕ → List ℕ
@@ -61,10 +61,6 @@ decodedAs packets bytes (decoded.Refused refusal) = refusedAs refusal
 abbrev pub encodedAs : Encoded → Line
 encodedAs (encoded.Written n) = with 17 n 0 0 0 0 0
 encodedAs (encoded.Refused refusal) = refusedAs refusal
-
--- the version
-abbrev pub versionAs : Line
-versionAs = with 42 0 0 0 0 0 0
 
 -- a number with its sign
 abbrev pub signedAs : ℕ → ℕ → ℤ → Line

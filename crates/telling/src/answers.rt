@@ -5,16 +5,17 @@ use crate::line::VERSION;
 use crate::line::WAITING;
 use crate::line::WRITTEN;
 use crate::line::formed;
+use crate::line::tell;
 use decoder::Decoded;
 use encoder::Encoded;
 use refusal::Refusal;
 use refusal::number_of;
 ghost use mathlib.Core.Path.{_≡_};
-ghost use Rattle.telling.specs.CodeTable.{refusedAs, decodedAs, encodedAs, versionAs};
+ghost use Rattle.telling.specs.Forms.{Says};
+ghost use Rattle.telling.specs.Answers.{decodedLine, encodedLine, versionLine};
+ghost use Rattle.telling.specs.CodeTable.{refusedAs, decodedAs, encodedAs};
 
 // A refusal: its number and its words.
-//
-// Ruled out: the number raised by one; the words of another number.
 pub fn refused_line(refusal: Refusal) -> Line
     ensures { λ r. ⌜ r ≡ refusedAs refusal ⌝ }
 {
@@ -23,9 +24,7 @@ pub fn refused_line(refusal: Refusal) -> Line
 }
 
 // A decoder's answer to an input of so many packets and bytes.
-//
-// Ruled out: the count of records in the place of that of packets; Waiting told as packets.
-pub fn decoded_line(packets: usize, bytes: usize, answer: Decoded) -> Line
+fn decoded_line(packets: usize, bytes: usize, answer: Decoded) -> Line
     ensures { λ r. ⌜ r ≡ decodedAs packets bytes answer ⌝ }
 {
     match answer {
@@ -44,7 +43,7 @@ pub fn decoded_line(packets: usize, bytes: usize, answer: Decoded) -> Line
 }
 
 // An encoder's answer.
-pub fn encoded_line(answer: Encoded) -> Line
+fn encoded_line(answer: Encoded) -> Line
     ensures { λ r. ⌜ r ≡ encodedAs answer ⌝ }
 {
     match answer {
@@ -53,9 +52,29 @@ pub fn encoded_line(answer: Encoded) -> Line
     }
 }
 
-// The version, which is the text.
-pub fn version_line() -> Line
-    ensures { λ r. ⌜ r ≡ versionAs ⌝ }
+// Puts the line for a decoder's answer at the front of `out`, and answers how long it is. What has no room is left out.
+//
+// Ruled out: the count of records in the place of that of packets; a refusal's number raised by one.
+pub fn tell_decoded(packets: usize, bytes: usize, answer: Decoded, out: &mut [u8]) -> usize
+    ensures { λ r. ⌜ Says (decodedLine packets bytes answer) (now (out .exit)) r ⌝ }
 {
-    formed(VERSION, 0, 0, 0, 0, 0, 0)
+    tell(decoded_line(packets, bytes, answer), b"", out)
+}
+
+// The same for an encoder's answer.
+//
+// Ruled out: another number of bytes; a refusal told as bytes that were written.
+pub fn tell_encoded(answer: Encoded, out: &mut [u8]) -> usize
+    ensures { λ r. ⌜ Says (encodedLine answer) (now (out .exit)) r ⌝ }
+{
+    tell(encoded_line(answer), b"", out)
+}
+
+// The same for the version.
+//
+// Ruled out: the version without the program's name; the name alone.
+pub fn tell_version(version: &[u8], out: &mut [u8]) -> usize
+    ensures { λ r. ⌜ Says (versionLine (now (version .entry))) (now (out .exit)) r ⌝ }
+{
+    tell(formed(VERSION, 0, 0, 0, 0, 0, 0), version, out)
 }

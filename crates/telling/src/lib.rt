@@ -6,12 +6,10 @@ mod answers; // answers.rt: the line for an answer of the library
 mod shown; // shown.rt: the line for a record that is looked at
 mod troubles; // troubles.rt: the line for trouble with a word or a file
 
-pub use line::Line;
-pub use line::tell;
-pub use answers::decoded_line;
-pub use answers::encoded_line;
-pub use answers::version_line;
+pub use answers::tell_decoded;
+pub use answers::tell_encoded;
+pub use answers::tell_version;
 pub use shown::tell_record;
 pub use shown::tell_start;
 pub use troubles::Trouble;
-pub use troubles::trouble_line;
+pub use troubles::tell_trouble;

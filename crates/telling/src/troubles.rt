@@ -2,8 +2,11 @@
 use crate::line::Line;
 use crate::line::TROUBLES;
 use crate::line::formed;
+use crate::line::tell;
 ghost use mathlib.Core.Path.{_≡_};
 ghost use Prim.Native.Nat.{_<_};
+ghost use Rattle.telling.specs.Forms.{Says};
+ghost use Rattle.telling.specs.Troubles.{troubleLine};
 ghost use Rattle.telling.specs.CodeTable.{placeOf, troubleAs};
 
 // What may be wrong with the words of a command, and with the files that they name.
@@ -51,10 +54,18 @@ fn place_of(trouble: Trouble) -> usize
 }
 
 // Trouble with a word, or with a file and a number of its bytes.
-//
-// Ruled out: the words of another trouble; another number.
-pub fn trouble_line(trouble: Trouble, number: u64) -> Line
+fn trouble_line(trouble: Trouble, number: u64) -> Line
     ensures { λ r. ⌜ r ≡ troubleAs trouble number ⌝ }
 {
     formed(TROUBLES + place_of(trouble), number, 0, 0, 0, 0, 0)
+}
+
+// Puts the line for a trouble with a word, or with a file and a number of its bytes, at the front of `out`, and answers how long it is.
+// What has no room is left out.
+//
+// Ruled out: the words of another trouble; another number.
+pub fn tell_trouble(trouble: Trouble, number: u64, word: &[u8], out: &mut [u8]) -> usize
+    ensures { λ r. ⌜ Says (troubleLine trouble number (now (word .entry))) (now (out .exit)) r ⌝ }
+{
+    tell(trouble_line(trouble, number), word, out)
 }

@@ -1,6 +1,5 @@
 -- `outcomes::decode_told` meets its contract: what is kept and said is by the one answer.
 use mathlib.Core.Path.{_≡_, ap, _∙_}
-use mathlib.Core.List.{[]}
 use Prim.Native.Nat.{ℕ, _*_, _≤_}
 use native.Mathlib.Omega.{arith}
 use lib.ListN.{length}
@@ -11,7 +10,6 @@ use Rattle.decoder.specs.declared.Decoded.{Decoded}
 use Rattle.node.specs.Records.{recordSize, recordsOf}
 use Rattle.telling.specs.Answers.{decodedLine}
 use Rattle.telling.proofs.Told.{says-as}
-use Rattle.telling.proofs.Said.{same-said, decoded-said}
 use Rattle.outcomes.specs.Kept.{rootsOf, isPackets, keptTrees}
 use Rattle.outcomes.specs.Told.{decodedWith}
 use Rattle.outcomes.proofs.Answers.{leaves, answered, answer-fits, records-in, stand, bytes-kept, bytes-counted, packets-told}
@@ -30,49 +28,48 @@ root-count-requires c κs =
     records-in (leaves (p4 .decode .result) (forestOf (rule msg)) _ _ (e .left))
     (answer-fits rule (a .options .depth) msg (a .table .now) (p6 .least .result) (search needs) (e .answered)) (p1 .kept-count .ensures)
 
-mul-t12 : tie.Need-mul-t12
-mul-t12 c =
-    let p9 = c .before .before .before .before .before .before .before .before .before in
-    let p12 = p9 .before .before .before in
-    let p14 = p12 .before .before in
-    let s = p14 .before .before .before .before in
+mul-t11 : tie.Need-mul-t11
+mul-t11 c =
+    let p7 = c .before .before .before .before .before .before .before in
+    let p10 = p7 .before .before .before in
+    let p12 = p10 .before .before in
+    let s = p12 .before .before .before .before in
     let a = s .args in
-    let h : p14 .least .result * recordSize ≤ length (a .table .now) = omega (arith, s .pre, p14 .least .ensures) in
-    let x = answer-fits (ruleOf (a .framing)) (a .options .depth) (a .msg .now) (a .table .now) (p14 .least .result) h (p12 .decode .ensures .answered) in
-    record { fits = omega (arith, x .few, p9 .kept-count .ensures, p14 .least .ensures) }
+    let h : p12 .least .result * recordSize ≤ length (a .table .now) = omega (arith, s .pre, p12 .least .ensures) in
+    let rule = ruleOf (a .framing) in
+    let x = answer-fits rule (a .options .depth) (a .msg .now) (a .table .now) (p12 .least .result) h (p10 .decode .ensures .answered) in
+    record { fits = omega (arith, x .few, p7 .kept-count .ensures, p12 .least .ensures) }
 
 returns : tie.Need-returns
 returns c =
     let p3 = c .before .before .before in
-    let p6 = p3 .before .before .before in
-    let p7 = p6 .before in
-    let p9 = p7 .before .before in
-    let p12 = p9 .before .before .before in
-    let p14 = p12 .before .before in
-    let s = p14 .before .before .before .before in
+    let p5 = p3 .before .before in
+    let p7 = p5 .before .before in
+    let p10 = p7 .before .before .before in
+    let p12 = p10 .before .before in
+    let s = p12 .before .before .before .before in
     let a = s .args in
     let msg = a .msg .now in
     let rule = ruleOf (a .framing) in
     let f = forestOf (rule msg) in
-    let e = p12 .decode .ensures in
-    let d = p12 .decode .result in
-    let h : p14 .least .result * recordSize ≤ length (a .table .now) = omega (arith, s .pre, p14 .least .ensures) in
+    let e = p10 .decode .ensures in
+    let d = p10 .decode .result in
+    let h : p12 .least .result * recordSize ≤ length (a .table .now) = omega (arith, s .pre, p12 .least .ensures) in
     let r : d ≡ decodedWith (a .framing) (a .options) msg
-    = answered rule (a .options .depth) msg (a .table .now) (p14 .least .result) h (e .answered)
-    ∙ ap (λ (n : ℕ). decoded rule n (a .options .depth) msg) (p14 .least .ensures) in
-    let x = answer-fits rule (a .options .depth) msg (a .table .now) (p14 .least .result) h (e .answered) in
+    = answered rule (a .options .depth) msg (a .table .now) (p12 .least .result) h (e .answered)
+    ∙ ap (λ (n : ℕ). decoded rule n (a .options .depth) msg) (p12 .least .ensures) in
+    let x = answer-fits rule (a .options .depth) msg (a .table .now) (p12 .least .result) h (e .answered) in
     let l = leaves d f _ _ (e .left) in
-    let n : p7 .root-count .result ≡ rootsOf (keptTrees d f)
-    = p7 .root-count .ensures (keptTrees d f) (stand l x (p9 .kept-count .ensures) (omega (arith, p14 .least .ensures))) in
+    let n : p5 .root-count .result ≡ rootsOf (keptTrees d f)
+    = p5 .root-count .ensures (keptTrees d f) (stand l x (p7 .kept-count .ensures) (omega (arith, p12 .least .ensures))) in
     record {
       kept = c .is-packets .ensures ∙ ap isPackets r;
-      counts = bytes-counted l x (p9 .kept-count .ensures);
-      bytes = bytes-kept l x (p9 .kept-count .ensures) ∙ ap (λ (y : Decoded). recordsOf 0 (keptTrees y f)) r;
+      counts = bytes-counted l x (p7 .kept-count .ensures);
+      bytes = bytes-kept l x (p7 .kept-count .ensures) ∙ ap (λ (y : Decoded). recordsOf 0 (keptTrees y f)) r;
       says = says-as
-          (same-said [] (p6 .decoded-line .ensures) ∙ decoded-said (p7 .root-count .result) (length msg) d
-          ∙ ap (λ (m : ℕ). decodedLine m (length msg) d) n ∙ packets-told d f (length msg)
+          (ap (λ (m : ℕ). decodedLine m (length msg) d) n ∙ packets-told d f (length msg)
           ∙ ap (decodedLine (rootsOf f) (length msg)) r)
-          (p3 .tell .ensures);
+          (p3 .tell-decoded .ensures);
     }
 
 pub decode-told-spec : {M : Type 1} → statement M
@@ -88,10 +85,8 @@ decode-told-spec =
     (λ c κs. search needs)
     root-count-requires
     (λ c κs. search needs)
-    (λ c. search needs)
     (λ c κs. search needs)
-    (λ c κs. search needs)
-    mul-t12
+    mul-t11
     (λ c. search needs)
     (λ c. search needs)
     returns)

@@ -31,7 +31,8 @@ returns-3 c =
     let p2 = p1 .before in
     let a = p2 .before .before .args in
     let f : SFits w32 (p2 .value3 .given .0 .0) = record { sfits = p1 .known-told3 .given .0 .1 } in
-    by-case (valueAs (a .index) (a .end)) (p2 .value3 .given .1) (c .signed .ensures ∙ ap (signedAs (a .index) (a .end)) (toZ-ofZ (widens tt f) ∙ toZ-ofZ f))
+    by-case (valueAs (a .index) (a .end)) (p2 .value3 .given .1)
+    (c .signed .ensures ∙ ap (signedAs (a .index) (a .end)) (toZ-ofZ (widens tt f) ∙ toZ-ofZ f))
 
 returns-4 : tie.Need-returns-4
 returns-4 c =
