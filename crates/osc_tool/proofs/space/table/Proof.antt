@@ -9,7 +9,7 @@ zeros : (n : ℕ) → n ≡ length {A = ℕ} (replicate n 0)
 zeros n = sym (length-replicate n 0)
 
 returns : tie.Need-returns
-returns c = zeros 1048561
+returns c = zeros 1310701
 
 pub table-spec : {M : Type 1} → statement M
 table-spec = tie.close (tie.spec returns)
