@@ -73,7 +73,8 @@ pub fn decode_told(
     requires { ⌜ recordSize * mostRecords ≤ length (now table) ⌝ }
     ensures { λ r. ⌜ DecodeTold framing options (now (msg .entry)) (now (table .exit)) (now (line .exit)) r ⌝ }
 {
-    let room = least(options.records, MOST_RECORDS) * RECORD_SIZE;
+    let records = least(options.records, MOST_RECORDS);
+    let room = records * RECORD_SIZE;
     let answer = decode(framing, msg, &mut table[0..room], options.depth);
     let count = kept_count(answer);
     let packets = root_count(table, count);
