@@ -28,8 +28,8 @@ root-count-requires c κs =
     records-in (leaves (p4 .decode .result) (forestOf (rule msg)) _ _ (e .left))
     (answer-fits rule (a .options .depth) msg (a .table .now) (p6 .least .result) (search needs) (e .answered)) (p1 .kept-count .ensures)
 
-mul-t12 : tie.Need-mul-t12
-mul-t12 c =
+mul-t13 : tie.Need-mul-t13
+mul-t13 c =
     let p7 = c .before .before .before .before .before .before .before in
     let p10 = p7 .before .before .before in
     let p12 = p10 .before .before in
@@ -86,7 +86,7 @@ decode-told-spec =
     root-count-requires
     (λ c κs. search needs)
     (λ c κs. search needs)
-    mul-t12
+    mul-t13
     (λ c. search needs)
     (λ c. search needs)
     returns)
