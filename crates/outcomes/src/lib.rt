@@ -79,9 +79,10 @@ pub fn decode_told(
     let count = kept_count(answer);
     let packets = root_count(table, count);
     let n = tell_decoded(packets, msg.len(), answer, line);
+    let bytes = count * RECORD_SIZE;
     Told {
         is_kept: is_packets(answer),
-        bytes: count * RECORD_SIZE,
+        bytes,
         line: n,
     }
 }

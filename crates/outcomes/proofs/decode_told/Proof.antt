@@ -28,17 +28,17 @@ root-count-requires c κs =
     records-in (leaves (p4 .decode .result) (forestOf (rule msg)) _ _ (e .left))
     (answer-fits rule (a .options .depth) msg (a .table .now) (p6 .least .result) (search needs) (e .answered)) (p1 .kept-count .ensures)
 
-mul-t13 : tie.Need-mul-t13
-mul-t13 c =
-    let p7 = c .before .before .before .before .before .before .before in
-    let p10 = p7 .before .before .before in
-    let p12 = p10 .before .before in
-    let s = p12 .before .before .before .before in
+mul-bytes : tie.Need-mul-bytes
+mul-bytes c =
+    let p6 = c .before .before .before .before .before .before in
+    let p9 = p6 .before .before .before in
+    let p11 = p9 .before .before in
+    let s = p11 .before .before .before .before in
     let a = s .args in
-    let h : p12 .least .result * recordSize ≤ length (a .table .now) = omega (arith, s .pre, p12 .least .ensures) in
+    let h : p11 .least .result * recordSize ≤ length (a .table .now) = omega (arith, s .pre, p11 .least .ensures) in
     let rule = ruleOf (a .framing) in
-    let x = answer-fits rule (a .options .depth) (a .msg .now) (a .table .now) (p12 .least .result) h (p10 .decode .ensures .answered) in
-    record { fits = omega (arith, x .few, p7 .kept-count .ensures, p12 .least .ensures) }
+    let x = answer-fits rule (a .options .depth) (a .msg .now) (a .table .now) (p11 .least .result) h (p9 .decode .ensures .answered) in
+    record { fits = omega (arith, x .few, p6 .kept-count .ensures, p11 .least .ensures) }
 
 returns : tie.Need-returns
 returns c =
@@ -85,8 +85,8 @@ decode-told-spec =
     (λ c κs. search needs)
     root-count-requires
     (λ c κs. search needs)
+    mul-bytes
     (λ c κs. search needs)
-    mul-t13
     (λ c. search needs)
     (λ c. search needs)
     returns)
