@@ -1,7 +1,49 @@
--- What a test that fails says.
-use mathlib.Core.Path.{_≡_, sym, _∙_}
-use mathlib.Core.Bool.{Bool, true, false, false≢true}
+-- What tests say, and choices by them.
+use mathlib.Core.Path.{_≡_, refl, sym, ap, _∙_}
+use mathlib.Core.Bool.{Bool, true, false, cond, false≢true}
+use mathlib.Core.List.{List, [], _∷_}
+use Prim.Native.Nat.{ℕ}
+use lib.Dec.{eqb}
+use borrow.Author.Tests.{eqb-true, eq-eqb}
+use Rattle.commands.specs.Words.{sameWord}
 
--- a test that is just for P fails, so not P
-pub differs : {r : Bool} {P : Type 0} → (r ≡ true → P) × (P → r ≡ true) → r ≡ false → P → ⊥
-differs e f p = false≢true (sym f ∙ e .1 p)
+-- ---- two words
+
+both : {A : Type 0} (x y : Bool) → (x ≡ true → y ≡ true → A) → cond x y false ≡ true → A
+both true y f e = f refl e
+both false y f e = absurd (false≢true e)
+
+-- words that the test finds the same are one
+same-one : (a b : List ℕ) → sameWord a b ≡ true → a ≡ b
+same-one [] [] e = refl
+same-one [] (y ∷ b) e = absurd (false≢true e)
+same-one (x ∷ a) [] e = absurd (false≢true e)
+same-one (x ∷ a) (y ∷ b) e = both (eqb x y) (sameWord a b) (λ h s. rw (eqb-true x y h, same-one a b s)) e
+
+-- a word is the same as itself
+same-refl : (a : List ℕ) → sameWord a a ≡ true
+same-refl [] = refl
+same-refl (x ∷ a) = rw (eq-eqb x x refl) (same-refl a)
+
+-- a test that is true just where two words are one
+pub is-same : (r : Bool) (a b : List ℕ) → (r ≡ true → a ≡ b) × (a ≡ b → r ≡ true) → r ≡ sameWord a b
+is-same true a b e = sym (rw (e .0 refl) (same-refl b))
+is-same false a b e = go (sameWord a b) refl
+  where
+    go : (t : Bool) → sameWord a b ≡ t → false ≡ t
+    go true h = e .1 (same-one a b h)
+    go false h = refl
+
+-- ---- choices
+
+-- a test that was made, by what it decides
+pub tested : {r t b : Bool} → r ≡ t → r ≡ b → t ≡ b
+tested e h = sym e ∙ h
+
+-- the second of two choices
+pub else-is : {A : Type 0} {t : Bool} {y z : A} (x : A) → t ≡ false → z ≡ y → z ≡ cond t x y
+else-is {A} {t} {y} {z} x h p = rw h p
+
+-- a function of what is in a case
+pub by-case : {A B : Type 0} {r : B} {v w : A} (f : A → B) → v ≡ w → r ≡ f w → r ≡ f v
+by-case f q p = p ∙ sym (ap f q)

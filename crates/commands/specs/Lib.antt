@@ -1,3 +1,3 @@
-pub mod Commands
-pub mod Framings
+pub mod Words
 pub mod Options
+pub mod Asked

@@ -1,21 +1,19 @@
-// What the words of the program `osc` mean, and which bytes it writes for them: decided here, under contracts. The program itself reads,
-// writes and says.
+// What the words of the program `osc` mean: decided here, under contracts. The program itself reads, writes and says.
+mod options; // options.rt: the options of decode
+
 use decoder::Framing;
-use encoder::Encoded;
-use node::record::RECORD_SIZE;
-use node::record::capacity_of;
-use words::line::front;
+use telling::Trouble;
 use words::numeral::Numeral;
 use words::numeral::decimal;
 ghost use mathlib.Core.Path.{_≡_};
-ghost use Prim.Native.Nat.{_*_};
-ghost use lib.ListN.{take};
-ghost use Rattle.node.specs.Records.{recordSize};
-ghost use Rattle.encoder.specs.Outcome.{Encodes};
-ghost use Rattle.words.specs.Numeral.{numeralOf};
-ghost use Rattle.commands.specs.Commands.{NamesCommand, NamesFraming};
-ghost use Rattle.commands.specs.Framings.{writingOf};
-ghost use Rattle.commands.specs.Options.{nineDigits};
+ghost use Rattle.commands.specs.Words.{sameWord, commandOf, framingOf, numberOfWord};
+ghost use Rattle.commands.specs.Asked.{decodeWith, encodeWith, encodeAsked, lookAsked};
+pub use options::Chosen;
+pub use options::Options;
+pub use options::options_of;
+
+// The version of the program and of the library that it calls.
+pub const VERSION: [u8; 5] = *b"0.4.0";
 
 // The first word.
 pub enum Command {
@@ -23,6 +21,7 @@ pub enum Command {
     Encode,
     Look,
     Help,
+    Version,
     Unclear,
 }
 
@@ -32,23 +31,57 @@ pub enum Framed {
     Unclear,
 }
 
+// What the words of decode ask; or what is wrong with them, and with which.
+pub enum DecodeAsked {
+    As(Framing, Options),
+    Wrong(Trouble, usize),
+}
+
+// The same of encode: whether the length is to stand before the packet.
+pub enum EncodeAsked {
+    As(bool),
+    Wrong(Trouble, usize),
+}
+
+// The same of look: the index of the record.
+pub enum LookAsked {
+    As(usize),
+    Wrong(Trouble, usize),
+}
+
+// Whether a word is this one.
+fn is_word(word: &[u8], text: &[u8]) -> bool
+    ensures { λ r. ⌜ r ≡ sameWord (now (word .entry)) (now (text .entry)) ⌝ }
+{
+    check::same(word, text)
+}
+
 // The command that a word names.
 //
 // Ruled out: decode for the word encode; a command for a word that only begins with its name.
 pub fn command_of(word: &[u8]) -> Command
-    ensures { λ r. ⌜ NamesCommand (now (word .entry)) r ⌝ }
+    ensures { λ r. ⌜ r ≡ commandOf (now (word .entry)) ⌝ }
 {
-    if check::same(word, b"decode") {
+    if is_word(word, b"decode") {
         return Command::Decode;
     }
-    if check::same(word, b"encode") {
+    if is_word(word, b"encode") {
         return Command::Encode;
     }
-    if check::same(word, b"look") {
+    if is_word(word, b"look") {
         return Command::Look;
     }
-    if check::same(word, b"help") {
+    if is_word(word, b"help") {
         return Command::Help;
+    }
+    if is_word(word, b"--help") {
+        return Command::Help;
+    }
+    if is_word(word, b"-h") {
+        return Command::Help;
+    }
+    if is_word(word, b"--version") {
+        return Command::Version;
     }
     Command::Unclear
 }
@@ -56,16 +89,16 @@ pub fn command_of(word: &[u8]) -> Command
 // The framing that a word names.
 //
 // Ruled out: tcp for the word tcp-vec; a framing for every word.
-pub fn framing_of(word: &[u8]) -> Framed
-    ensures { λ r. ⌜ NamesFraming (now (word .entry)) r ⌝ }
+fn framing_of(word: &[u8]) -> Framed
+    ensures { λ r. ⌜ r ≡ framingOf (now (word .entry)) ⌝ }
 {
-    if check::same(word, b"udp") {
+    if is_word(word, b"udp") {
         return Framed::As(Framing::Udp);
     }
-    if check::same(word, b"tcp") {
+    if is_word(word, b"tcp") {
         return Framed::As(Framing::Tcp);
     }
-    if check::same(word, b"tcp-vec") {
+    if is_word(word, b"tcp-vec") {
         return Framed::As(Framing::TcpVec);
     }
     Framed::Unclear
@@ -77,8 +110,8 @@ const MOST: u64 = 999_999_999;
 // The number of a word, where it has at most nine digits.
 //
 // Ruled out: a number for 1000000000; none for 999999999.
-pub fn short_number(word: &[u8]) -> Numeral
-    ensures { λ r. ⌜ r ≡ nineDigits (numeralOf (now (word .entry))) ⌝ }
+fn short_number(word: &[u8]) -> Numeral
+    ensures { λ r. ⌜ r ≡ numberOfWord (now (word .entry)) ⌝ }
 {
     if let Numeral::Is(x) = decimal(word) {
         if x <= MOST {
@@ -88,30 +121,58 @@ pub fn short_number(word: &[u8]) -> Numeral
     Numeral::Unclear
 }
 
-// The first `count` records of a table.
-pub fn records_of(table: &[u8], count: usize) -> &[u8]
-    ensures { λ r. ⌜ now r ≡ take (count * recordSize) (now (table .entry)) ⌝ }
+// What decode is asked: its options are read already, and word 2 is its framing.
+//
+// Ruled out: the options of before where a word is wrong; another framing than the word's.
+pub fn decode_asked(chosen: Chosen, word: &[u8]) -> DecodeAsked
+    ensures { λ r. ⌜ r ≡ decodeWith chosen (framingOf (now (word .entry))) ⌝ }
 {
-    if count <= capacity_of(table) {
-        return front(table, count * RECORD_SIZE);
+    match chosen {
+        Chosen::As(options) => match framing_of(word) {
+            Framed::As(framing) => DecodeAsked::As(framing, options),
+            Framed::Unclear => DecodeAsked::Wrong(Trouble::NoFraming, 2),
+        },
+        Chosen::Wrong(trouble, i) => DecodeAsked::Wrong(trouble, i),
     }
-    table
 }
 
-// Calls the encoder, with the length before the packet where a stream is to be cut by it.
-pub fn encoded(
-    has_length: bool,
-    table: &[u8],
-    count: usize,
-    source: &[u8],
-    out: &mut [u8],
-) -> Encoded
-    ensures { λ r.
-        ⌜ Encodes (writingOf «has_length») (now (table .entry)) count (now (source .entry)) (now (out .entry))
-        (record { answer = r; out = now (out .exit) }) ⌝ }
+// What a framing asks of encode.
+fn encode_with(framed: Framed) -> EncodeAsked
+    ensures { λ r. ⌜ r ≡ encodeWith framed ⌝ }
 {
-    if has_length {
-        return encoder::encode_tcp(table, count, source, out);
+    match framed {
+        Framed::As(framing) => match framing {
+            Framing::Udp => EncodeAsked::As(false),
+            Framing::Tcp => EncodeAsked::As(true),
+            Framing::TcpVec => EncodeAsked::Wrong(Trouble::OnePacket, 2),
+        },
+        Framed::Unclear => EncodeAsked::Wrong(Trouble::NoFraming, 2),
     }
-    encoder::encode(table, count, source, out)
+}
+
+// What encode is asked, of whose words there are `count`, and whose word 2 is its framing.
+//
+// Ruled out: no length for the word tcp; a word too many.
+pub fn encode_asked(count: usize, word: &[u8]) -> EncodeAsked
+    ensures { λ r. ⌜ r ≡ encodeAsked count (now (word .entry)) ⌝ }
+{
+    if count == 6 {
+        return encode_with(framing_of(word));
+    }
+    EncodeAsked::Wrong(Trouble::EncodeWords, 0)
+}
+
+// What look is asked, of whose words there are `count`, and whose word 3 is the index.
+//
+// Ruled out: the record after the one that is asked for; a word too many.
+pub fn look_asked(count: usize, word: &[u8]) -> LookAsked
+    ensures { λ r. ⌜ r ≡ lookAsked count (now (word .entry)) ⌝ }
+{
+    if count == 4 {
+        return match short_number(word) {
+            Numeral::Is(x) => LookAsked::As(x as usize),
+            Numeral::Unclear => LookAsked::Wrong(Trouble::NoNumber, 3),
+        };
+    }
+    LookAsked::Wrong(Trouble::LookWords, 0)
 }

@@ -18,11 +18,10 @@ pub fn put_name(path: &[u8], digits: &[u8; 16], out: &mut [u8]) -> usize
     m + 16
 }
 
-// The process's number.
-pub fn own_number() -> u64 {
-    let pid = libc::getpid();
-    if pid < 0 {
+// A number of the system's, which has none that is negative.
+pub fn number_of(x: i32) -> u64 {
+    if x < 0 {
         return 0;
     }
-    pid as u64
+    x as u64
 }

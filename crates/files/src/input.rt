@@ -1,10 +1,26 @@
 // A file, read into a lent buffer.
+use crate::fail;
+use crate::one::is_output;
+ghost use mathlib.Core.Path.{_≡_};
 ghost use Rattle.io.specs.Counts.{Counts};
 
-// How a read went: whether it did, and how many bytes it put at the start of the buffer.
+// How a read went: whether it did, how many bytes it put at the start of the buffer, and whether it did not because the file is the
+// one to be written.
 pub struct Got {
     pub is_read: bool,
     pub count: usize,
+    pub is_output: bool,
+}
+
+// Nothing was read.
+fn unread(is_output: bool) -> Got
+    ensures { λ r. ⌜ r .count ≡ 0 ⌝ }
+{
+    Got {
+        is_read: false,
+        count: 0,
+        is_output,
+    }
 }
 
 // Reads once.
@@ -15,6 +31,7 @@ fn read_once(fd: i32, buf: &mut [u8]) -> Got
     Got {
         is_read: 0 <= got,
         count: io::count(got, buf),
+        is_output: false,
     }
 }
 
@@ -35,7 +52,20 @@ fn read_up(fd: i32, buf: &mut [u8]) -> Got
     Got {
         is_read,
         count: done,
+        is_output: false,
     }
+}
+
+// Reads an open file, as much of it as the buffer holds, or says why it cannot, and closes it.
+fn read_open(fd: i32, path: &[u8], buf: &mut [u8]) -> Got
+    ensures { λ r. ⌜ Counts (r .count) (now (buf .exit)) ⌝ }
+{
+    let got = read_up(fd, buf);
+    if !got.is_read {
+        fail(path);
+    }
+    libc::close(fd);
+    got
 }
 
 // Reads a file from its start, as much of it as the buffer holds, or says why it cannot.
@@ -46,16 +76,24 @@ pub fn read(path: &[u8], buf: &mut [u8]) -> Got
 {
     let fd = os::open_read(path);
     if fd < 0 {
-        os::fail(path);
-        return Got {
-            is_read: false,
-            count: 0,
-        };
+        fail(path);
+        return unread(false);
     }
-    let got = read_up(fd, buf);
-    if !got.is_read {
-        os::fail(path);
+    read_open(fd, path, buf)
+}
+
+// The same of a file that is not the one to be written, or can be told from it.
+pub fn read_apart(path: &[u8], output: &[u8], buf: &mut [u8]) -> Got
+    ensures { λ r. ⌜ Counts (r .count) (now (buf .exit)) ⌝ }
+{
+    let fd = os::open_read(path);
+    if fd < 0 {
+        fail(path);
+        return unread(false);
     }
-    libc::close(fd);
-    got
+    if is_output(fd, output) {
+        libc::close(fd);
+        return unread(true);
+    }
+    read_open(fd, path, buf)
 }

@@ -1,5 +1,6 @@
 // A file, written whole or not at all.
 use crate::beside;
+use crate::fail;
 ghost use Prim.Native.Nat.{_≤_};
 ghost use lib.ListN.{length};
 ghost use Rattle.files.specs.Beside.{longestName};
@@ -34,7 +35,7 @@ fn place_of(path: &[u8]) -> Place {
         if os::errno() == libc::ENOENT {
             return Place::Free;
         }
-        os::fail(path);
+        fail(path);
         return Place::Unknown;
     }
     let is_synced = libc::fsync(fd) == 0;
@@ -57,19 +58,19 @@ fn store(fd: i32, bytes: &[u8]) -> bool {
 fn replace(path: &[u8], beside: &[u8], bytes: &[u8]) -> bool {
     let fd = os::create(beside);
     if fd < 0 {
-        os::fail(path);
+        fail(path);
         return false;
     }
     let is_stored = store(fd, bytes);
     if !is_stored {
-        os::fail(path);
+        fail(path);
     }
     libc::close(fd);
     if is_stored {
         if os::rename(beside, path) == 0 {
             return true;
         }
-        os::fail(path);
+        fail(path);
     }
     os::unlink(beside);
     false
@@ -80,7 +81,7 @@ fn write_beside(path: &[u8], bytes: &[u8]) -> bool
     requires { ⌜ length (now path) ≤ longestName ⌝ }
 {
     let mut digits = [0u8; 16];
-    io::hex(beside::own_number(), 16, &mut digits);
+    io::hex(beside::number_of(libc::getpid()), 16, &mut digits);
     let mut name = io::buffer();
     let n = beside::put_name(path, &digits, &mut name);
     replace(path, &name[..n], bytes)
@@ -103,5 +104,22 @@ pub fn write(path: &[u8], bytes: &[u8]) -> Stored
     if write_beside(path, bytes) {
         return Stored::Whole;
     }
+    Stored::Failed
+}
+
+// Removes a file, where the name has one that could be written. A name that nothing has is as it should be.
+pub fn remove(path: &[u8]) -> Stored {
+    match place_of(path) {
+        Place::Free => {}
+        Place::Taken => return Stored::NoFile,
+        Place::Unknown => return Stored::Failed,
+    }
+    if os::unlink(path) == 0 {
+        return Stored::Whole;
+    }
+    if os::errno() == libc::ENOENT {
+        return Stored::Whole;
+    }
+    fail(path);
     Stored::Failed
 }

@@ -1,43 +1,29 @@
 // The command encode: a table and its source to the bytes of a packet.
-use crate::asked;
 use crate::named;
 use crate::say;
 use crate::space;
-use commands::Framed;
-use commands::encoded;
-use decoder::Framing;
-use encoder::Encoded;
-use node::record::capacity_of;
-use words::line::front;
+use commands::EncodeAsked;
+use commands::encode_asked;
+use outcomes::encode_told;
 
-// Encodes to the file that word 5 names, and says what was answered.
-fn encode_table(has_length: bool, table: &[u8], source: &[u8]) {
-    let mut out = io::large_buffer();
-    match encoded(has_length, table, capacity_of(table), source, &mut out) {
-        Encoded::Written(n) => {
-            if named::write_word(5, front(&out, n)) {
-                say::written(n);
-            }
-        }
-        Encoded::Refused(refusal) => say::refused(refusal),
-    }
-}
-
-// Encodes with the texts of the file that word 4 names.
+// Encodes with the texts of the file that word 4 names to the one that word 5 names.
 fn encode_with_source(has_length: bool, table: &[u8]) {
     let mut source = io::large_buffer();
-    let got = named::read_whole(4, &mut source);
+    let got = named::read_whole(4, 5, &mut source);
     if !got.is_read {
         return;
     }
     let n = got.count;
-    encode_table(has_length, table, &source[..n]);
+    let mut out = io::large_buffer();
+    let mut line = io::large_buffer();
+    let told = encode_told(has_length, table, &source[..n], &mut out, &mut line);
+    named::keep(5, told, &out, &line);
 }
 
 // Encodes the table of the file that word 3 names.
 fn encode_file(has_length: bool) {
     let mut table = space::table();
-    let got = named::read_table(3, &mut table);
+    let got = named::read_table(3, 5, &mut table);
     if !got.is_read {
         return;
     }
@@ -45,22 +31,11 @@ fn encode_file(has_length: bool) {
     encode_with_source(has_length, &table[..n]);
 }
 
-// Encodes in a framing, of which one is for reading alone.
-fn encode_framed(framing: Framing) {
-    match framing {
-        Framing::Udp => encode_file(false),
-        Framing::Tcp => encode_file(true),
-        Framing::TcpVec => say::wrong(b"encode writes one packet: udp or tcp, not tcp-vec"),
-    }
-}
-
 pub fn run() {
-    if os::arg_count() != 6 {
-        say::wrong(b"encode takes udp|tcp TABLE SOURCE OUTPUT");
-        return;
-    }
-    match asked::framing_word() {
-        Framed::As(framing) => encode_framed(framing),
-        Framed::Unclear => {}
+    let mut word = io::buffer();
+    let n = os::arg(2, &mut word);
+    match encode_asked(os::arg_count(), &word[..n]) {
+        EncodeAsked::As(has_length) => encode_file(has_length),
+        EncodeAsked::Wrong(trouble, i) => say::trouble(trouble, i, 0),
     }
 }

@@ -1,69 +1,29 @@
 // The command look: one record of a table as words.
-use crate::asked;
 use crate::named;
 use crate::say;
 use crate::space;
-use crate::value;
-use node::record;
-use node::record::END;
-use values::look::Looked;
-use values::value::OscType;
-use words::numeral::Numeral;
+use commands::LookAsked;
+use commands::look_asked;
+use telling::tell_record;
 
-// Says which record is looked at, and the letter of its kind.
-fn say_head(index: usize, kind: u8) {
-    say::number(b"record ", index as u64);
-    say::text(&[b':', b' ', kind]);
-}
-
-// Says where a record ends.
-fn say_end(end: u32) {
-    say::number(b", end ", end as u64);
-    say::text(b"\n");
-}
-
-// Says a record.
-fn say_record(index: usize, value: OscType, kind: u8, end: u32) {
-    say_head(index, kind);
-    value::say_value(value);
-    say_end(end);
-}
-
-// Says what record `index` holds.
-fn look_at(table: &[u8], index: usize) {
-    match values::look::look(table, index) {
-        Looked::Value(found) => {
-            if index < record::capacity_of(table) {
-                say_record(
-                    index,
-                    found,
-                    record::kind_at(table, index),
-                    record::field_at(table, index, END),
-                );
-            }
-        }
-        Looked::Refused(refusal) => say::refused(refusal),
-    }
-}
-
-// Looks at a record of the table of the file that word 2 names.
+// Looks at a record of the table of the file that word 2 names. It writes no file, and no word names one that it could write.
 fn look_in_file(index: usize) {
     let mut table = space::table();
-    let got = named::read_table(2, &mut table);
+    let got = named::read_table(2, 4, &mut table);
     if !got.is_read {
         return;
     }
     let n = got.count;
-    look_at(&table[..n], index);
+    let mut line = io::buffer();
+    let m = tell_record(&table[..n], index, &mut line);
+    say::answer(&line[..m]);
 }
 
 pub fn run() {
-    if os::arg_count() != 4 {
-        say::wrong(b"look takes TABLE INDEX");
-        return;
-    }
-    match asked::number_word(3) {
-        Numeral::Is(index) => look_in_file(index as usize),
-        Numeral::Unclear => {}
+    let mut word = io::buffer();
+    let n = os::arg(3, &mut word);
+    match look_asked(os::arg_count(), &word[..n]) {
+        LookAsked::As(index) => look_in_file(index),
+        LookAsked::Wrong(trouble, i) => say::trouble(trouble, i, 0),
     }
 }

@@ -1,28 +1,26 @@
 // The codec from a shell: it decodes a file to a table, encodes a table to a file and looks at a record. It says its answer in
-// one line on standard output, and what went wrong with a word or a file in one line on standard error.
-mod asked; // asked.rt: words of a command as they are asked for
-mod options; // options.rt: the options of decode
+// one line on standard output, and what went wrong with a word or a file in one line on standard error. What the words mean, what is
+// kept and what is said is decided in `commands`, `outcomes` and `telling`; here files are read and written, and lines handed on.
 mod space; // space.rt: the buffers that are lent
+mod say; // say.rt: lines written
 mod named; // named.rt: the files that words name
-mod say; // say.rt: the line that is said
-mod value; // value.rt: a record's value as words
 mod decode; // decode.rt: the command decode
 mod encode; // encode.rt: the command encode
 mod look; // look.rt: the command look
 
 use commands::Command;
+use commands::command_of;
+use telling::Trouble;
 
 fn main() {
     let mut word = io::buffer();
     let n = os::arg(1, &mut word);
-    match commands::command_of(&word[..n]) {
+    match command_of(&word[..n]) {
         Command::Decode => decode::run(),
         Command::Encode => encode::run(),
         Command::Look => look::run(),
         Command::Help => say::help(),
-        Command::Unclear => say::trouble(
-            b"the first word is not decode, encode, look or help: ",
-            &word[..n],
-        ),
+        Command::Version => say::version(),
+        Command::Unclear => say::trouble(Trouble::NoCommand, 1, 0),
     }
 }

@@ -3,6 +3,10 @@ use crate::say;
 use files::Got;
 use files::Stored;
 use node::record::RECORD_SIZE;
+use outcomes::Told;
+use telling::Trouble;
+use words::line::front;
+ghost use mathlib.Core.Path.{_≡_};
 ghost use Rattle.io.specs.Counts.{Counts};
 
 // Puts word `i`, the name of a file, at the start of `path`, and answers its length; 0 where it cannot be a name, and then
@@ -12,81 +16,95 @@ fn name_word(i: usize, path: &mut [u8]) -> usize
 {
     let n = os::arg(i, path);
     if os::errno() != 0 {
-        os::fail(b"the name of a file");
+        files::fail(b"the name of a file");
     } else if n == 0 {
-        say::wrong(b"the name of a file is empty");
+        say::trouble(Trouble::NoName, i, 0);
     }
     n
 }
 
-// Reads the file that word `i` names, as much of it as the buffer holds.
-pub fn read_word(i: usize, buf: &mut [u8]) -> Got
+// Nothing was read.
+fn unread() -> Got
+    ensures { λ r. ⌜ r .count ≡ 0 ⌝ }
+{
+    Got {
+        is_read: false,
+        count: 0,
+        is_output: false,
+    }
+}
+
+// Reads the file that word `i` names, as much of it as the buffer holds; not where word `output` names the same file.
+pub fn read_word(i: usize, output: usize, buf: &mut [u8]) -> Got
     ensures { λ r. ⌜ Counts (r .count) (now (buf .exit)) ⌝ }
 {
     let mut path = io::buffer();
     let n = name_word(i, &mut path);
     if n == 0 {
-        return Got {
-            is_read: false,
-            count: 0,
-        };
+        return unread();
     }
-    files::read(&path[..n], buf)
+    let mut other = io::buffer();
+    let m = os::arg(output, &mut other);
+    let got = files::read_apart(&path[..n], &other[..m], buf);
+    if got.is_output {
+        say::trouble(Trouble::OneFile, i, 0);
+    }
+    got
 }
 
-// Reads the file that word `i` names, all of it: it has to leave the buffer's last byte free.
-pub fn read_whole(i: usize, buf: &mut [u8]) -> Got
+// Reads all of the file that word `i` names: it has to leave the buffer's last byte free.
+pub fn read_whole(i: usize, output: usize, buf: &mut [u8]) -> Got
     ensures { λ r. ⌜ Counts (r .count) (now (buf .exit)) ⌝ }
 {
-    let got = read_word(i, buf);
+    let got = read_word(i, output, buf);
     if got.count < buf.len() {
         return got;
     }
-    say::file_trouble(i, b": the file is too large: it has at least ", got.count);
-    Got {
-        is_read: false,
-        count: got.count,
-    }
+    say::trouble(Trouble::TooLarge, i, got.count);
+    unread()
 }
 
 // Reads a table: whole records.
-pub fn read_table(i: usize, buf: &mut [u8]) -> Got
+pub fn read_table(i: usize, output: usize, buf: &mut [u8]) -> Got
     ensures { λ r. ⌜ Counts (r .count) (now (buf .exit)) ⌝ }
 {
-    let got = read_whole(i, buf);
+    let got = read_whole(i, output, buf);
     if got.count % RECORD_SIZE == 0 {
         return got;
     }
     if got.is_read {
-        say::file_trouble(
-            i,
-            b": a table has a multiple of 16 bytes, and this has ",
-            got.count,
-        );
+        say::trouble(Trouble::NoTable, i, got.count);
     }
-    Got {
-        is_read: false,
-        count: got.count,
-    }
+    unread()
 }
 
-// Says what is wrong with the name of a file that was not written; whether it was.
-fn is_stored(stored: Stored, path: &[u8]) -> bool {
+// Whether a file was written or removed. What is wrong with its name is said here.
+fn is_done(stored: Stored, i: usize) -> bool {
     match stored {
         Stored::Whole => return true,
-        Stored::LongName => say::trouble(b"the name of a file is too long: ", path),
-        Stored::NoFile => say::trouble(b"not a file that can be replaced: ", path),
+        Stored::LongName => say::trouble(Trouble::LongName, i, 0),
+        Stored::NoFile => say::trouble(Trouble::NoFile, i, 0),
         Stored::Failed => {}
     }
     false
 }
 
-// Writes the file that word `i` names, and answers whether it did.
-pub fn write_word(i: usize, bytes: &[u8]) -> bool {
+// Writes the file that word `i` names, or removes it where nothing is kept; whether that was done.
+fn store(i: usize, is_kept: bool, bytes: &[u8]) -> bool {
     let mut path = io::buffer();
     let n = name_word(i, &mut path);
     if n == 0 {
         return false;
     }
-    is_stored(files::write(&path[..n], bytes), &path[..n])
+    if is_kept {
+        return is_done(files::write(&path[..n], bytes), i);
+    }
+    is_done(files::remove(&path[..n]), i)
+}
+
+// Leaves what is told to be kept in the file that word `i` names, and then says the line.
+pub fn keep(i: usize, told: Told, bytes: &[u8], line: &[u8]) {
+    if store(i, told.is_kept, front(bytes, told.bytes)) {
+        say::answer(front(line, told.line));
+    }
 }

@@ -1,2 +1,2 @@
 mod Numerals
-mod Signs
+pub mod Signs

@@ -45,7 +45,7 @@ pub fn put_number(out: &mut Space, at: usize, x: u64) -> usize {
 // A number without its sign.
 //
 // Ruled out: 0 for -1; another number for the least.
-fn magnitude(x: i64) -> u64
+pub fn magnitude(x: i64) -> u64
     ensures { λ r. ⌜ r ≡ natAbs x ⌝ }
 {
     if x < 0 {

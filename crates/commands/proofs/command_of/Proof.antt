@@ -1,30 +1,115 @@
--- `commands::command_of` meets its contract: each test that holds names its word, and where none holds no word is named.
-use Rattle.commands.proofs.Tests.{differs}
+-- `commands::command_of` meets its contract: each word by its test.
 use borrow.Author.Needs.{needs}
+use Rattle.commands.specs.Words.{commandOf}
+use Rattle.commands.proofs.Tests.{tested}
 use Rattle.commands.proofs.command_of.Statement.{statement}
 use Rattle.commands.proofs.command_of.Tie as tie
 
 returns : tie.Need-returns
-returns c = c .before .same .ensures .0 (c .if1 .taken)
+unfolding commandOf
+returns c = rw (tested (c .before .is-word .ensures) (c .if1 .taken))
 
 returns-2 : tie.Need-returns-2
-returns-2 c = c .before .same2 .ensures .0 (c .if2 .taken)
+unfolding commandOf
+returns-2 c =
+    let p3 = c .before .before .before in
+    rw (
+      tested (p3 .before .is-word .ensures) (p3 .if1 .left),
+      tested (c .before .is-word2 .ensures) (c .if2 .taken),
+    )
 
 returns-3 : tie.Need-returns-3
-returns-3 c = c .before .same3 .ensures .0 (c .if3 .taken)
+unfolding commandOf
+returns-3 c =
+    let p3 = c .before .before .before in
+    let p6 = p3 .before .before .before in
+    rw (
+      tested (p6 .before .is-word .ensures) (p6 .if1 .left),
+      tested (p3 .before .is-word2 .ensures) (p3 .if2 .left),
+      tested (c .before .is-word3 .ensures) (c .if3 .taken),
+    )
 
 returns-4 : tie.Need-returns-4
-returns-4 c = c .before .same4 .ensures .0 (c .if4 .taken)
+unfolding commandOf
+returns-4 c =
+    let p3 = c .before .before .before in
+    let p6 = p3 .before .before .before in
+    let p9 = p6 .before .before .before in
+    rw (
+      tested (p9 .before .is-word .ensures) (p9 .if1 .left),
+      tested (p6 .before .is-word2 .ensures) (p6 .if2 .left),
+      tested (p3 .before .is-word3 .ensures) (p3 .if3 .left),
+      tested (c .before .is-word4 .ensures) (c .if4 .taken),
+    )
 
 returns-5 : tie.Need-returns-5
+unfolding commandOf
 returns-5 c =
     let p3 = c .before .before .before in
     let p6 = p3 .before .before .before in
-    let p9 = p6 .before .before .before in (
-      differs (p9 .before .same .ensures) (p9 .if1 .left),
-      differs (p6 .before .same2 .ensures) (p6 .if2 .left),
-      differs (p3 .before .same3 .ensures) (p3 .if3 .left),
-      differs (c .before .same4 .ensures) (c .if4 .left),
+    let p9 = p6 .before .before .before in
+    let p12 = p9 .before .before .before in
+    rw (
+      tested (p12 .before .is-word .ensures) (p12 .if1 .left),
+      tested (p9 .before .is-word2 .ensures) (p9 .if2 .left),
+      tested (p6 .before .is-word3 .ensures) (p6 .if3 .left),
+      tested (p3 .before .is-word4 .ensures) (p3 .if4 .left),
+      tested (c .before .is-word5 .ensures) (c .if5 .taken),
+    )
+
+returns-6 : tie.Need-returns-6
+unfolding commandOf
+returns-6 c =
+    let p3 = c .before .before .before in
+    let p6 = p3 .before .before .before in
+    let p9 = p6 .before .before .before in
+    let p12 = p9 .before .before .before in
+    let p15 = p12 .before .before .before in
+    rw (
+      tested (p15 .before .is-word .ensures) (p15 .if1 .left),
+      tested (p12 .before .is-word2 .ensures) (p12 .if2 .left),
+      tested (p9 .before .is-word3 .ensures) (p9 .if3 .left),
+      tested (p6 .before .is-word4 .ensures) (p6 .if4 .left),
+      tested (p3 .before .is-word5 .ensures) (p3 .if5 .left),
+      tested (c .before .is-word6 .ensures) (c .if6 .taken),
+    )
+
+returns-7 : tie.Need-returns-7
+unfolding commandOf
+returns-7 c =
+    let p3 = c .before .before .before in
+    let p6 = p3 .before .before .before in
+    let p9 = p6 .before .before .before in
+    let p12 = p9 .before .before .before in
+    let p15 = p12 .before .before .before in
+    let p18 = p15 .before .before .before in
+    rw (
+      tested (p18 .before .is-word .ensures) (p18 .if1 .left),
+      tested (p15 .before .is-word2 .ensures) (p15 .if2 .left),
+      tested (p12 .before .is-word3 .ensures) (p12 .if3 .left),
+      tested (p9 .before .is-word4 .ensures) (p9 .if4 .left),
+      tested (p6 .before .is-word5 .ensures) (p6 .if5 .left),
+      tested (p3 .before .is-word6 .ensures) (p3 .if6 .left),
+      tested (c .before .is-word7 .ensures) (c .if7 .taken),
+    )
+
+returns-8 : tie.Need-returns-8
+unfolding commandOf
+returns-8 c =
+    let p3 = c .before .before .before in
+    let p6 = p3 .before .before .before in
+    let p9 = p6 .before .before .before in
+    let p12 = p9 .before .before .before in
+    let p15 = p12 .before .before .before in
+    let p18 = p15 .before .before .before in
+    rw (
+      tested (p18 .before .is-word .ensures) (p18 .if1 .left),
+      tested (p15 .before .is-word2 .ensures) (p15 .if2 .left),
+      tested (p12 .before .is-word3 .ensures) (p12 .if3 .left),
+      tested (p9 .before .is-word4 .ensures) (p9 .if4 .left),
+      tested (p6 .before .is-word5 .ensures) (p6 .if5 .left),
+      tested (p3 .before .is-word6 .ensures) (p3 .if6 .left),
+      tested (c .before .is-word7 .ensures) (c .if7 .left),
     )
 
 pub command-of-spec : {M : Type 1} → statement M
@@ -43,4 +128,13 @@ command-of-spec =
     (λ c. search needs)
     (λ c κs. search needs)
     returns-4
-    returns-5)
+    (λ c. search needs)
+    (λ c κs. search needs)
+    returns-5
+    (λ c. search needs)
+    (λ c κs. search needs)
+    returns-6
+    (λ c. search needs)
+    (λ c κs. search needs)
+    returns-7
+    returns-8)

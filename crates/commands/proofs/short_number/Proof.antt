@@ -4,7 +4,7 @@ use Prim.Native.Nat.{ℕ, _≤_, _<_}
 use borrow.Author.Needs.{needs}
 use borrow.Author.Tests.{lt-ltb, le-ltb}
 use Rattle.words.specs.declared.numeral.Numeral.the-variants.{Is, Unclear}
-use Rattle.commands.specs.Options.{nineDigits}
+use Rattle.commands.specs.Words.{nineDigits}
 use Rattle.commands.proofs.short_number.Statement.{statement}
 use Rattle.commands.proofs.short_number.Tie as tie
 
@@ -31,4 +31,11 @@ returns-3 c = ap nineDigits (sym (c .enum-told .given .1) ∙ c .before .before 
 
 pub short-number-spec : {M : Type 1} → statement M
 short-number-spec =
-    tie.close (tie.spec (λ c κs. search needs) (λ c. search needs) returns (λ c. search needs) returns-2 returns-3)
+    tie.close
+    (tie.spec
+    (λ c κs. search needs)
+    (λ c. search needs)
+    returns
+    (λ c. search needs)
+    returns-2
+    returns-3)

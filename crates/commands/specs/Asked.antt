@@ -1,0 +1,59 @@
+-- What the words of a command ask: how many there are, the program's name among them, and those that are no names of files.
+use mathlib.Core.Bool.{Bool, true, false, cond}
+use mathlib.Core.List.{List}
+use Prim.Native.Nat.{ℕ}
+use lib.Dec.{eqb}
+use Rattle.words.specs.declared.numeral.Numeral.{Numeral}
+use Rattle.words.specs.declared.numeral.Numeral.the-variants as numeral
+use Rattle.decoder.specs.declared.Framing.{Framing}
+use Rattle.decoder.specs.declared.Framing.the-variants.{Udp, Tcp, TcpVec}
+use Rattle.telling.specs.declared.troubles.Trouble.the-variants.{DecodeWords, EncodeWords, LookWords, NoFraming, OnePacket, NoNumber}
+use Rattle.commands.specs.Words.{framingOf, numberOfWord}
+use Rattle.commands.specs.Options.{noOptions, chosenBy}
+use Rattle.commands.specs.declared.options.Options.{Options}
+use Rattle.commands.specs.declared.Framed.{Framed}
+use Rattle.commands.specs.declared.Framed.the-variants as framed
+use Rattle.commands.specs.declared.options.Chosen.{Chosen}
+use Rattle.commands.specs.declared.options.Chosen.the-variants as chosen
+use Rattle.commands.specs.declared.DecodeAsked.{DecodeAsked}
+use Rattle.commands.specs.declared.DecodeAsked.the-variants as decode
+use Rattle.commands.specs.declared.EncodeAsked.{EncodeAsked}
+use Rattle.commands.specs.declared.EncodeAsked.the-variants as encode
+use Rattle.commands.specs.declared.LookAsked.{LookAsked}
+use Rattle.commands.specs.declared.LookAsked.the-variants as look
+
+-- a second option after what the first gave
+abbrev pub oneMoreOption : ℕ → List ℕ → List ℕ → Chosen → Chosen
+oneMoreOption at name word (chosen.As o) = chosenBy at name word o
+oneMoreOption at name word (chosen.Wrong trouble i) = chosen.Wrong trouble i
+
+-- decode has four words and up to two options, each of two words: osc decode udp INPUT TABLE [--depth N] [--records N]
+unfoldable pub optionsOf : ℕ → List ℕ → List ℕ → List ℕ → List ℕ → Chosen
+optionsOf count name word name′ word′ =
+    cond (eqb count 5) (chosen.As noOptions)
+    (cond (eqb count 7) (chosenBy 5 name word noOptions)
+    (cond (eqb count 9) (oneMoreOption 7 name′ word′ (chosenBy 5 name word noOptions)) (chosen.Wrong DecodeWords 0)))
+
+-- the options, and the framing that word 2 names
+abbrev pub decodeWith : Chosen → Framed → DecodeAsked
+decodeWith (chosen.Wrong trouble i) x = decode.Wrong trouble i
+decodeWith (chosen.As o) (framed.As x) = decode.As x o
+decodeWith (chosen.As o) framed.Unclear = decode.Wrong NoFraming 2
+
+-- encode has five words: osc encode udp TABLE SOURCE OUTPUT; with the length before the packet or without
+abbrev pub encodeWith : Framed → EncodeAsked
+encodeWith (framed.As Udp) = encode.As false
+encodeWith (framed.As Tcp) = encode.As true
+encodeWith (framed.As TcpVec) = encode.Wrong OnePacket 2
+encodeWith framed.Unclear = encode.Wrong NoFraming 2
+
+unfoldable pub encodeAsked : ℕ → List ℕ → EncodeAsked
+encodeAsked count word = cond (eqb count 6) (encodeWith (framingOf word)) (encode.Wrong EncodeWords 0)
+
+-- look has three words: osc look TABLE INDEX
+abbrev pub lookWith : Numeral → LookAsked
+lookWith (numeral.Is x) = look.As x
+lookWith numeral.Unclear = look.Wrong NoNumber 3
+
+unfoldable pub lookAsked : ℕ → List ℕ → LookAsked
+lookAsked count word = cond (eqb count 4) (lookWith (numberOfWord word)) (look.Wrong LookWords 0)

@@ -1,0 +1,29 @@
+-- `outcomes::encoded` meets its contract: each of the two calls says the same.
+use borrow.Author.Needs.{needs}
+use Rattle.outcomes.proofs.encoded.Statement.{statement}
+use Rattle.outcomes.proofs.encoded.Tie as tie
+
+returns : tie.Need-returns
+returns c =
+    let p2 = c .before .before in
+    let p4 = p2 .before .before in
+    rw (p4 .before .if1 .taken, ← p4 .capacity-of .ensures) (p2 .encode-tcp .ensures)
+
+returns-2 : tie.Need-returns-2
+returns-2 c =
+    let p2 = c .before .before in
+    let p4 = p2 .before .before in
+    rw (p4 .before .if1 .left, ← p4 .capacity-of2 .ensures) (p2 .encode .ensures)
+
+pub encoded-spec : {M : Type 1} → statement M
+encoded-spec =
+    tie.close
+    (tie.spec
+    (λ c κs. search needs)
+    (λ c κs. search needs)
+    (λ c. search needs)
+    returns
+    (λ c κs. search needs)
+    (λ c κs. search needs)
+    (λ c. search needs)
+    returns-2)

@@ -1,0 +1,4 @@
+pub mod Told
+pub mod Decimals
+pub mod Tables
+pub mod Said

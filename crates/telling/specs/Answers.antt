@@ -1,0 +1,58 @@
+-- The line for an answer of the library.
+use mathlib.Core.List.{List, [], _∷_}
+use Prim.Native.Nat.{ℕ}
+use Prim.Native.String.{String}
+use lib.ListN.{getD}
+use Rattle.refusal.specs.Refusal.{numberOf}
+use Rattle.refusal.specs.declared.Refusal.{Refusal}
+use Rattle.decoder.specs.declared.Decoded.{Decoded}
+use Rattle.decoder.specs.declared.Decoded.the-variants as decoded
+use Rattle.encoder.specs.declared.Encoded.{Encoded}
+use Rattle.encoder.specs.declared.Encoded.the-variants as encoded
+use Rattle.telling.specs.Forms.{line}
+
+-- the words of document 01's "Refusal numbers", each at the place of its number; none has the number 0
+abbrev pub refusedForms : List String
+refusedForms =
+    "\n" ∷ "refused %: decode input over 65,535 bytes, or encoded result (prefix included) over it\n" ∷ "refused %: a packet of no bytes\n"
+    ∷ "refused %: a field, NUL, padding or TCP prefix runs past the bytes there\n" ∷ "refused %: text is not UTF-8\n"
+    ∷ "refused %: first string is neither /-led nor exactly #bundle\n" ∷ "refused %: ] with no array open\n"
+    ∷ "refused %: unknown type tag\n" ∷ "refused %: c is not a scalar number\n" ∷ "refused %: bundles nested deeper than the limit\n"
+    ∷ "refused %: the result has more records than the capacity\n"
+    ∷ "refused %: table not well formed, or a record asked for does not exist\n" ∷ "refused %: output slice shorter than the result\n"
+    ∷ "refused %: depth limit over 64\n" ∷ "refused %: pad of a position over 2^64 - 4\n" ∷ []
+
+-- how many packets were read, their records, and the bytes that were not read
+abbrev pub packetsForm : String
+packetsForm = "packets: %, records: %, bytes left: %\n"
+
+-- the first frame is not all there
+abbrev pub waitingForm : String
+waitingForm = "waiting: % bytes, nothing read\n"
+
+-- how long the result is
+abbrev pub writtenForm : String
+writtenForm = "written: % bytes\n"
+
+-- the version, which is the text
+abbrev pub versionForm : String
+versionForm = "osc ~\n"
+
+-- a refusal: its number and its words
+unfoldable pub refusedLine : Refusal → List ℕ
+refusedLine refusal = line (getD refusedForms (numberOf refusal) "") (numberOf refusal ∷ []) []
+
+-- a decoder's answer to an input of so many packets and bytes
+abbrev pub decodedLine : ℕ → ℕ → Decoded → List ℕ
+decodedLine packets bytes (decoded.Packets count left) = line packetsForm (packets ∷ count ∷ left ∷ []) []
+decodedLine packets bytes decoded.Waiting = line waitingForm (bytes ∷ []) []
+decodedLine packets bytes (decoded.Refused refusal) = refusedLine refusal
+
+-- an encoder's answer
+abbrev pub encodedLine : Encoded → List ℕ
+encodedLine (encoded.Written n) = line writtenForm (n ∷ []) []
+encodedLine (encoded.Refused refusal) = refusedLine refusal
+
+-- the version
+abbrev pub versionLine : List ℕ → List ℕ
+versionLine version = line versionForm [] version

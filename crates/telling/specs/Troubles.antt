@@ -1,0 +1,32 @@
+-- The line for trouble with a word or a file.
+use mathlib.Core.List.{List, [], _∷_}
+use Prim.Native.Nat.{ℕ}
+use Prim.Native.String.{String}
+use Rattle.telling.specs.Forms.{line}
+use Rattle.telling.specs.declared.troubles.Trouble.{Trouble}
+use Rattle.telling.specs.declared.troubles.Trouble.the-variants.{NoCommand, DecodeWords, EncodeWords, LookWords, NoFraming}
+use Rattle.telling.specs.declared.troubles.Trouble.the-variants.{OnePacket, NoOption, Twice, NoNumber, ManyRecords, NoName}
+use Rattle.telling.specs.declared.troubles.Trouble.the-variants.{LongName, NoFile, OneFile, TooLarge, NoTable}
+
+-- what each trouble is, of a word or the name of a file and a number of bytes
+abbrev pub troubleForm : Trouble → String
+troubleForm NoCommand = "osc: the first word is not decode, encode, look, help or --version: ~\n"
+troubleForm DecodeWords = "osc: decode takes udp|tcp|tcp-vec INPUT TABLE [--depth N] [--records N]\n"
+troubleForm EncodeWords = "osc: encode takes udp|tcp TABLE SOURCE OUTPUT\n"
+troubleForm LookWords = "osc: look takes TABLE INDEX\n"
+troubleForm NoFraming = "osc: not udp, tcp or tcp-vec: ~\n"
+troubleForm OnePacket = "osc: encode writes one packet: udp or tcp, not tcp-vec\n"
+troubleForm NoOption = "osc: not --depth or --records: ~\n"
+troubleForm Twice = "osc: given twice: ~\n"
+troubleForm NoNumber = "osc: not a number of at most nine digits: ~\n"
+troubleForm ManyRecords = "osc: more than 65535 for --records: ~\n"
+troubleForm NoName = "osc: the name of a file is empty\n"
+troubleForm LongName = "osc: ~: the name of the file is too long\n"
+troubleForm NoFile = "osc: ~: not a file that can be replaced\n"
+troubleForm OneFile = "osc: ~: the output is the same file, or cannot be told from it\n"
+troubleForm TooLarge = "osc: ~: the file is too large: it has at least % bytes\n"
+troubleForm NoTable = "osc: ~: a table has a multiple of 16 bytes, and this has % bytes\n"
+
+-- the same with its word and its number
+abbrev pub troubleLine : Trouble → ℕ → List ℕ → List ℕ
+troubleLine trouble number word = line (troubleForm trouble) (number ∷ []) word

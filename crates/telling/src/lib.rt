@@ -1,0 +1,14 @@
+// What the program `osc` says, as the bytes of a line: decided here, under contracts. The program itself only writes them.
+mod form; // form.rt: a text whose marks are filled in
+mod lines; // lines.rt: a text cut into lines
+mod line; // line.rt: a line before it is written
+mod answers; // answers.rt: the line for an answer of the library
+mod shown; // shown.rt: the line for a record that is looked at
+mod troubles; // troubles.rt: the line for trouble with a word or a file
+
+pub use answers::tell_decoded;
+pub use answers::tell_encoded;
+pub use answers::tell_version;
+pub use shown::tell_record;
+pub use troubles::Trouble;
+pub use troubles::tell_trouble;

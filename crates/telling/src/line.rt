@@ -1,0 +1,119 @@
+// A line before it is written: its form and the numbers in it.
+use crate::form::fill_in;
+use crate::lines::line_at;
+ghost use mathlib.Core.Path.{_≡_};
+ghost use Rattle.telling.specs.Forms.{Says};
+ghost use Rattle.telling.specs.CodeTable.{with, saidBy};
+
+// Which form, and the numbers for its marks.
+pub struct Line {
+    pub form: usize,
+    pub a: u64,
+    pub b: u64,
+    pub c: u64,
+    pub d: u64,
+    pub e: u64,
+    pub f: u64,
+}
+
+// The forms, a line to each: those of the refusals stand at their numbers, and line 0 is empty.
+const FORMS: [u8; 1727] = *b"
+refused %: decode input over 65,535 bytes, or encoded result (prefix included) over it
+refused %: a packet of no bytes
+refused %: a field, NUL, padding or TCP prefix runs past the bytes there
+refused %: text is not UTF-8
+refused %: first string is neither /-led nor exactly #bundle
+refused %: ] with no array open
+refused %: unknown type tag
+refused %: c is not a scalar number
+refused %: bundles nested deeper than the limit
+refused %: the result has more records than the capacity
+refused %: table not well formed, or a record asked for does not exist
+refused %: output slice shorter than the result
+refused %: depth limit over 64
+refused %: pad of a position over 2^64 - 4
+packets: %, records: %, bytes left: %
+waiting: % bytes, nothing read
+written: % bytes
+record %: ~, end %
+record %: ~ %, end %
+record %: ~ -%, end %
+record %: ~ offset % length %, end %
+record %: ~ seconds % fraction %, end %
+record %: ~ bits 0x$, end %
+record %: ~ bits 0x$$, end %
+record %: ~ % % % %, end %
+osc: the first word is not decode, encode, look, help or --version: ~
+osc: decode takes udp|tcp|tcp-vec INPUT TABLE [--depth N] [--records N]
+osc: encode takes udp|tcp TABLE SOURCE OUTPUT
+osc: look takes TABLE INDEX
+osc: not udp, tcp or tcp-vec: ~
+osc: encode writes one packet: udp or tcp, not tcp-vec
+osc: not --depth or --records: ~
+osc: given twice: ~
+osc: not a number of at most nine digits: ~
+osc: more than 65535 for --records: ~
+osc: the name of a file is empty
+osc: ~: the name of the file is too long
+osc: ~: not a file that can be replaced
+osc: ~: the output is the same file, or cannot be told from it
+osc: ~: the file is too large: it has at least % bytes
+osc: ~: a table has a multiple of 16 bytes, and this has % bytes
+osc ~
+";
+
+pub const PACKETS: usize = 15;
+
+pub const WAITING: usize = 16;
+
+pub const WRITTEN: usize = 17;
+
+pub const BARE: usize = 18;
+
+pub const NUMBER: usize = 19;
+
+pub const NEGATIVE: usize = 20;
+
+pub const RANGE: usize = 21;
+
+pub const TIME: usize = 22;
+
+pub const SINGLE: usize = 23;
+
+pub const DOUBLE: usize = 24;
+
+pub const FOUR: usize = 25;
+
+// The first of the forms of troubles, which stand in the order of `Trouble`.
+pub const TROUBLES: usize = 26;
+
+pub const VERSION: usize = 42;
+
+// A line of a form and as many numbers as one has.
+pub fn formed(form: usize, a: u64, b: u64, c: u64, d: u64, e: u64, f: u64) -> Line
+    ensures { λ r. ⌜ r ≡ with form a b c d e f ⌝ }
+{
+    Line {
+        form,
+        a,
+        b,
+        c,
+        d,
+        e,
+        f,
+    }
+}
+
+// Puts a line at the front of `out`, with a text in its place, and answers how long it is. What has no room is left out.
+//
+// Ruled out: the form after the one that is asked for; a line without its end.
+pub fn tell(line: Line, text: &[u8], out: &mut [u8]) -> usize
+    ensures { λ r. ⌜ Says (saidBy line (now (text .entry))) (now (out .exit)) r ⌝ }
+{
+    fill_in(
+        line_at(&FORMS, line.form),
+        &[line.a, line.b, line.c, line.d, line.e, line.f],
+        text,
+        out,
+    )
+}
