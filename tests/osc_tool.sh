@@ -60,18 +60,19 @@ for name in message bundle; do
     same "$examples/$name.osc" $name.out
 done
 same "$examples/message.osc" "$root/crates/osc_tool/data/message.osc"
-expect 0 'packets: 5 records, 0 bytes left' '' decode udp "$examples/message.osc" message.bin
+expect 0 'packets: 1, records: 5, bytes left: 0' '' decode udp "$examples/message.osc" message.bin
 expect 0 'written: 44 bytes' '' encode udp message.bin "$examples/message.osc" message.out
-expect 0 'packets: 7 records, 0 bytes left' '' decode udp "$examples/bundle.osc" bundle.bin
-expect 0 'packets: 6 records, 0 bytes left' '' decode tcp-vec "$examples/stream.osc" stream.bin
-expect 0 'packets: 2 records, 44 bytes left' '' decode tcp "$examples/stream.osc" first.bin
+expect 0 'packets: 1, records: 7, bytes left: 0' '' decode udp "$examples/bundle.osc" bundle.bin
+expect 0 'packets: 3, records: 6, bytes left: 0' '' decode tcp-vec "$examples/stream.osc" stream.bin
+expect 0 'packets: 1, records: 2, bytes left: 44' '' decode tcp "$examples/stream.osc" first.bin
 expect 0 'written: 48 bytes' '' encode tcp message.bin "$examples/message.osc" framed.out
-expect 0 'packets: 5 records, 0 bytes left' '' decode tcp framed.out framed.bin
+expect 0 'packets: 1, records: 5, bytes left: 0' '' decode tcp framed.out framed.bin
 expect 0 'written: 108 bytes' '' encode tcp bundle.bin "$examples/bundle.osc" bundle.out
 head -c 20 framed.out >part
-expect 0 'waiting: 20 bytes, nothing read' '' decode tcp part waiting.bin
+printf 'old' >waiting.bin
+expect 3 'waiting: 20 bytes, nothing read' '' decode tcp part waiting.bin
 gone waiting.bin
-expect 0 'packets: 0 records, 20 bytes left' '' decode tcp-vec part none.bin
+expect 0 'packets: 0, records: 0, bytes left: 20' '' decode tcp-vec part none.bin
 
 # The records of the examples.
 expect 0 'record 0: / offset 0 length 22, end 5' '' look message.bin 0
@@ -127,7 +128,7 @@ refuses 8 'c is not a scalar number' '/a\0\0,c\0\0\0\0\330\0'
 expect 1 'refused 9: bundles nested deeper than the limit' '' decode udp "$examples/bundle.osc" refused.bin --depth 0
 expect 1 'refused 10: the result has more records than the capacity' '' \
     decode udp "$examples/bundle.osc" refused.bin --depth 1 --records 6
-expect 0 'packets: 7 records, 0 bytes left' '' decode udp "$examples/bundle.osc" kept.bin --records 7 --depth 1
+expect 0 'packets: 1, records: 7, bytes left: 0' '' decode udp "$examples/bundle.osc" kept.bin --records 7 --depth 1
 expect 1 "$bad_table" '' encode udp stream.bin "$examples/stream.osc" refused.bin
 expect 1 'refused 13: depth limit over 64' '' decode udp "$examples/message.osc" refused.bin --depth 65
 printf '/\0\0\0\0\0\0\003\0\0\0\0\0\0\0\001s\0\0\0\0\0\0\002\0\0\0\0\0\0\234\100' >long.bin
@@ -140,19 +141,25 @@ ln -s "$root/osc" link
 [ "$(./link help | head -n 1)" = 'osc decode udp|tcp|tcp-vec INPUT TABLE [--depth N] [--records N]' ]
 count $? 'help by a link'
 
+expect 0 "$(./link help)" '' --help
+expect 0 "$(./link help)" '' -h
+expect 0 "osc $(sed -n 's/^#define SENNORBAI_VERSION "\(.*\)"$/\1/p' "$root/include/osc.h")" '' --version
+
 # Wrong words.
 decode_takes='osc: decode takes udp|tcp|tcp-vec INPUT TABLE [--depth N] [--records N]'
 not_number='osc: not a number of at most nine digits: '
-expect 2 '' 'osc: the first word is not decode, encode, look or help: '
-expect 2 '' 'osc: the first word is not decode, encode, look or help: decoded' decoded
+expect 2 '' 'osc: the first word is not decode, encode, look, help or --version: '
+expect 2 '' 'osc: the first word is not decode, encode, look, help or --version: decoded' decoded
 expect 2 '' "$decode_takes" decode udp input
 expect 2 '' "$decode_takes" decode udp input table.bin --depth
 expect 2 '' 'osc: not udp, tcp or tcp-vec: tc' decode tc input table.bin
 expect 2 '' 'osc: not --depth or --records: --deep' decode udp input table.bin --deep 1
+expect 2 '' 'osc: given twice: --depth' decode udp input table.bin --depth 1 --depth 2
+expect 2 '' 'osc: given twice: --records' decode udp input table.bin --records 1 --records 2
 expect 2 '' "${not_number}1x" decode udp input table.bin --depth 1x
 expect 2 '' "$not_number" decode udp input table.bin --depth ''
 expect 2 '' "${not_number}1000000000" decode udp input table.bin --depth 1000000000
-expect 2 '' 'osc: more than 65535 for --records' decode udp input table.bin --records 65536
+expect 2 '' 'osc: more than 65535 for --records: 65536' decode udp input table.bin --records 65536
 expect 2 '' 'osc: encode takes udp|tcp TABLE SOURCE OUTPUT' encode udp message.bin
 expect 2 '' 'osc: encode writes one packet: udp or tcp, not tcp-vec' encode tcp-vec message.bin input table.bin
 expect 2 '' 'osc: look takes TABLE INDEX' look message.bin
@@ -162,23 +169,43 @@ gone table.bin
 # Files that cannot be read.
 head -c 1048561 /dev/zero >large.bin
 head -c 17 /dev/zero >odd.bin
-expect 2 '' 'missing: No such file or directory' decode udp missing table.bin
-expect 2 '' '.: Is a directory' decode udp . table.bin
+expect 2 '' 'osc: missing: No such file or directory' decode udp missing table.bin
+expect 2 '' 'osc: .: Is a directory' decode udp . table.bin
 expect 2 '' 'osc: the name of a file is empty' decode udp '' table.bin
-expect 2 '' 'missing: No such file or directory' encode udp missing input table.bin
-expect 2 '' 'missing: No such file or directory' encode udp message.bin missing table.bin
-expect 2 '' 'large.bin: the file is too large: it has at least 1048561 bytes' look large.bin 0
-expect 2 '' 'large.bin: the file is too large: it has at least 1048561 bytes' encode udp large.bin input table.bin
-expect 2 '' 'one_more: the file is too large: it has at least 65536 bytes' encode udp message.bin one_more table.bin
-expect 2 '' 'odd.bin: a table has a multiple of 16 bytes, and this has 17 bytes' look odd.bin 0
+expect 2 '' 'osc: missing: No such file or directory' encode udp missing input table.bin
+expect 2 '' 'osc: missing: No such file or directory' encode udp message.bin missing table.bin
+expect 2 '' 'osc: large.bin: the file is too large: it has at least 1048561 bytes' look large.bin 0
+expect 2 '' 'osc: large.bin: the file is too large: it has at least 1048561 bytes' encode udp large.bin input table.bin
+expect 2 '' 'osc: one_more: the file is too large: it has at least 65536 bytes' encode udp message.bin one_more table.bin
+expect 2 '' 'osc: odd.bin: a table has a multiple of 16 bytes, and this has 17 bytes' look odd.bin 0
 gone table.bin
 
+# An output that is an input, by its name, by another name, by a link of either kind: the input is kept.
+same_file=': the output is the same file, or cannot be told from it'
+cp "$examples/message.osc" kept.osc
+ln kept.osc hard.osc
+ln -s kept.osc soft.osc
+for name in kept.osc ./kept.osc hard.osc soft.osc; do
+    expect 2 '' "osc: kept.osc$same_file" decode udp kept.osc $name
+done
+cp message.bin kept.bin
+expect 2 '' "osc: kept.bin$same_file" encode udp kept.bin kept.osc kept.bin
+expect 2 '' "osc: kept.osc$same_file" encode udp kept.bin kept.osc kept.osc
+same kept.osc "$examples/message.osc"
+same kept.bin message.bin
+
+# A refusal leaves no table that a script could take for this input's.
+cp message.bin stale.bin
+printf '/\0\0\0' >input
+expect 1 'refused 3: a field, NUL, padding or TCP prefix runs past the bytes there' '' decode udp input stale.bin
+gone stale.bin
+
 # Files that cannot be written: the old one is kept, and nothing is left beside it.
-expect 2 '' 'nowhere/table.bin: No such file or directory' decode udp "$examples/message.osc" nowhere/table.bin
+expect 2 '' 'osc: nowhere/table.bin: No such file or directory' decode udp "$examples/message.osc" nowhere/table.bin
 expect 2 '' 'osc: the name of a file is empty' decode udp "$examples/message.osc" ''
 mkdir folder
-expect 2 '' 'folder: Is a directory' decode udp "$examples/message.osc" folder
-expect 2 '' 'osc: not a file that can be replaced: /dev/null' decode udp "$examples/message.osc" /dev/null
+expect 2 '' 'osc: folder: Is a directory' decode udp "$examples/message.osc" folder
+expect 2 '' 'osc: /dev/null: not a file that can be replaced' decode udp "$examples/message.osc" /dev/null
 printf 'kept' >old.bin
 # A limit on the size of files stands in for a full disk: the write of the first byte fails.
 said=$(
@@ -186,7 +213,7 @@ said=$(
     "$root/osc" decode udp "$examples/message.osc" old.bin 2>&1
     "$root/osc" decode udp "$examples/message.osc" new.bin 2>&1
 )
-[ "$said" = "$(printf 'old.bin: File too large\nnew.bin: File too large')" ] && [ "$(cat old.bin)" = kept ]
+[ "$said" = "$(printf 'osc: old.bin: File too large\nosc: new.bin: File too large')" ] && [ "$(cat old.bin)" = kept ]
 count $? "with no room: said '$said', and old.bin holds '$(cat old.bin)'"
 gone old.bin.part
 gone new.bin
@@ -204,10 +231,10 @@ if [ "$(uname -m)" != x86_64 ]; then
     by="$kit/on/$(uname -m)/toolchain/bin/qemu-x86_64 $kit/toolchain/lib/ld-linux-x86-64.so.2 --library-path $kit/toolchain/lib"
 fi
 said=$($drop $by ./osc_tool decode udp message.osc locked/table.bin 2>&1)
-[ "$said" = 'locked/table.bin: Permission denied' ]
+[ "$said" = 'osc: locked/table.bin: Permission denied' ]
 count $? "in a locked folder: said '$said'"
 gone locked/table.bin
-expect 0 'packets: 5 records, 0 bytes left' '' decode udp "$examples/message.osc" old.bin
+expect 0 'packets: 1, records: 5, bytes left: 0' '' decode udp "$examples/message.osc" old.bin
 same old.bin message.bin
 
 printf '%s passed, %s failed\n' "$passed" "$failed"
