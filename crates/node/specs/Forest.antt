@@ -1,8 +1,8 @@
 -- The tree of a packet, and the trees of a list: document 01, "The node table".
 use mathlib.Core.Bool.{cond}
+use mathlib.Core.List.{[], _∷_}
 use Prim.Native.Nat.{ℕ, _+_, max}
-use lib.Dec.{eqb}
-use Rattle.node.specs.Tags.{bundleKind}
+use Rattle.node.specs.Tags.{bundleKind, arrayKind, among}
 use Rattle.node.specs.declared.record.Item.{Item}
 
 -- trees side by side: the first node's own numbers, what it contains, and the nodes that stand after it
@@ -15,11 +15,11 @@ unfoldable pub size : Forest → ℕ
 size nil = 0
 size (node item inside rest) = 1 + size inside + size rest
 
--- a root bundle has depth 1, a bundle in it 2; a message adds none ("Refusal numbers", 9)
+-- a node whose content is d deep: "bundles and arrays together", one level each; a message adds none, and hands on what is in it (Ticket 4)
 abbrev pub level : ℕ → ℕ → ℕ
-level kind d = cond (eqb kind bundleKind) (d + 1) 0
+level kind d = cond (among kind (bundleKind ∷ arrayKind ∷ [])) (d + 1) d
 
--- how deep bundles are nested
+-- how deep bundles and arrays are nested "along any path" of the trees (Ticket 4): what refusal 9 speaks of
 unfoldable pub depth : Forest → ℕ
 depth nil = 0
 depth (node item inside rest) = max (level (item .kind) (depth inside)) (depth rest)
