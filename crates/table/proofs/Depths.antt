@@ -1,13 +1,13 @@
--- The walk along a row of records that looks for bundles nested too deep.
+-- The walk along a row of records that looks for bundles and arrays nested too deep.
 use mathlib.Core.Path.{_≡_, refl, sym, ap, _∙_}
 use mathlib.Core.Bool.{Bool, true, false}
-use mathlib.Core.List.{List}
+use mathlib.Core.List.{List, [], _∷_}
 use Prim.Native.Nat.{ℕ, _+_, _-_, _≤_, _<_, max}
 use native.Mathlib.Omega.{arith}
 use lib.Dec.{ltb}
-use borrow.Author.Tests.{lt-ltb, le-ltb, ltb-true, ltb-false, ne-eqb}
-use Rattle.node.specs.Forest.{Forest, nil, level, depth}
-use Rattle.node.specs.Tags.{bundleKind}
+use borrow.Author.Tests.{lt-ltb, le-ltb, ltb-true, ltb-false}
+use Rattle.node.specs.Forest.{Forest, nil, node, level, depth}
+use Rattle.node.specs.Tags.{bundleKind, arrayKind, among}
 use Rattle.node.specs.Records.{kindAt, endAt}
 use Rattle.table.specs.Tree.{Spans, Row}
 use Rattle.table.proofs.Spanned.{cut, no-more}
@@ -22,6 +22,15 @@ over-right limit x y h = go (ltb limit y) refl
     go : (b : Bool) → ltb limit y ≡ b → ltb limit (max x y) ≡ b
     go true e = let l : limit < y = ltb-true limit y e in lt-ltb limit (max x y) (omega arith)
     go false e = let l : y ≤ limit = ltb-false limit y e in le-ltb limit (max x y) (omega arith)
+
+-- two rows that meet are one, as deep as the deeper of them
+joined : (t : List ℕ) (lo mid hi : ℕ) (F G : Forest) → Spans t lo mid F → Spans t mid hi G
+    → (H : Forest) × Spans t lo hi H × (depth H ≡ max (depth F) (depth G))
+unfolding Spans depth
+joined t lo mid hi nil G s q = (G, rw s q, omega arith)
+joined t lo mid hi (node item inside rest) G s q =
+    let (H, r, d) = joined t (endAt t lo) mid hi rest G (s .2) q in
+    (node item inside H, (s .0, s .1, r), omega (arith, d))
 
 -- at `at`, what is left is too deep exactly where the whole is
 pub record Passed (t : List ℕ) (hi limit : ℕ) (F : Forest) (at : ℕ) : Type 0 where
@@ -95,21 +104,23 @@ module _ {t : List ℕ} {hi limit : ℕ} {F : Forest} {at kind end : ℕ} (p : P
   found high =
       sym (is-deep ∙ over-left limit (level kind (depth (next .inside))) (depth (next .rest)) (high (next .inside) (next .in-spans)))
 
-  -- no bundle
-  pub passed-other : (kind ≡ bundleKind → ⊥) → Passed t hi limit F end
-  passed-other k = passed (λ G s. rw (ne-eqb kind bundleKind k) (omega arith))
+  -- no level: what it contains is walked with what stands after it
+  pub passed-into : among kind (bundleKind ∷ arrayKind ∷ []) ≡ false → Passed t hi limit F (at + 1)
+  passed-into n =
+      let (H, s, d) = joined t (at + 1) end hi (next .inside) (next .rest) (next .in-spans) (next .rest-spans) in
+      record { rest = H; spans = s; same = is-deep ∙ rw (n, d) }
 
-  -- a bundle, where none may be
-  pub found-here : kind ≡ bundleKind → limit ≡ 0 → true ≡ ltb limit (depth F)
+  -- a level, where none may be
+  pub found-here : among kind (bundleKind ∷ arrayKind ∷ []) ≡ true → limit ≡ 0 → true ≡ ltb limit (depth F)
   found-here k z = found (λ G s. rw k (omega arith))
 
-  -- a bundle whose elements are one level nearer to the limit
-  module _ (k : kind ≡ bundleKind) (z : limit ≡ 0 → ⊥) {x : Bool}
+  -- a level whose content is one nearer to the limit
+  module _ (k : among kind (bundleKind ∷ arrayKind ∷ []) ≡ true) (z : limit ≡ 0 → ⊥) {x : Bool}
       (d : (G : Forest) → Spans t (at + 1) end G → x ≡ ltb (limit - 1) (depth G)) where
-    -- its elements are too deep, so the whole is
+    -- its content is too deep, so the whole is
     pub found-inside : x ≡ true → true ≡ ltb limit (depth F)
     found-inside y = found (λ G s. let l : limit - 1 < depth G = ltb-true (limit - 1) (depth G) (sym (d G s) ∙ y) in rw k (omega arith))
 
-    -- its elements are not too deep, so it is passed
-    pub passed-bundle : x ≡ false → Passed t hi limit F end
-    passed-bundle y = passed (λ G s. let l : depth G ≤ limit - 1 = ltb-false (limit - 1) (depth G) (sym (d G s) ∙ y) in rw k (omega arith))
+    -- its content is not too deep, so it is passed
+    pub passed-level : x ≡ false → Passed t hi limit F end
+    passed-level y = passed (λ G s. let l : depth G ≤ limit - 1 = ltb-false (limit - 1) (depth G) (sym (d G s) ∙ y) in rw k (omega arith))

@@ -16,11 +16,13 @@ use utf8::is_utf8;
 use wire::lies_in;
 use wire::range;
 ghost use mathlib.Core.Path.{_≡_};
+ghost use mathlib.Core.List.{[], _∷_};
 ghost use Prim.Native.Nat.{_*_, _≤_, _<_};
 ghost use lib.Dec.{ltb};
 ghost use lib.ListN.{length};
 ghost use Rattle.utf8.specs.Utf8.{Decides};
 ghost use Rattle.node.specs.Forest.{Forest, depth};
+ghost use Rattle.node.specs.Tags.{bundleKind, arrayKind, among};
 ghost use Rattle.node.specs.Records.{recordSize};
 ghost use Rattle.table.specs.Formed.{textOk, rangeOk, allowed, Tiles, NodeOk, WellFormed};
 ghost use Rattle.table.specs.Tree.{Spans, Row};
@@ -133,30 +135,43 @@ pub fn is_well_formed(table: &[u8], count: usize, source: &[u8]) -> bool
     true
 }
 
-// Whether bundles among the records `lo` to `hi` are nested deeper than a limit. It calls itself at most `limit` levels down.
+// Whether a record of a kind is one level of depth: a bundle or an array.
+fn is_level(kind: u8) -> bool
+    ensures { λ r. ⌜ r ≡ among kind (bundleKind ∷ arrayKind ∷ []) ⌝ }
+{
+    match kind {
+        BUNDLE | ARRAY => true,
+        _ => false,
+    }
+}
+
+// Whether bundles and arrays among the records `lo` to `hi` are nested deeper than a limit. It calls itself at most `limit`
+// levels down; what a record of any other kind contains is walked with what stands after it.
 fn deeper(table: &[u8], lo: usize, hi: usize, limit: usize) -> bool
     requires { ⌜ Row (now table) lo hi ⌝ }
     ensures { λ r. ⌜ ((F : Forest) → Spans (now (table .entry)) lo hi F → r ≡ ltb limit (depth F)) ⌝ }
 {
     let mut at = lo;
     while at < hi {
-        let end = field_at(table, at, END) as usize;
-        if kind_at(table, at) == BUNDLE {
+        if is_level(kind_at(table, at)) {
             if limit == 0 {
                 return true;
             }
+            let end = field_at(table, at, END) as usize;
             if deeper(table, at + 1, end, limit - 1) {
                 return true;
             }
+            at = end;
+        } else {
+            at += 1;
         }
-        at = end;
     }
     false
 }
 
-// Whether the bundles of a table of `count` records are nested deeper than a limit; a bundle that is no element has depth 1.
+// Whether the bundles and arrays of a table of `count` records are nested deeper than a limit along any path; a message adds none.
 //
-// Ruled out: true for bundles nested exactly as deep as the limit; false where only a later element is too deep.
+// Ruled out: true for bundles and arrays nested exactly as deep as the limit; false where only a later element is too deep.
 pub fn deeper_than(table: &[u8], count: usize, limit: usize) -> bool
     requires { ⌜ Row (now table) 0 count ⌝ }
     ensures { λ r. ⌜ ((F : Forest) → Spans (now (table .entry)) 0 count F → r ≡ ltb limit (depth F)) ⌝ }

@@ -1,5 +1,6 @@
 -- `table::deeper` meets its contract. The loop's invariant: what is left is too deep exactly where the whole is. A call of itself has a
 -- lower limit, which is the measure; the loop's is how many records are left.
+use mathlib.Core.Path.{refl, sym, _∙_}
 use Prim.Native.Nat.{ℕ, _-_, _<_}
 use native.Mathlib.Omega.{arith}
 use borrow.Author.Needs.{needs}
@@ -9,8 +10,9 @@ use Rattle.node.specs.Forest.{Forest}
 use Rattle.node.proofs.record.field_at.Reads as field-at-reads
 use Rattle.node.proofs.record.kind_at.Reads as kind-at-reads
 use Rattle.table.specs.Tree.{Spans}
-use Rattle.table.proofs.Depths.{Passed, passed-none, passed-all, next-row, next-on, passed-other, found-here, found-inside}
-use Rattle.table.proofs.Depths.{passed-bundle}
+use Rattle.table.proofs.Depths.{Passed, passed-none, passed-all, next-row, next-on, passed-into, found-here, found-inside}
+use Rattle.table.proofs.Depths.{passed-level}
+use Rattle.table.proofs.is_level.Reads as is-level-reads
 use Rattle.table.proofs.deeper.Reads as deeper
 use Rattle.table.proofs.deeper.Kinds as deeper-kinds
 use Rattle.table.proofs.+deeper.Lts-deeper as deeper-lts
@@ -34,10 +36,12 @@ abbrev μ-loop : deeper-lts.MeasureT-loop
 
 pub +deeper-spec : {M : Type 1} → statement M
 +deeper-spec = close μ-deeper λ t. deeper-lts.spec (
-  field-at-reads.Asked,
-  field-at-reads.Learnt,
   kind-at-reads.Asked,
   kind-at-reads.Learnt,
+  is-level-reads.Asked,
+  is-level-reads.Learnt,
+  field-at-reads.Asked,
+  field-at-reads.Learnt,
   deeper-below t,
   deeper.Post,
 )
@@ -47,61 +51,59 @@ pub +deeper-spec : {M : Type 1} → statement M
     μ-loop
     -- loop-holds
     (λ c. λ F s. passed-none _ _ _ _ F s)
+    -- kind-at-requires
+    (λ c κs. omega (arith, c .before .before .before .pre .1 .table))
+    -- is-level-requires
+    (λ c κs. search needs)
+    -- returns: a level where none may be
+    (λ c. let k = c .before .before in let l = k .before .before in λ F s.
+    found-here (l .before .loop .inv F s) (k .before .kind-at .ensures) refl (l .loop-test .taken)
+    (sym (k .is-level .ensures) ∙ c .before .if1 .taken) (c .if2 .taken))
     -- field-at-requires
-    (λ c κs. (omega (arith, c .before .before .before .pre .1 .table), omega arith))
+    (λ c κs. let p7 = c .before .before .before .before .before .before .before in (omega (arith, p7 .pre .1 .table), omega arith))
     -- cast-end
     (λ c. search needs)
-    -- kind-at-requires
-    (λ c κs. let p4 = c .before .before .before .before in omega (arith, p4 .pre .1 .table))
-    -- returns: a bundle where none may be
-    (λ c. let k = c .before .before in let l = k .before .before in λ F s.
-    found-here (l .before .loop .inv F s) (k .kind-at .ensures) (k .before .field-at .ensures) (l .loop-test .taken) (c .before .if1 .taken)
-    (c .if2 .taken))
     -- add-deeper
     (λ c. search needs)
     -- sub-deeper
     (λ c. search needs)
     -- deeper-requires
     (λ c κs.
-    let k = c .before .before in
+    let k = c .before .before .before in
     let l = k .before .before in
     let w = l .before .before .before .pre in (
-      omega (arith, w .0, c .if2 .left),
-      next-row (l .before .loop .inv (w .1 .forest) (w .1 .spans)) (k .kind-at .ensures) (k .before .field-at .ensures)
+      omega (arith, w .0, c .before .if2 .left),
+      next-row (l .before .loop .inv (w .1 .forest) (w .1 .spans)) (k .before .kind-at .ensures) (c .field-at .ensures)
           (l .loop-test .taken) (w .1),
     ))
-    -- returns-2: a bundle inside is too deep
-    (λ c. let p2 = c .before .before in let b = p2 .before in let k = b .before in let l = k .before .before in λ F s.
-    found-inside (l .before .loop .inv F s) (k .kind-at .ensures) (k .before .field-at .ensures) (l .loop-test .taken)
-    (b .if1 .taken) (p2 .if2 .left) (c .before .deeper .ensures) (c .if3 .taken))
+    -- returns-2: what it contains is too deep
+    (λ c. let e = c .before .before in let b = e .before .before in let k = b .before in let l = k .before .before in λ F s.
+    found-inside (l .before .loop .inv F s) (k .before .kind-at .ensures) (e .field-at .ensures) (l .loop-test .taken)
+    (sym (k .is-level .ensures) ∙ b .if1 .taken) (e .before .if2 .left) (c .before .deeper .ensures) (c .if3 .taken))
     -- loop-less
     (λ c.
-    let k = c .before .before .before .before in
+    let e = c .before .before in
+    let k = e .before .before .before in
     let l = k .before .before in
     let w = l .before .before .before .pre .1 in
     omega (
       arith,
-      next-on (l .before .loop .inv (w .forest) (w .spans)) (k .kind-at .ensures) (k .before .field-at .ensures)
+      next-on (l .before .loop .inv (w .forest) (w .spans)) (k .before .kind-at .ensures) (e .field-at .ensures)
           (l .loop-test .taken),
     ))
-    -- loop-again: past a bundle
-    (λ c. let p2 = c .before .before in let b = p2 .before in let k = b .before in let l = k .before .before in λ F s.
-    passed-bundle (l .before .loop .inv F s) (k .kind-at .ensures) (k .before .field-at .ensures) (l .loop-test .taken)
-    (b .if1 .taken) (p2 .if2 .left) (c .before .deeper .ensures) (c .if3 .left))
+    -- loop-again: past a level
+    (λ c. let e = c .before .before in let b = e .before .before in let k = b .before in let l = k .before .before in λ F s.
+    passed-level (l .before .loop .inv F s) (k .before .kind-at .ensures) (e .field-at .ensures) (l .loop-test .taken)
+    (sym (k .is-level .ensures) ∙ b .if1 .taken) (e .before .if2 .left) (c .before .deeper .ensures) (c .if3 .left))
+    -- add-at
+    (λ c. search needs)
     -- loop-less-2
-    (λ c.
-    let k = c .before in
-    let l = k .before .before in
-    let w = l .before .before .before .pre .1 in
-    omega (
-      arith,
-      next-on (l .before .loop .inv (w .forest) (w .spans)) (k .kind-at .ensures) (k .before .field-at .ensures)
-          (l .loop-test .taken),
-    ))
-    -- loop-again-2: past any other node
+    (λ c. search needs)
+    -- loop-again-2: into any other node
     (λ c. λ F s.
     let k = c .before in
     let l = k .before .before in
-    passed-other (l .before .loop .inv F s) (k .kind-at .ensures) (k .before .field-at .ensures) (l .loop-test .taken) (c .if1 .left))
+    passed-into (l .before .loop .inv F s) (k .before .kind-at .ensures) refl (l .loop-test .taken)
+    (sym (k .is-level .ensures) ∙ c .if1 .left))
     -- returns-3
     (λ c. λ F s. passed-all (c .before .loop .inv F s) (c .loop-test .left))
