@@ -8,8 +8,8 @@ use native.Mathlib.Omega.{arith}
 use borrow.Author.Tests.{ne-eqb}
 use lib.ListN.{drop}
 use Rattle.wire.proofs.Choices.{is-or}
-use Rattle.node.specs.Forest.{Forest, nil, level, depth, snoc}
-use Rattle.node.specs.Tags.{bundleKind, arrayKind, among, classOf, sortOf}
+use Rattle.node.specs.Forest.{Forest, nil, isLevel, level, depth, snoc}
+use Rattle.node.specs.Tags.{bundleKind, arrayKind, classOf, sortOf}
 use Rattle.node.specs.declared.record.Item.{Item}
 use Rattle.node.specs.declared.tags.Class.{Class}
 use Rattle.node.specs.declared.tags.Class.the-variants.{Unknown}
@@ -94,7 +94,7 @@ reached-closes (Cut n c d) f g item b = refl
 reached-closes (Uncut n c d) f g item b = refl
 
 reached-leaf : (class : Class) (k : Back) (f : Forest) (b : List Open) (item : Item) → Arrays b
-    → among (item .kind) (bundleKind ∷ arrayKind ∷ []) ≡ false
+    → isLevel (item .kind) ≡ false
     → reached k (snoc f item nil) b ≡ reached (tagBefore (Leaf class) k) f b
 unfolding depth
 reached-leaf class (Cut n c d) f b item w e = refl
@@ -104,7 +104,7 @@ reached-leaf class (Uncut n c d) f b item w e =
 
 -- an argument that is given is no level: its tag is neither '[' nor '#', which is no tag
 leaf-flat : (tag : ℕ) (class : Class) (base : ℕ) (l : List ℕ) (p : ℕ) {item : Item} {used : ℕ} → sortOf tag ≡ Leaf class
-    → arg.Given item used ≡ readArg tag class base l p → among (item .kind) (bundleKind ∷ arrayKind ∷ []) ≡ false
+    → arg.Given item used ≡ readArg tag class base l p → isLevel (item .kind) ≡ false
 unfolding sortOf classOf readArg
 leaf-flat tag class base l p {item} {used} s g =
     rw (given-kind tag class base l p g)

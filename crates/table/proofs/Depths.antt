@@ -1,7 +1,7 @@
 -- The walk over the records in order that looks for bundles and arrays nested too deep, and keeps the ends of the open levels.
 use mathlib.Core.Path.{_≡_, refl, sym, ap, _∙_}
 use mathlib.Core.Bool.{Bool, true, false}
-use mathlib.Core.List.{List, [], _∷_}
+use mathlib.Core.List.{List}
 use Prim.Native.Nat.{ℕ, _+_, _-_, _≤_, _<_, max}
 use native.Mathlib.Omega.{arith}
 use lib.Dec.{ltb}
@@ -9,8 +9,7 @@ use lib.ListN.{length, getD, set, length-set}
 use lib.Seq.{getD-set-same, getD-set-other}
 use borrow.Author.Tests.{lt-ltb, le-ltb, ltb-true, ltb-false}
 use Rattle.wire.specs.Limits.{deepest}
-use Rattle.node.specs.Forest.{Forest, nil, node, level, depth}
-use Rattle.node.specs.Tags.{bundleKind, arrayKind, among}
+use Rattle.node.specs.Forest.{Forest, nil, node, isLevel, level, depth}
 use Rattle.node.specs.Records.{kindAt, endAt}
 use Rattle.table.specs.Tree.{Spans, Row}
 use Rattle.table.proofs.Spanned.{Cut, cut, no-more, spans-size, spans-unique}
@@ -154,7 +153,7 @@ module _ {t : List ℕ} {count limit : ℕ} {ends : List ℕ} {levels at : ℕ} 
     deep = ap depth (first h .is) ∙ ap (λ (k : ℕ). max (level k (depth (first h .inside))) (depth (first h .rest))) (sym ke)
 
     -- no level: what it contains is walked with what stands after it
-    pub passed-into : among kind (bundleKind ∷ arrayKind ∷ []) ≡ false → Passed t count limit ends levels (at + 1)
+    pub passed-into : isLevel kind ≡ false → Passed t count limit ends levels (at + 1)
     passed-into n =
         let (H, s, d) = joined t (at + 1) (endAt t at) (getD ends levels 0) (first h .inside) (first h .rest)
         (first h .in-spans) (first h .rest-spans) in
@@ -173,7 +172,7 @@ module _ {t : List ℕ} {count limit : ℕ} {ends : List ℕ} {levels at : ℕ} 
         }
 
     -- a level
-    module _ (k : among kind (bundleKind ∷ arrayKind ∷ []) ≡ true) where
+    module _ (k : isLevel kind ≡ true) where
       is-deep : depth (p .rest) ≡ max (depth (first h .inside) + 1) (depth (first h .rest))
       is-deep = deep ∙ rw k
 

@@ -17,14 +17,12 @@ use wire::DEEPEST;
 use wire::lies_in;
 use wire::range;
 ghost use mathlib.Core.Path.{_≡_};
-ghost use mathlib.Core.List.{[], _∷_};
 ghost use Prim.Native.Nat.{_*_, _≤_, _<_};
 ghost use lib.Dec.{ltb};
 ghost use lib.ListN.{length};
 ghost use Rattle.wire.specs.Limits.{deepest};
 ghost use Rattle.utf8.specs.Utf8.{Decides};
-ghost use Rattle.node.specs.Forest.{Forest, depth};
-ghost use Rattle.node.specs.Tags.{bundleKind, arrayKind, among};
+ghost use Rattle.node.specs.Forest.{Forest, isLevel, depth};
 ghost use Rattle.node.specs.Records.{recordSize};
 ghost use Rattle.table.specs.Formed.{textOk, rangeOk, allowed, Tiles, NodeOk, WellFormed};
 ghost use Rattle.table.specs.Tree.{Spans, Row};
@@ -139,7 +137,7 @@ pub fn is_well_formed(table: &[u8], count: usize, source: &[u8]) -> bool
 
 // Whether a record of a kind is one level of depth: a bundle or an array.
 fn is_level(kind: u8) -> bool
-    ensures { λ r. ⌜ r ≡ among kind (bundleKind ∷ arrayKind ∷ []) ⌝ }
+    ensures { λ r. ⌜ r ≡ isLevel kind ⌝ }
 {
     match kind {
         BUNDLE | ARRAY => true,
