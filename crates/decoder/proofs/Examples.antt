@@ -128,7 +128,8 @@ misread =
     ∷ 0x2F000000 ∷ 0x00000002 ∷ 0x00000014 ∷ 0x00000002 ∷ 0x00000014
     ∷ 0x2F000000 ∷ 0x00000003 ∷ 0x00000021 ∷ 0x00000001 ∷ 0x00000021 ∷ []))
     -- a length cuts nothing; it is compared with the whole input, prefix included
-    ∷ gives Tcp (hex (0x00000000 ∷ 0x2F610000 ∷ 0x00000000 ∷ [])) 0 (hex (0x2F000000 ∷ 0x00000001 ∷ 0x00000004 ∷ 0x00000002 ∷ 0x00000004 ∷ []))
+    ∷ gives Tcp (hex (0x00000000 ∷ 0x2F610000 ∷ 0x00000000 ∷ [])) 0
+    (hex (0x2F000000 ∷ 0x00000001 ∷ 0x00000004 ∷ 0x00000002 ∷ 0x00000004 ∷ []))
     ∷ refuses Tcp (hex (0x00000004 ∷ [])) 2
     ∷ waits Tcp (hex (0x00000005 ∷ []))
     ∷ refuses Tcp [] 3

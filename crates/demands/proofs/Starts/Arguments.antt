@@ -34,7 +34,8 @@ use Rattle.demands.proofs.Starts.Forests.{Begun, none, begun-le, begun-
 pub no-range : (item : Item) → rangedKind (item .kind) ≡ false → OwnStart item
 no-range item h =
     record {
-      text = λ e. absurd (true≢false (sym (of-among (λ k. rangedKind k ≡ true) (item .kind) (messageKind ∷ 115 ∷ []) (refl, (refl, tt)) e) ∙ h));
+      text = λ e. absurd
+          (true≢false (sym (of-among (λ k. rangedKind k ≡ true) (item .kind) (messageKind ∷ 115 ∷ []) (refl, (refl, tt)) e) ∙ h));
       blob = λ e. absurd (true≢false (sym (ap rangedKind e) ∙ h));
     }
 
