@@ -113,25 +113,27 @@ static void writes_text(const char *name, const char *text_hex, size_t room, uns
     free(out);
 }
 
-static void looks(const char *name, const char *table_hex, uint64_t index, unsigned refusal, uint8_t kind) {
+/* What osc_look or osc_start answers of a record. */
+static uint64_t of_record(uint64_t (*call)(const uint8_t *, size_t, uint64_t), const char *table_hex, uint64_t index) {
     uint8_t bytes[256];
     size_t n = bytes_of(table_hex, bytes);
     uint8_t *table = copy(bytes, n);
-    uint64_t answer = osc_look(table, n, index);
+    uint64_t answer = call(table, n, index);
+    free(table);
+    return answer;
+}
+
+static void looks(const char *name, const char *table_hex, uint64_t index, unsigned refusal, uint8_t kind) {
+    uint64_t answer = of_record(osc_look, table_hex, index);
     same(name, osc_refusal(answer), refusal);
     same(name, osc_kind(answer), kind);
-    free(table);
 }
 
 static void starts(const char *name, const char *table_hex, uint64_t index, unsigned refusal, uint32_t start) {
-    uint8_t bytes[256];
-    size_t n = bytes_of(table_hex, bytes);
-    uint8_t *table = copy(bytes, n);
-    uint64_t answer = osc_start(table, n, index);
+    uint64_t answer = of_record(osc_start, table_hex, index);
     same(name, osc_refusal(answer), refusal);
     same(name, osc_began(answer), start);
     same(name, answer, (uint64_t)refusal << 56 | start);
-    free(table);
 }
 
 /* "/a" with the integer 5, and its table; a line of a table is a record. */
