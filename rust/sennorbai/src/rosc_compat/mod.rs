@@ -14,8 +14,8 @@
 //! Where it differs from rosc:
 //!
 //! - Inputs and results over 65,535 bytes, and bundles and arrays nested deeper than 64 together, are refused, by the variant
-//!   [`OscError::Limit`], which rosc does not have; a match on every variant of `OscError` needs an arm for it. rosc has no limit
-//!   on either: it reads and writes on until its stack overflows.
+//!   [`OscError::Limit`], which rosc does not have; a match on every variant of `OscError` needs an arm for it. rosc has
+//!   neither limit.
 //!   [`encoder::encode_into`], [`encoder::encode_into_tcp`] and [`encoder::encode_string`] have no place for a refusal and write
 //!   what rosc writes, past the limits by plain Rust that is not proved.
 //! - The library tells a refusal's number and no more. So [`OscError::ReadError`] always holds [`ErrorKind::Eof`], where nom's
