@@ -113,25 +113,27 @@ static void writes_text(const char *name, const char *text_hex, size_t room, uns
     free(out);
 }
 
-static void looks(const char *name, const char *table_hex, uint64_t index, unsigned refusal, uint8_t kind) {
+/* What osc_look or osc_start answers of a record. */
+static uint64_t of_record(uint64_t (*call)(const uint8_t *, size_t, uint64_t), const char *table_hex, uint64_t index) {
     uint8_t bytes[256];
     size_t n = bytes_of(table_hex, bytes);
     uint8_t *table = copy(bytes, n);
-    uint64_t answer = osc_look(table, n, index);
+    uint64_t answer = call(table, n, index);
+    free(table);
+    return answer;
+}
+
+static void looks(const char *name, const char *table_hex, uint64_t index, unsigned refusal, uint8_t kind) {
+    uint64_t answer = of_record(osc_look, table_hex, index);
     same(name, osc_refusal(answer), refusal);
     same(name, osc_kind(answer), kind);
-    free(table);
 }
 
 static void starts(const char *name, const char *table_hex, uint64_t index, unsigned refusal, uint32_t start) {
-    uint8_t bytes[256];
-    size_t n = bytes_of(table_hex, bytes);
-    uint8_t *table = copy(bytes, n);
-    uint64_t answer = osc_start(table, n, index);
+    uint64_t answer = of_record(osc_start, table_hex, index);
     same(name, osc_refusal(answer), refusal);
     same(name, osc_began(answer), start);
     same(name, answer, (uint64_t)refusal << 56 | start);
-    free(table);
 }
 
 /* "/a" with the integer 5, and its table; a line of a table is a record. */
@@ -147,6 +149,11 @@ static void starts(const char *name, const char *table_hex, uint64_t index, unsi
 #define OTHER_STARTS                               \
     "2F000000 00000002 00000000 00000002 FFFFFFFF" \
     "69000000 00000002 00000005 00000000 00000001"
+/* The example P6, in which an array is not closed, and its table. */
+#define SIX "2F610000 2C695B69 00000000 00000001 00000002"
+#define SIX_TABLE                                  \
+    "2F000000 00000002 00000000 00000002 00000000" \
+    "69000000 00000002 00000002 00000000 00000010"
 #define EMPTY_BUNDLE "2362756E 646C6500 00000000 00000001"
 #define BUNDLE_TABLE "23000000 00000001 00000000 00000001 00000000"
 /* "/a" with a text, true, a blob and an array with an integer, and its table. */
@@ -158,6 +165,12 @@ static void starts(const char *name, const char *table_hex, uint64_t index, unsi
     "62000000 00000004 00000014 00000001 00000010" \
     "5B000000 00000006 00000000 00000000 00000018" \
     "69000000 00000006 00000007 00000000 00000018"
+/* "/a" with an empty array in a bundle, and its table. */
+#define ARRAY_IN_BUNDLE EMPTY_BUNDLE "00000008 2F610000 2C5B5D00"
+#define ARRAY_IN_BUNDLE_TABLE                      \
+    "23000000 00000003 00000000 00000001 00000000" \
+    "2F000000 00000003 00000014 00000002 00000014" \
+    "5B000000 00000003 00000000 00000000 0000001C"
 
 static void examples(void) {
     refuses("P1", UDP, "", OSC_EMPTY);
@@ -165,9 +178,7 @@ static void examples(void) {
     decodes("P3", UDP, FIVE, 8, 64, 0, 0, FIVE_TABLE);
     decodes("P4", UDP, "2F610000 58690000 00000005", 8, 64, 0, 0, FIVE_TABLE);
     decodes("P5", UDP, "2F610000 00000000", 8, 64, 0, 0, "2F000000 00000001 00000000 00000002 00000000");
-    decodes("P6", UDP, "2F610000 2C695B69 00000000 00000001 00000002", 8, 64, 0, 0,
-            "2F000000 00000002 00000000 00000002 00000000"
-            "69000000 00000002 00000002 00000000 00000010");
+    decodes("P6", UDP, SIX, 8, 64, 0, 0, SIX_TABLE);
     refuses("P7", UDP, "2F610000 2C5D0000", OSC_NOT_OPEN);
     refuses("P8", UDP, "2F610000 2C780000", OSC_UNKNOWN_TAG);
     refuses("P9", UDP, "2F610000 2C630000 0000D800", OSC_NOT_SCALAR);
@@ -204,6 +215,16 @@ static void limits(void) {
     uint8_t *msg = blank(65536);
     decodes("depth 1", UDP, EMPTY_BUNDLE, 1, 1, 0, 0, BUNDLE_TABLE);
     decodes("depth 0", UDP, EMPTY_BUNDLE, 1, 0, OSC_TOO_DEEP, 0, "");
+    decodes("an array, depth 1", UDP, KINDS, 6, 1, 0, 0, KINDS_TABLE);
+    decodes("an array, depth 0", UDP, KINDS, 6, 0, OSC_TOO_DEEP, 0, "");
+    decodes("an array in a bundle, depth 2", UDP, ARRAY_IN_BUNDLE, 3, 2, 0, 0, ARRAY_IN_BUNDLE_TABLE);
+    decodes("an array in a bundle, depth 1", UDP, ARRAY_IN_BUNDLE, 3, 1, OSC_TOO_DEEP, 0, "");
+    decodes("an array in an open one, depth 1", UDP, "2F610000 2C5B5B54 5D000000", 3, 1, 0, 0,
+            "2F000000 00000003 00000000 00000002 00000000"
+            "5B000000 00000003 00000000 00000000 0000000C"
+            "54000000 00000003 00000000 00000000 0000000C");
+    decodes("an array in an open one, depth 0", UDP, "2F610000 2C5B5B54 5D000000", 3, 0, OSC_TOO_DEEP, 0, "");
+    decodes("P6, depth 0", UDP, SIX, 8, 0, 0, 0, SIX_TABLE);
     decodes("depth 65", UDP, FIVE, 8, 65, OSC_DEPTH_LIMIT, 0, "");
     decodes("depth 2^32", UDP, FIVE, 8, 0x100000000u, OSC_DEPTH_LIMIT, 0, "");
     decodes("two records", UDP, FIVE, 2, 64, 0, 0, FIVE_TABLE);

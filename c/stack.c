@@ -1,44 +1,125 @@
-/* Runs the decoders on hostile input, on a thread whose stack has as many bytes as the first word says (65,536 where
- * there is none), and says how long each took. A process stack would not do: an emulator may round a small one up. */
+/* Runs every call on hostile input, on a thread whose stack has as many bytes as the first word says (65,536 where there is none),
+ * and says what it answered, how much of the stack was used, the thread's own part included, and how long it took. Below the stack
+ * no byte may be touched. It ends with 1 where an answer is another than is due. A process stack would not do: an emulator may round
+ * a small one up. */
 #include <pthread.h>
+#include <sys/mman.h>
 #include "../include/osc.h"
 #include <stdio.h>
 #include <stdlib.h>
 #include <string.h>
 #include <time.h>
 
-static uint8_t msg[65536];
+enum { GUARD = 65536, TURNS = 20, UNTOUCHED = 0xA5 };
+
+static uint8_t msg[65536], out[65536];
 static uint8_t table[OSC_RECORD * 65536];
+static const uint8_t source[] = "/a";
+
+/* ---- a call, on a stack of its own */
+
+enum call { UDP, TCP, TCP_VEC, ENCODE, ENCODE_TCP, STRING, LOOK, START, PAD };
+
+static const char *const names[] = {"udp", "tcp", "tcp_vec", "encode", "encode_tcp", "string", "look", "start", "pad"};
+
+/* The call that the thread makes: n is the length of its input, or its number. */
+static struct {
+    enum call call;
+    uint64_t n, answer;
+    double us;
+} asked;
+
+static uint8_t *stack;
+static size_t size, most;
+static const char *most_name;
+static unsigned wrong;
+
+static uint64_t once(enum call call, uint64_t n) {
+    switch (call) {
+    case UDP: return osc_decode_udp(msg, n, table, sizeof table, 64);
+    case TCP: return osc_decode_tcp(msg, n, table, sizeof table, 64);
+    case TCP_VEC: return osc_decode_tcp_vec(msg, n, table, sizeof table, 64);
+    case ENCODE: return osc_encode(table, sizeof table, n, source, 2, out, sizeof out);
+    case ENCODE_TCP: return osc_encode_tcp(table, sizeof table, n, source, 2, out, sizeof out);
+    case STRING: return osc_encode_string(msg, n, out, sizeof out);
+    case LOOK: return osc_look(table, sizeof table, n);
+    case START: return osc_start(table, sizeof table, n);
+    default: return osc_pad(n);
+    }
+}
+
+static void *work(void *unused) {
+    clock_t began = clock();
+    for (int i = 0; i < TURNS; i++) asked.answer = once(asked.call, asked.n);
+    asked.us = (double)(clock() - began) / CLOCKS_PER_SEC / TURNS * 1e6;
+    return unused;
+}
+
+/* Makes a call on the stack; its refusal is to be `due`. The length before a frame cuts nothing, so it is 0. */
+static void run(const char *name, enum call call, uint64_t n, unsigned due) {
+    pthread_attr_t attributes;
+    pthread_t thread;
+    if (call == TCP || call == TCP_VEC) memset(msg, 0, 4);
+    memset(stack, UNTOUCHED, size);
+    asked.call = call;
+    asked.n = n;
+    if (pthread_attr_init(&attributes) || pthread_attr_setstack(&attributes, stack, size)) exit(2);
+    if (pthread_create(&thread, &attributes, work, NULL) || pthread_join(thread, NULL)) exit(3);
+    size_t left = 0;
+    while (left < size && stack[left] == UNTOUCHED) left++;
+    if (most < size - left) {
+        most = size - left;
+        most_name = name;
+    }
+    unsigned refusal = call == PAD ? 0 : osc_refusal(asked.answer);
+    printf("%-34s %-10s %5llu: refusal %2u, count %5u, left or written %5u, stack %6zu, %8.0f us%s\n", name, names[call],
+           (unsigned long long)n, refusal, osc_count(asked.answer), osc_left(asked.answer), size - left, asked.us,
+           refusal == due ? "" : ": NOT WHAT IS DUE");
+    wrong += refusal != due;
+}
+
+/* ---- inputs of decoders, in `msg` */
 
 static size_t put(size_t at, const char *bytes, size_t n) {
     memcpy(msg + at, bytes, n);
     return at + n;
 }
 
+static void put_word(uint8_t *to, uint32_t x) {
+    for (int i = 0; i < 4; i++) to[i] = (uint8_t)(x >> (24 - 8 * i));
+}
+
 static size_t put_u32(size_t at, uint32_t x) {
-    for (int i = 0; i < 4; i++) msg[at + i] = (uint8_t)(x >> (24 - 8 * i));
+    put_word(msg + at, x);
     return at + 4;
 }
 
-/* n bundles, each in the one before it. */
-static size_t bundles(size_t at, unsigned n) {
+/* n bundles, each in the one before it; the innermost has so many bytes of elements. */
+static size_t bundles(size_t at, unsigned n, unsigned inside) {
     for (unsigned i = 0; i < n; i++) {
         at = put(at, "#bundle\0\0\0\0\0\0\0\0\1", 16);
-        if (i + 1 < n) at = put_u32(at, 20 * (n - 1 - i) - 4);
+        if (i + 1 < n) at = put_u32(at, 20 * (n - 1 - i) - 4 + inside);
     }
     return at;
 }
 
-/* A message with n nested arrays, of which some are closed. */
+/* A message with n nested arrays, of which some are closed, and a text and a blob in the innermost. */
 static size_t arrays(size_t at, unsigned n, unsigned closed) {
     at = put(at, "/a\0\0,", 5);
     memset(msg + at, '[', n);
-    at += n;
+    at = put(at + n, "sb", 2);
     memset(msg + at, ']', closed);
     at += closed;
     do msg[at++] = 0;
     while (at % 4 != 0);
-    return at;
+    return put(at, "text\0\0\0\0\0\0\0\3\1\2\3\0", 16);
+}
+
+/* Nested arrays in nested bundles. */
+static size_t both(size_t at, unsigned around, unsigned n) {
+    unsigned message = (unsigned)arrays(0, n, n);
+    at = bundles(at, around, 4 + message);
+    return arrays(put_u32(at, message), n, n);
 }
 
 /* A bundle of messages with an argument each. */
@@ -51,45 +132,101 @@ static size_t behaved(size_t at) {
     return at;
 }
 
-static void run(const char *name, int call, size_t n) {
-    uint64_t answer = 0;
-    clock_t began = clock();
-    for (int i = 0; i < 20; i++)
-        answer = call == 0   ? osc_decode_udp(msg, n, table, sizeof table, 64)
-                 : call == 1 ? osc_decode_tcp(msg, n, table, sizeof table, 64)
-                             : osc_decode_tcp_vec(msg, n, table, sizeof table, 64);
-    double us = (double)(clock() - began) / CLOCKS_PER_SEC / 20 * 1e6;
-    static const char *const calls[] = {"udp", "tcp", "tcp_vec"};
-    printf("%-28s %-8s %5zu bytes: refusal %2u, count %5u, left %5u, %8.0f us\n", name, calls[call], n, osc_refusal(answer),
-           osc_count(answer), osc_left(answer), us);
+static void decode(enum call call) {
+    size_t from = call == UDP ? 0 : 4, n;
+    run("a bundle of messages", call, behaved(from), 0);
+    run("64 nested bundles", call, bundles(from, 64, 0), 0);
+    run("3,276 nested bundles", call, bundles(from, 3276, 0), OSC_TOO_DEEP);
+    n = bundles(from, 3276, 0);
+    msg[n - 9] = 0xFF;
+    run("the same, damaged inside", call, n, OSC_TOO_DEEP);
+    n = bundles(from, 64, 0);
+    msg[n - 20] = 0xFF;
+    run("64 nested bundles, damaged", call, n, 0);
+    run("64 nested arrays", call, arrays(from, 64, 64), 0);
+    run("63 nested arrays in a bundle", call, both(from, 1, 63), 0);
+    run("32 nested arrays in 32 bundles", call, both(from, 32, 32), 0);
+    run("an array in 63 nested bundles", call, both(from, 63, 1), 0);
+    run("an array in 64 nested bundles", call, both(from, 64, 1), OSC_TOO_DEEP);
+    run("900 nested arrays", call, arrays(from, 900, 900), OSC_TOO_DEEP);
+    run("32,000 nested arrays", call, arrays(from, 32000, 32000), OSC_TOO_DEEP);
+    run("32,000 arrays, none closed", call, arrays(from, 32000, 0), 0);
+    run("32,000 arrays, 64 of them closed", call, arrays(from, 32000, 64), 0);
+    n = arrays(from, 32000, 32000);
+    msg[n - 25] = 'x';
+    run("32,000 arrays, damaged", call, n, OSC_UNKNOWN_TAG);
 }
 
-static void *all(void *unused) {
-    for (int call = 0; call < 3; call++) {
-        size_t from = call ? 4 : 0;
-        if (call) put_u32(0, 0);
-        run("a bundle of messages", call, behaved(from));
-        run("3,276 nested bundles", call, bundles(from, 3276));
-        size_t n = bundles(from, 3276);
-        msg[n - 9] = 0xFF;
-        run("the same, damaged inside", call, n);
-        n = bundles(from, 64);
-        msg[n - 20] = 0xFF;
-        run("64 nested bundles, damaged", call, n);
-        run("32,000 nested arrays", call, arrays(from, 32000, 32000));
-        run("32,000 arrays, none closed", call, arrays(from, 32000, 0));
-        n = arrays(from, 32000, 32000);
-        msg[n - 9] = 'x';
-        run("32,000 arrays, damaged", call, n);
-    }
-    return unused;
+/* ---- tables of encoders, in `table` */
+
+static void record(size_t i, uint8_t kind, size_t end, uint32_t a, uint32_t b) {
+    uint8_t *to = table + OSC_RECORD * i;
+    memset(to, 0, OSC_RECORD);
+    to[0] = kind;
+    put_word(to + 4, (uint32_t)end);
+    put_word(to + 8, a);
+    put_word(to + 12, b);
+}
+
+/* A message with nested arrays in nested bundles, and a text and a blob in the innermost; answers the count of records. */
+static size_t nested(size_t around, size_t n) {
+    size_t count = around + 1 + n + 2, i = 0;
+    while (i < around) record(i++, '#', count, 0, 1);
+    record(i++, '/', count, 0, 2);
+    while (i < around + 1 + n) record(i++, '[', count, 0, 0);
+    record(i, 's', i + 1, 0, 2);
+    record(i + 1, 'b', i + 2, 0, 1);
+    return count;
+}
+
+/* The same, with the last record damaged. */
+static size_t damaged(size_t around, size_t n) {
+    size_t count = nested(around, n);
+    table[OSC_RECORD * (count - 1)] = 'x';
+    return count;
+}
+
+static void encode(enum call call) {
+    run("64 nested arrays", call, nested(0, 64), 0);
+    run("63 nested arrays in a bundle", call, nested(1, 63), 0);
+    run("32 nested arrays in 32 bundles", call, nested(32, 32), 0);
+    run("64 nested bundles", call, nested(64, 0), 0);
+    run("64 nested arrays, damaged", call, damaged(0, 64), OSC_BAD_TABLE);
+    run("32 arrays in 32 bundles, damaged", call, damaged(32, 32), OSC_BAD_TABLE);
+    run("64 nested bundles, damaged", call, damaged(64, 0), OSC_BAD_TABLE);
+    run("65 nested arrays", call, nested(0, 65), OSC_TOO_DEEP);
+    run("64 nested arrays in a bundle", call, nested(1, 64), OSC_TOO_DEEP);
+    run("900 nested arrays", call, nested(0, 900), OSC_TOO_DEEP);
+    run("65,532 nested arrays", call, nested(0, 65532), OSC_TOO_DEEP);
+    run("65,532 nested bundles", call, nested(65532, 0), OSC_TOO_DEEP);
+    run("32,000 arrays in 32,000 bundles", call, nested(32000, 32000), OSC_TOO_DEEP);
+    run("65,532 nested arrays, damaged", call, damaged(0, 65532), OSC_BAD_TABLE);
+    run("65,532 nested bundles, damaged", call, damaged(65532, 0), OSC_BAD_TABLE);
+}
+
+/* ---- the other calls */
+
+static void others(void) {
+    memset(msg, 0xC3, 65530);
+    for (size_t i = 1; i < 65530; i += 2) msg[i] = 0xA9;
+    run("a text of 65,530 bytes", STRING, 65530, 0);
+    run("a text cut in a character", STRING, 65529, OSC_NOT_UTF8);
+    nested(0, 65532);
+    run("the last record", LOOK, 65534, 0);
+    run("the last record", START, 65534, 0);
+    run("a record past the last", LOOK, 65536, OSC_BAD_TABLE);
+    run("a record past the last", START, 65536, OSC_BAD_TABLE);
+    run("a position", PAD, 65533, 0);
 }
 
 int main(int argc, char **argv) {
-    size_t size = argc > 1 ? strtoul(argv[1], NULL, 10) : 65536;
-    pthread_attr_t attributes;
-    pthread_t thread;
-    if (pthread_attr_init(&attributes) || pthread_attr_setstacksize(&attributes, size)) return 2;
-    if (pthread_create(&thread, &attributes, all, NULL)) return 3;
-    return pthread_join(thread, NULL) ? 4 : 0;
+    size = argc > 1 ? strtoul(argv[1], NULL, 10) : 65536;
+    uint8_t *room = (uint8_t *)mmap(NULL, GUARD + size, PROT_READ | PROT_WRITE, MAP_PRIVATE | MAP_ANONYMOUS, -1, 0);
+    if (room == MAP_FAILED || mprotect(room, GUARD, PROT_NONE)) return 2;
+    stack = room + GUARD;
+    for (int call = UDP; call <= TCP_VEC; call++) decode((enum call)call);
+    for (int call = ENCODE; call <= ENCODE_TCP; call++) encode((enum call)call);
+    others();
+    printf("at most %zu of %zu bytes of the stack were used (%s), %u answers wrong\n", most, size, most_name, wrong);
+    return wrong != 0;
 }

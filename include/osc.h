@@ -1,7 +1,8 @@
 /* Sennorbai: Open Sound Control packets and node tables. C99 and C++17. Link with libosc.a (rt staticlib osc).
  *
  * No function allocates, keeps a pointer or has a state. Every pointer may be to any bytes, and a length may be 0;
- * slices that a call may write must not overlap the others. A refusal changes no byte.
+ * slices that a call may write must not overlap the others. A refusal changes no byte. Each call ends within @@STACK@@ bytes
+ * of stack, whatever it is given (measured by c/stack.c on x86-64).
  *
  * A node table has records of OSC_RECORD bytes, big-endian: kind (1), three zero bytes, end (4), a (4), b (4), start (4).
  * The start is the offset, from the decoder's first input byte, where the item's data begins: a message's address, a bundle's
@@ -20,7 +21,7 @@
 extern "C" {
 #endif
 
-/* The bytes of a record, the longest input and result in bytes, and the deepest nesting of bundles. */
+/* The bytes of a record, the longest input and result in bytes, and the deepest nesting of bundles and arrays together. */
 enum { OSC_RECORD = 20, OSC_LONGEST = 65535, OSC_DEEPEST = 64 };
 
 /* The refusals, by their numbers. */
@@ -33,7 +34,7 @@ enum {
     OSC_NOT_OPEN = 6,      /* ']' with no array open */
     OSC_UNKNOWN_TAG = 7,   /* unknown type tag */
     OSC_NOT_SCALAR = 8,    /* 'c' is not a scalar number */
-    OSC_TOO_DEEP = 9,      /* bundles nested deeper than the limit */
+    OSC_TOO_DEEP = 9,      /* bundles and arrays nested deeper than the limit */
     OSC_TABLE_FULL = 10,   /* the result has more records than the capacity */
     OSC_BAD_TABLE = 11,    /* table not well formed, or a record asked for does not exist */
     OSC_OUTPUT_SHORT = 12, /* output slice shorter than the result */
@@ -42,6 +43,8 @@ enum {
 };
 
 /* Decoders. They read `len` bytes at `msg` and write records to the `table_len` bytes at `table`.
+ * `depth` is how deep a tree may be, at most OSC_DEEPEST: each bundle and each array is a level, a message is none, and the
+ * deepest path counts. What an unclosed '[' loses is not in the tree and does not count.
  * Bits 56 to 63 of the answer are the refusal's number, 0 where there is an answer; bits 32 to 55 the count of records;
  * bits 0 to 31 the input bytes left over, which are the last ones. Waiting, which osc_decode_tcp alone answers, is count 0
  * with the whole input left; of osc_decode_tcp_vec that is a list of no packets. */
@@ -56,9 +59,8 @@ uint64_t osc_decode_tcp(const uint8_t *msg, size_t len, uint8_t *table, size_t t
 uint64_t osc_decode_tcp_vec(const uint8_t *msg, size_t len, uint8_t *table, size_t table_len, uint64_t depth);
 
 /* Encoders. They write the packet of `count` records over the first bytes of `out`; ranges lie in `source`.
- * Bits 56 to 63 of the answer are the refusal's number; bits 0 to 31 the bytes written.
- * An array in an array takes 128 bytes more of the stack: a table of 32,760 arrays in each other, which is as many as a
- * result holds, takes 4.2 MB of it (4,300,000 bytes suffice, 4 MiB do not), and 100 take less than 32 KiB. */
+ * A tree is at most OSC_DEEPEST deep, as for a decoder.
+ * Bits 56 to 63 of the answer are the refusal's number; bits 0 to 31 the bytes written. */
 
 /* One packet. */
 uint64_t osc_encode(const uint8_t *table, size_t table_len, uint64_t count, const uint8_t *source, size_t source_len,

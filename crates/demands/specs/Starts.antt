@@ -13,14 +13,14 @@ use Rattle.demands.specs.Words.{Bytes}
 use Rattle.demands.specs.Demands.{answerTo, tableAfter}
 
 -- "for a message its address", and so for a text; "for a blob its size", which stands before its bytes
-pub record Begins (item : Item) : Type 0 where
+pub record OwnStart (item : Item) : Type 0 where
   pub text : among (item .kind) (messageKind ∷ 115 ∷ []) ≡ true → item .start ≡ item .a
   pub blob : item .kind ≡ 98 → item .start + 4 ≡ item .a
 
 -- the starts of `count` records over n bytes of input: each lies in them and fits its range, and they do not fall in preorder
 pub record StartsHold (t : List ℕ) (count n : ℕ) : Type 0 where
   pub within : (i : ℕ) → i < count → startAt t i ≤ n
-  pub begins : (i : ℕ) → i < count → Begins (itemAt t i)
+  pub begins : (i : ℕ) → i < count → OwnStart (itemAt t i)
   pub rise : (i j : ℕ) → i ≤ j → j < count → startAt t i ≤ startAt t j
 
 -- so are those of every answer with packets, one or a list of any length: "the inspector highlights bytes"

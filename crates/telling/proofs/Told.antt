@@ -79,7 +79,8 @@ all-told text numbers form out at k i e h w =
 
 -- no line
 pub says-none : (out : List ℕ) → Says [] out 0
-says-none out = record { counts = (omega arith, sym (length-take-le 0 out (omega arith))); says = sym (take-all (length out) [] (omega arith)) }
+says-none out = record
+    { counts = (omega arith, sym (length-take-le 0 out (omega arith))); says = sym (take-all (length out) [] (omega arith)) }
 
 -- a line by another name
 pub says-as : {bs cs out : List ℕ} {r : ℕ} → bs ≡ cs → Says bs out r → Says cs out r

@@ -15,8 +15,9 @@ pub enum Decoded<'a> {
 
 /// Reads one packet from all of a UDP packet into the lent table.
 ///
-/// A table of [`RECORD`](crate::RECORD) times the length of `msg` always has room. `depth` is how deep bundles may be nested, at most
-/// [`DEEPEST`](crate::DEEPEST).
+/// A table of [`RECORD`](crate::RECORD) times the length of `msg` always has room. `depth` is how deep bundles and arrays may be
+/// nested together, at most [`DEEPEST`](crate::DEEPEST): a message with an array in an array has depth 2, and 3 in a bundle. What
+/// an unclosed `[` loses is not in the tree and does not count.
 ///
 /// ```
 /// use sennorbai::{decode_udp, Refusal, Value, DEEPEST};
@@ -33,6 +34,7 @@ pub enum Decoded<'a> {
 /// assert_eq!(packet.left(), 0);
 ///
 /// assert_eq!(decode_udp(b"", &mut table, DEEPEST).unwrap_err(), Refusal::Empty);
+/// assert_eq!(decode_udp(b"/cue\0\0\0\0,[[]]\0\0\0", &mut table, 1).unwrap_err(), Refusal::TooDeep);
 /// # Ok::<(), Refusal>(())
 /// ```
 #[inline]

@@ -4,7 +4,8 @@ use crate::boundary;
 use crate::refusal::Refusal;
 use crate::table::Table;
 
-/// Writes the one packet of a table over the first bytes of `out`, and lends them back. Later bytes are unchanged.
+/// Writes the one packet of a table over the first bytes of `out`, and lends them back. Later bytes are unchanged. Bundles and
+/// arrays that are nested deeper than [`DEEPEST`](crate::DEEPEST) together are [`Refusal::TooDeep`].
 ///
 /// ```
 /// use sennorbai::{decode_udp, encode, Refusal, DEEPEST};

@@ -30,8 +30,9 @@
 //!
 //! Without the feature `std` the crate needs neither the standard library nor an allocator.
 //!
-//! The writers call themselves for an array in an array: 128 bytes of stack for each level. What 65,535 bytes can hold at most,
-//! 32,763 levels, takes some 4.2 MB.
+//! Depth counts bundles and arrays together: a bundle is one level and so is an array, along the deepest path of a tree; a message
+//! adds none. A decoder is told how deep its trees may be, at most [`DEEPEST`]; an encoder takes a tree of that depth and none
+//! deeper. So no call goes deeper than that either: each ends within @@STACK@@ bytes of stack, whatever it is given.
 #![cfg_attr(not(feature = "std"), no_std)]
 #![deny(missing_docs, unsafe_code)]
 

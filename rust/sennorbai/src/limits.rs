@@ -9,5 +9,5 @@ pub const MOST: usize = 65_535;
 /// The longest input and the longest result, in bytes.
 pub const LONGEST: usize = 65_535;
 
-/// The deepest nesting of bundles, and the highest depth limit.
+/// The deepest nesting of bundles and arrays together, and the highest depth limit.
 pub const DEEPEST: u64 = 64;

@@ -29,7 +29,7 @@ pub enum Refusal {
     UnknownTag = 7,
     /// A `c` that is not a scalar number.
     NotScalar = 8,
-    /// Bundles are nested deeper than the limit.
+    /// Bundles and arrays are nested deeper than the limit: together, along one path of the tree.
     TooDeep = 9,
     /// The result has more records than the table has room for.
     TableFull = 10,
@@ -67,7 +67,7 @@ impl Refusal {
         self as u8
     }
 
-    /// Document 01's words for when it is given.
+    /// Document 01's words for when it is given; those of 9 are Ticket 4's.
     pub const fn words(self) -> &'static str {
         match self {
             Refusal::TooLong => {
@@ -80,7 +80,7 @@ impl Refusal {
             Refusal::NotOpen => "`]` with no array open",
             Refusal::UnknownTag => "unknown type tag",
             Refusal::NotScalar => "`c` is not a scalar number",
-            Refusal::TooDeep => "bundles nested deeper than the limit",
+            Refusal::TooDeep => "bundles and arrays nested deeper than the limit",
             Refusal::TableFull => "the result has more records than the capacity",
             Refusal::BadTable => "table not well formed, or a record asked for does not exist",
             Refusal::OutputShort => "output slice shorter than the result",

@@ -1,8 +1,8 @@
-//! Document 01's examples, limits and refusals over lent buffers.
+//! Document 01's examples, limits and refusals over lent buffers; depth as Ticket 4 has it.
 
 use sennorbai::{
-    decode_tcp, decode_tcp_vec, decode_udp, encode, encode_string, encode_tcp, look, pad, Decoded, Refusal, Table, Time,
-    Value, DEEPEST, LONGEST, RECORD,
+    decode_tcp, decode_tcp_vec, decode_udp, encode, encode_string, encode_tcp, look, pad, Builder, Decoded, Refusal, Table,
+    Time, Value, DEEPEST, LONGEST, RECORD,
 };
 
 /// Bytes from hex digits with spaces between.
@@ -71,14 +71,109 @@ fn examples_13_and_14() {
 
 /// `levels` bundles, each in the one before.
 fn nested(levels: usize) -> Vec<u8> {
-    let mut bytes = Vec::new();
-    for level in (1..=levels).rev() {
-        bytes.extend(b"#bundle\0\0\0\0\0\0\0\0\x01");
-        if level > 1 {
-            bytes.extend(((20 * (level - 1) - 4) as u32).to_be_bytes());
-        }
-    }
+    in_bundles(levels - 1, b"#bundle\0\0\0\0\0\0\0\0\x01".to_vec())
+}
+
+/// A packet in `levels` bundles.
+fn in_bundles(levels: usize, packet: Vec<u8>) -> Vec<u8> {
+    (0..levels).fold(packet, |inside, _| {
+        [b"#bundle\0\0\0\0\0\0\0\0\x01", &(inside.len() as u32).to_be_bytes()[..], &inside].concat()
+    })
+}
+
+/// A message with these type tags, which have no data.
+fn tagged(tags: &str) -> Vec<u8> {
+    let mut bytes = [b"/a\0\0,", tags.as_bytes(), b"\0"].concat();
+    bytes.resize(bytes.len().next_multiple_of(4), 0);
     bytes
+}
+
+/// A message with `levels` arrays, each in the one before.
+fn arrays(levels: usize) -> Vec<u8> {
+    tagged(&("[".repeat(levels) + &"]".repeat(levels)))
+}
+
+/// How many records each decoder gives for a packet at a limit, where they agree.
+fn records(packet: &[u8], limit: u64) -> Result<usize, Refusal> {
+    let mut table = vec![0; RECORD * 2_000];
+    let frame = [&(packet.len() as u32).to_be_bytes(), packet].concat();
+    let udp = decode_udp(packet, &mut table, limit).map(|packet| packet.count());
+    let list = decode_tcp_vec(&frame, &mut table, limit).map(|packets| packets.count());
+    let tcp = decode_tcp(&frame, &mut table, limit).map(|decoded| match decoded {
+        Decoded::Packet(packet) => packet.count(),
+        Decoded::Waiting => 0,
+    });
+    assert_eq!((tcp, list), (udp, udp));
+    udp
+}
+
+#[test]
+fn depth_counts_bundles_and_arrays_together() {
+    for (bundles, inside) in [(0, 64), (1, 63), (32, 32), (63, 1), (64, 0)] {
+        let packet = in_bundles(bundles, arrays(inside));
+        assert_eq!(records(&packet, 64), Ok(65), "{bundles} bundles");
+        assert_eq!(records(&packet, 63), Err(Refusal::TooDeep), "{bundles} bundles");
+        let packet = in_bundles(bundles, arrays(inside + 1));
+        assert_eq!(records(&packet, 64), Err(Refusal::TooDeep), "{bundles} bundles");
+    }
+    assert_eq!(records(&arrays(900), 64), Err(Refusal::TooDeep));
+    assert_eq!((records(&arrays(1), 1), records(&arrays(1), 0)), (Ok(2), Err(Refusal::TooDeep)));
+    // Side by side they do not add up, and the deepest decides wherever it stands.
+    assert_eq!(records(&tagged("[][][T]"), 1), Ok(5));
+    for tags in ["[[]][]T", "T[][[]]"] {
+        assert_eq!((records(&tagged(tags), 2), records(&tagged(tags), 1)), (Ok(5), Err(Refusal::TooDeep)));
+    }
+    // 9 comes before 10, and after what else is wrong with the packet.
+    assert_eq!(decode_udp(&arrays(2), &mut [], 1).unwrap_err(), Refusal::TooDeep);
+    assert_eq!(records(&tagged("[[]]x"), 0), Err(Refusal::UnknownTag));
+}
+
+#[test]
+fn what_is_lost_does_not_count() {
+    // The example P6, where the array is not closed.
+    assert_eq!(records(&hex("2F610000 2C695B69 00000000 00000001 00000002"), 0), Ok(2));
+    // [T] is kept, and the bracket around it is not closed.
+    let packet = hex("2F610000 2C5B5B54 5D000000");
+    assert_eq!((records(&packet, 1), records(&packet, 0)), (Ok(3), Err(Refusal::TooDeep)));
+    // Arrays that were closed and then lost, and brackets alone.
+    assert_eq!(records(&tagged("[[[]]][T"), 0), Ok(2));
+    assert_eq!(records(&tagged(&("[".repeat(900) + &"]".repeat(835))), 64), Err(Refusal::TooDeep));
+    assert_eq!(records(&tagged(&("[".repeat(900) + &"]".repeat(64))), 64), Ok(65));
+    assert_eq!(records(&tagged(&"[".repeat(900)), 0), Ok(1));
+}
+
+/// What the encoders say of a message with so many arrays in each other, in so many bundles.
+fn encoded(bundles: usize, arrays: usize) -> Result<Vec<u8>, Refusal> {
+    let (mut table, mut source, mut out) = (vec![0; RECORD * 33_000], [0; 2], vec![0; LONGEST]);
+    let mut builder = Builder::new(&mut table, &mut source);
+    for _ in 0..bundles {
+        builder.push(Value::Bundle(Time { seconds: 0, fractional: 1 })).unwrap();
+    }
+    builder.push(Value::Message("/a")).unwrap();
+    for _ in 0..arrays {
+        builder.array().unwrap();
+    }
+    for _ in 0..bundles + 1 + arrays {
+        builder.close().unwrap();
+    }
+    let table = builder.finish().unwrap();
+    let bytes = encode(table, &mut out).map(<[u8]>::to_vec);
+    let framed = encode_tcp(table, &mut out).map(<[u8]>::len);
+    let prefix = if bundles == 0 { 4 } else { 0 };
+    assert_eq!(framed, bytes.as_ref().map(|bytes| prefix + bytes.len()).map_err(|refusal| *refusal));
+    bytes
+}
+
+#[test]
+fn encoders_go_64_deep() {
+    for (bundles, inside) in [(0, 64), (1, 63), (32, 32), (63, 1), (64, 0)] {
+        assert_eq!(encoded(bundles, inside), Ok(in_bundles(bundles, arrays(inside))), "{bundles} bundles");
+        assert_eq!(encoded(bundles, inside + 1), Err(Refusal::TooDeep), "{bundles} bundles");
+    }
+    // 9 comes before 1.
+    for inside in [900, 32_763, 32_900] {
+        assert_eq!(encoded(0, inside), Err(Refusal::TooDeep));
+    }
 }
 
 #[test]
@@ -164,5 +259,6 @@ fn refusals_print_number_and_words() {
         let error: &dyn std::error::Error = &refusal;
         assert!(error.source().is_none());
     }
+    assert_eq!(Refusal::TooDeep.to_string(), "9: bundles and arrays nested deeper than the limit");
     assert_eq!(Refusal::DepthLimit.to_string(), "13: depth limit over 64");
 }

@@ -95,6 +95,12 @@ fn deep(levels: usize) -> OscPacket {
     (1..levels).fold(bundle(vec![]), |inner, _| bundle(vec![inner]))
 }
 
+/// A message with arrays in arrays.
+fn deep_arrays(levels: usize) -> OscPacket {
+    let array = |content| OscType::Array(OscArray { content });
+    message("/a", vec![(1..levels).fold(array(vec![]), |inner, _| array(vec![inner]))])
+}
+
 #[test]
 fn limits_are_an_error_of_their_own() {
     let error = decoder::decode_udp(&[0; 65_536]).unwrap_err();
@@ -112,6 +118,17 @@ fn limits_are_an_error_of_their_own() {
     assert!(matches!(encoder::encode(&deep(65)), Err(OscError::Limit(Refusal::TooDeep))));
     let deeper = [b"#bundle\0\0\0\0\0\0\0\0\x01", &(bytes.len() as u32).to_be_bytes()[..], &bytes].concat();
     assert!(matches!(decoder::decode_udp(&deeper), Err(OscError::Limit(Refusal::TooDeep))));
+
+    // Arrays count too, together with the bundles around them.
+    for packet in [deep_arrays(64), bundle(vec![deep_arrays(63)])] {
+        let bytes = encoder::encode(&packet).unwrap();
+        assert_eq!(decoder::decode_udp(&bytes).unwrap().1, packet);
+    }
+    for packet in [deep_arrays(65), bundle(vec![deep_arrays(64)]), deep_arrays(900)] {
+        assert!(matches!(encoder::encode(&packet), Err(OscError::Limit(Refusal::TooDeep))));
+        let [bytes, _] = written(&packet);
+        assert!(matches!(decoder::decode_udp(&bytes), Err(OscError::Limit(Refusal::TooDeep))));
+    }
 
     assert_eq!(encoder::encode_string("a".repeat(70_000)).len(), 70_004);
 }
@@ -150,6 +167,11 @@ fn outputs_have_no_limits() {
     let bytes = [b"#bundle\0\0\0\0\x07\0\0\0\x09", &size(&inner)[..], &inner].concat();
     assert_eq!(written(&deep(65)), [bytes.clone(), bytes]);
 
+    // Arrays that are nested too deep.
+    let bytes = [b"/a\0\0,", &[b'['; 900][..], &[b']'; 900], b"\0\0\0"].concat();
+    let frame = [&size(&bytes)[..], &bytes].concat();
+    assert_eq!(written(&deep_arrays(900)), [bytes, frame]);
+
     // Every type, as the library writes it, beside a text that makes the bundle too long.
     let (message, long) = (message("/a", every_type()), message("/b", vec!["a".repeat(65_535).into()]));
     let element = encoder::encode(&message).unwrap();
@@ -174,16 +196,16 @@ fn nothing_panics_where_rosc_does() {
 }
 
 #[test]
-fn arrays_nest_to_any_depth() {
-    // Encoding and dropping call themselves for each level.
+fn a_program_may_nest_arrays_to_any_depth() {
+    // Dropping calls itself for each level; encoding does not.
     let run = || {
-        let mut msg = b"/a\0\0".to_vec();
-        msg.extend(encoder::encode_string(format!(",{}i{}", "[".repeat(20_000), "]".repeat(20_000))));
-        msg.extend([0, 0, 0, 7]);
-        let (_, packet) = decoder::decode_udp(&msg).unwrap();
-        assert_eq!(encoder::encode(&packet).unwrap(), msg);
+        let packet = deep_arrays(100_000);
+        assert!(matches!(encoder::encode(&packet), Err(OscError::Limit(_))));
+        let [bytes, frame] = written(&packet);
+        assert_eq!(bytes, [b"/a\0\0,", &[b'['; 100_000][..], &[b']'; 100_000], b"\0\0\0"].concat());
+        assert_eq!(frame, [&size(&bytes)[..], &bytes].concat());
     };
-    std::thread::Builder::new().stack_size(64 << 20).spawn(run).unwrap().join().unwrap();
+    std::thread::Builder::new().stack_size(256 << 20).spawn(run).unwrap().join().unwrap();
 }
 
 #[test]

@@ -11,4 +11,5 @@ returns-2 : tie.Need-returns-2
 returns-2 c = eight-given _ _ _ _ (c .before .before .if1 .left) (c .before .be-u32 .ensures) (c .be-u322 .ensures)
 
 pub read-eight-spec : {M : Type 1} → statement M
-read-eight-spec = tie.close (tie.spec returns (λ c κs. search needs) (λ c κs. search needs) (λ c. search needs) (λ c. search needs) returns-2)
+read-eight-spec =
+    tie.close (tie.spec returns (λ c κs. search needs) (λ c κs. search needs) (λ c. search needs) (λ c. search needs) returns-2)

@@ -110,10 +110,15 @@ module _ {s : List ℕ} (base : ℕ) {l : List ℕ} (p : ℕ) (at : At s (base +
   unfolding readArg rangeOk
   leaf-sound Four tag t =
       by-le (LeafSound s Four) 4 (length l)
-      (λ _. (refl, of-among (λ k. rangeOk s (argItem k (base + p) (number 4 l) 0) ≡ true) tag words (refl, (refl, (refl, (refl, tt)))) t)) (λ _. tt)
+      (λ _. (refl, of-among (λ k. rangeOk s (argItem k (base + p) (number 4 l) 0) ≡ true) tag words (refl, (refl, (refl, (refl, tt)))) t))
+      (λ _. tt)
   leaf-sound Eight tag t =
       by-le (LeafSound s Eight) 8 (length l)
-      (λ _. (refl, of-among (λ k. rangeOk s (argItem k (base + p) (number 4 l) (number 4 (drop 4 l))) ≡ true) tag longs (refl, (refl, (refl, tt))) t))
+      (λ _. (
+        refl,
+        of-among (λ k. rangeOk s (argItem k (base + p) (number 4 l) (number 4 (drop 4 l))) ≡ true) tag longs
+            (refl, (refl, (refl, tt))) t,
+      ))
       (λ _. tt)
   leaf-sound Bare tag t = (refl, of-among (λ k. rangeOk s (argItem k (base + p) 0 0) ≡ true) tag bares (refl, (refl, (refl, (refl, tt)))) t)
   leaf-sound String tag t = by-text (readText l p) refl
@@ -186,7 +191,8 @@ module _ {s : List ℕ} (small : Bytes s) (low : length s < 256 ^ 4) (base : ℕ
       refused : arg.Given item used ≡ readArg tag Unknown base l p → ⊥
       refused q = let z : _≡_ {A = ℕ} 0 1 = cc in omega arith
 
-  array-node : {l : List ℕ} (p : ℕ) → At s (base + p) l → (F : Forest) → Sound s arrayKind F → NodeSound s arrayKind (arrayItem (base + p)) F
+  array-node : {l : List ℕ} (p : ℕ) → At s (base + p) l → (F : Forest) → Sound s arrayKind F
+      → NodeSound s arrayKind (arrayItem (base + p)) F
   unfolding ownRules rangeOk allowed sortOf
   array-node p at F w = record
       { rules = refl; range = refl; may = refl; low = (omega arith, omega arith, omega (arith, at .within)); in-sound = w }

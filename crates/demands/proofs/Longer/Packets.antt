@@ -187,5 +187,6 @@ module _ (base : ℕ) (more : List ℕ) where
           rw (k, drop-append-le used l more (message-start-in l p e .1))
           (after-grows used (message-grows (messageItem (base + p) n) refl (drop used l) (p + used)))
       by-start (start.Bundle used) s' e k =
-          rw (k, drop-append-le used l more (bundle-start-in l p e .1)) (after-grows used (bundle-grows (base + p) (drop used l) (p + used)))
+          rw (k, drop-append-le used l more (bundle-start-in l p e .1))
+          (after-grows used (bundle-grows (base + p) (drop used l) (p + used)))
       by-start (start.Refused f) s' e k = was-refused

@@ -24,49 +24,50 @@ use Rattle.argument.proofs.Within.{given-start}
 use Rattle.arguments.specs.Arguments.{Args, refused, args, later, argTaken, arrayItem, Open, waits, act, readTags, readArgs}
 use Rattle.demands.specs.Words.{rangedKind}
 use Rattle.demands.specs.Osc10.{words, longs, bares}
-use Rattle.demands.specs.Starts.{Begins}
+use Rattle.demands.specs.Starts.{OwnStart}
 use Rattle.demands.proofs.Osc10.Tags.{of-among, HasTag, HasSort, has-sort}
 use Rattle.demands.proofs.Starts.Forests.{Begun, none, begun-le, begun-from, begun-to, begun-snoc}
 
 -- ---- one argument
 
 -- a kind that has no range begins anywhere
-pub no-range : (item : Item) → rangedKind (item .kind) ≡ false → Begins item
+pub no-range : (item : Item) → rangedKind (item .kind) ≡ false → OwnStart item
 no-range item h =
     record {
-      text = λ e. absurd (true≢false (sym (of-among (λ k. rangedKind k ≡ true) (item .kind) (messageKind ∷ 115 ∷ []) (refl, (refl, tt)) e) ∙ h));
+      text = λ e. absurd
+          (true≢false (sym (of-among (λ k. rangedKind k ≡ true) (item .kind) (messageKind ∷ 115 ∷ []) (refl, (refl, tt)) e) ∙ h));
       blob = λ e. absurd (true≢false (sym (ap rangedKind e) ∙ h));
     }
 
 -- an argument that was read begins as its range does
-abbrev LeafBegins : Arg → Type 0
-LeafBegins (arg.Given item used) = Begins item
-LeafBegins (arg.Refused k) = Unit {0}
+abbrev LeafStart : Arg → Type 0
+LeafStart (arg.Given item used) = OwnStart item
+LeafStart (arg.Refused k) = Unit {0}
 
-leaf-begins : (base : ℕ) (l : List ℕ) (p : ℕ) (class : Class) (tag : ℕ) → HasTag tag class → LeafBegins (readArg tag class base l p)
+leaf-start : (base : ℕ) (l : List ℕ) (p : ℕ) (class : Class) (tag : ℕ) → HasTag tag class → LeafStart (readArg tag class base l p)
 unfolding readArg
-leaf-begins base l p Four tag t =
+leaf-start base l p Four tag t =
     let r = of-among (λ k. rangedKind k ≡ false) tag words (refl, (refl, (refl, (refl, tt)))) t in
-    by-le LeafBegins 4 (length l) (λ _. no-range _ r) (λ _. tt)
-leaf-begins base l p Eight tag t =
+    by-le LeafStart 4 (length l) (λ _. no-range _ r) (λ _. tt)
+leaf-start base l p Eight tag t =
     let r = of-among (λ k. rangedKind k ≡ false) tag longs (refl, (refl, (refl, tt))) t in
-    by-le LeafBegins 8 (length l) (λ _. no-range _ r) (λ _. tt)
-leaf-begins base l p Bare tag t = no-range _ (of-among (λ k. rangedKind k ≡ false) tag bares (refl, (refl, (refl, (refl, tt)))) t)
-leaf-begins base l p String tag t = by-text (readText l p)
+    by-le LeafStart 8 (length l) (λ _. no-range _ r) (λ _. tt)
+leaf-start base l p Bare tag t = no-range _ (of-among (λ k. rangedKind k ≡ false) tag bares (refl, (refl, (refl, (refl, tt)))) t)
+leaf-start base l p String tag t = by-text (readText l p)
   where
-    by-text : (x : Text) → LeafBegins (textArg tag (base + p) x)
+    by-text : (x : Text) → LeafStart (textArg tag (base + p) x)
     by-text (Found n used) = record { text = λ _. refl; blob = λ e. absurd (omega arith) }
     by-text (Lacks k) = tt
-leaf-begins base l p Blob tag t =
+leaf-start base l p Blob tag t =
     let none : among tag (messageKind ∷ 115 ∷ []) ≡ false = ap (λ (k : ℕ). among k (messageKind ∷ 115 ∷ [])) t in
-    by-le LeafBegins 4 (length l)
-    (λ _. by-le LeafBegins (reach p (4 + number 4 l)) (length l)
+    by-le LeafStart 4 (length l)
+    (λ _. by-le LeafStart (reach p (4 + number 4 l)) (length l)
     (λ _. record { text = λ e. absurd (true≢false (sym e ∙ none)); blob = λ _. omega arith }) (λ _. tt))
     (λ _. tt)
-leaf-begins base l p Scalar tag t =
-    by-le LeafBegins 4 (length l)
-    (λ _. by-test LeafBegins (isScalar (number 4 l)) (λ _. no-range _ (ap rangedKind t)) (λ _. tt)) (λ _. tt)
-leaf-begins base l p Unknown tag t = tt
+leaf-start base l p Scalar tag t =
+    by-le LeafStart 4 (length l)
+    (λ _. by-test LeafStart (isScalar (number 4 l)) (λ _. no-range _ (ap rangedKind t)) (λ _. tt)) (λ _. tt)
+leaf-start base l p Unknown tag t = tt
 
 -- ---- frames
 
@@ -74,7 +75,7 @@ leaf-begins base l p Unknown tag t = tt
 abbrev FramesBegun : ℕ → Forest → List Open → ℕ → Type 0
 FramesBegun low frame [] high = Begun low frame high
 FramesBegun low frame (waits outer item ∷ below) high =
-    Begun (item .start) frame high × Begins item × FramesBegun low outer below (item .start)
+    Begun (item .start) frame high × OwnStart item × FramesBegun low outer below (item .start)
 
 -- what holds of every frame holds under those that wait
 frames-map : (low h h′ : ℕ) (f f′ : Forest) (below : List Open) → ((l : ℕ) → Begun l f h → Begun l f′ h′) → FramesBegun low f below h
@@ -124,7 +125,7 @@ module _ (base low : ℕ) where
       by-arg (arg.Refused k) g = tt
       by-arg (arg.Given item used) g =
           let s : item .start ≡ base + p = given-start tag class base l p g in
-          let b : Begins item = subst LeafBegins (sym g) (leaf-begins base l p class tag (t .1)) in
+          let b : OwnStart item = subst LeafStart (sym g) (leaf-start base l p class tag (t .1)) in
           let up : base + p ≤ item .start = omega arith in
           let on : item .start ≤ base + (p + used) = omega arith in
           later-begun low base p used (go (drop used l) (p + used) (snoc frame item nil) below)

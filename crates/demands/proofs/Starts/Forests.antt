@@ -10,12 +10,12 @@ use Rattle.node.specs.Forest.{Forest, nil, node, snoc}
 use Rattle.node.specs.Records.{startAt, endAt, itemAt}
 use Rattle.node.specs.declared.record.Item.{Item}
 use Rattle.table.specs.Tree.{Spans}
-use Rattle.demands.specs.Starts.{Begins}
+use Rattle.demands.specs.Starts.{OwnStart}
 
 -- the starts of a forest are those of their ranges, and in preorder they rise from `low` to `high`, or stay
 pub data Begun : ℕ → Forest → ℕ → Type 0 where
   none : {low high : ℕ} → low ≤ high → Begun low nil high
-  also : {low mid high : ℕ} {item : Item} {inside rest : Forest} → low ≤ item .start → Begins item → Begun (item .start) inside mid
+  also : {low mid high : ℕ} {item : Item} {inside rest : Forest} → low ≤ item .start → OwnStart item → Begun (item .start) inside mid
       → Begun mid rest high
       → Begun low (node item inside rest) high
 
@@ -35,7 +35,7 @@ begun-to {low} {high} {high′} h (none k) = let q : low ≤ high′ = omega ari
 begun-to h (also k b i r) = also k b i (begun-to h r)
 
 -- one node more at the end, which begins where the others end or later
-pub begun-snoc : {low mid high : ℕ} {F : Forest} {item : Item} {f : Forest} → Begun low F mid → mid ≤ item .start → Begins item
+pub begun-snoc : {low mid high : ℕ} {F : Forest} {item : Item} {f : Forest} → Begun low F mid → mid ≤ item .start → OwnStart item
     → Begun (item .start) f high
     → Begun low (snoc F item f) high
 unfolding snoc
@@ -51,7 +51,7 @@ begun-snoc (also k c i r) h b w = also k c i (begun-snoc r h b w)
 pub record BegunAt (t : List ℕ) (low high i : ℕ) : Type 0 where
   pub above : low ≤ startAt t i
   pub under : startAt t i ≤ high
-  pub begins : Begins (itemAt t i)
+  pub begins : OwnStart (itemAt t i)
 
 module _ (t : List ℕ) where
   -- every record of the forest does

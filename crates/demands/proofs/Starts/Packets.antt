@@ -21,14 +21,14 @@ use Rattle.packet.specs.declared.ElementSize.{ElementSize}
 use Rattle.packet.specs.declared.ElementSize.the-variants as size
 use Rattle.packet.proofs.Heads.{size-in}
 use Rattle.packet.proofs.Within.{Within, packet-at-in}
-use Rattle.demands.specs.Starts.{Begins}
+use Rattle.demands.specs.Starts.{OwnStart}
 use Rattle.demands.proofs.Starts.Forests.{Begun, none, also, begun-from, begun-to}
 use Rattle.demands.proofs.Starts.Arguments.{no-range, args-begun}
 
 -- a packet that was read from position p on, and what it contains, begin between `low` and the end of what was read
 abbrev pub OutBegun : ℕ → ℕ → ℕ → Out → Type 0
 OutBegun low base p (fault k) = Unit {0}
-OutBegun low base p (one item f used) = (low ≤ item .start) × Begins item × Begun (item .start) f (base + (p + used))
+OutBegun low base p (one item f used) = (low ≤ item .start) × OwnStart item × Begun (item .start) f (base + (p + used))
 
 -- the same of the elements of a bundle
 abbrev ElementsBegun : ℕ → ℕ → Elements → Type 0
@@ -95,7 +95,7 @@ module _ (base : ℕ) where
 
   -- ---- elements
 
-  joined-begun : (p n : ℕ) (item : Item) (f : Forest) (g : Elements) → base + p ≤ item .start → Begins item
+  joined-begun : (p n : ℕ) (item : Item) (f : Forest) (g : Elements) → base + p ≤ item .start → OwnStart item
       → Begun (item .start) f (base + (p + (4 + n))) → ElementsBegun base (p + (4 + n)) g
       → ElementsBegun base p (joined item f n g)
   joined-begun p n item f (upto g used) h b w v =

@@ -18,7 +18,7 @@ use Rattle.decoder.specs.Framing.{afterFrame, framesAt, readFrames, tcpVec, rul
 use Rattle.decoder.specs.Limits.{forestOf}
 use Rattle.decoder.specs.declared.Framing.{Framing}
 use Rattle.decoder.specs.declared.Framing.the-variants.{Udp, Tcp, TcpVec}
-use Rattle.demands.specs.Starts.{Begins, GivesStarts}
+use Rattle.demands.specs.Starts.{OwnStart, GivesStarts}
 use Rattle.demands.specs.Demands.{tableAfter}
 use Rattle.demands.proofs.Answered.{accepted}
 use Rattle.demands.proofs.Encodable.Tables.{gives-trees}
@@ -66,7 +66,7 @@ first-begun : (n : ℕ) (x : Frame) → FrameBegun 0 n x → WholeBegun 0 n (fir
 first-begun n wait w = tt
 first-begun n (read o) w = single-begun n 0 o (w .0) (w .1)
 
-before-begun : (low mid high : ℕ) (item : Item) (f : Forest) (x : Whole) → low ≤ item .start → Begins item → Begun (item .start) f mid
+before-begun : (low mid high : ℕ) (item : Item) (f : Forest) (x : Whole) → low ≤ item .start → OwnStart item → Begun (item .start) f mid
     → WholeBegun mid high x → WholeBegun low high (before item f x)
 before-begun low mid high item f (trees g left) h b w v = also h b w v
 before-begun low mid high item f waiting h b w v = tt

@@ -7,7 +7,7 @@ use crate::peers::Peers;
 use crate::random::Random;
 use crate::table::RECORD;
 use crate::{edges, inputs, short, spoil};
-use rosc::{OscBundle, OscMessage, OscPacket, OscTime, OscType};
+use rosc::{OscMessage, OscPacket, OscType};
 
 /// One case, in memory that the next one uses again.
 pub struct Case {
@@ -21,13 +21,13 @@ impl Case {
         Case { asked: Asked::new(), due: Due::new(), seen: Seen::default() }
     }
 
-    /// The n-th short case, with ample limits; false where all are done.
+    /// The n-th short case, with ample room; false where all are done.
     pub fn short(&mut self, n: u64) -> bool {
         self.seen = Seen::default();
         let Some(call) = short::make(n, &mut self.asked) else { return false };
         let (asked, due, seen) = (&self.asked, &mut self.due, &mut self.seen);
         match call {
-            Call::Udp | Call::Tcp | Call::TcpVec => self.ample_due(),
+            Call::Udp | Call::Tcp | Call::TcpVec => self.roomy_due(),
             Call::Encode | Call::EncodeTcp => judge::encode(asked, due, seen),
             Call::EncodeString => judge::encode_string(asked, due, seen),
             Call::Pad => judge::pad(asked, due, seen),
@@ -41,17 +41,17 @@ impl Case {
         true
     }
 
-    /// An input for a decoder, with ample limits.
-    pub fn ample(&mut self, call: Call, input: &[u8]) {
+    /// An input for a decoder at a depth limit, with ample room.
+    pub fn roomy(&mut self, call: Call, limit: u64, input: &[u8]) {
         self.seen = Seen::default();
         self.asked.begin(call);
+        self.asked.number = limit;
         self.asked.first.extend_from_slice(input);
-        self.ample_due();
+        self.roomy_due();
     }
 
-    fn ample_due(&mut self) {
+    fn roomy_due(&mut self) {
         let found = self.find();
-        self.asked.number = judge::DEEPEST;
         self.asked.room = self.needed() + RECORD;
         judge::decode(&self.asked, &found, &mut self.due, &mut self.seen);
     }
@@ -101,7 +101,7 @@ impl Case {
             Call::Tcp => 1 + r.below(2),
             _ => 1 + r.below(4),
         };
-        let packet = match r.below(41) {
+        let packet = match r.below(43) {
             0 if r.one_in(20) => edges::deepest(r),
             1 if r.one_in(8) => {
                 self.asked.first = edges::longest(r, frames > 0);
@@ -111,18 +111,31 @@ impl Case {
             6..=9 => edges::utf8(r),
             10..=11 => edges::character(r, &mut self.seen),
             12 => edges::nested(r),
-            13..=16 if peers.any() => peers.one(r, &mut self.seen),
+            13..=14 => edges::arrays(r),
+            15..=18 if peers.any() => peers.one(r, &mut self.seen),
             _ => {
                 inputs::structured(r, frames, &mut self.asked.first);
                 return self.decode_due(r);
             }
         };
-        if frames == 0 {
-            self.asked.first = packet;
-        } else {
-            inputs::push_frame(r, &mut self.asked.first, &packet);
+        match frames {
+            0 => self.asked.first = packet,
+            _ if r.one_in(3) => self.among(r, frames, &packet),
+            _ => inputs::push_frame(r, &mut self.asked.first, &packet),
         }
         self.decode_due(r);
+    }
+
+    /// An input of so many frames, of which one holds the packet.
+    fn among(&mut self, r: &mut Random, frames: usize, packet: &[u8]) {
+        let place = r.below(frames);
+        for frame in 0..frames {
+            if frame == place {
+                inputs::push_frame(r, &mut self.asked.first, packet);
+            } else {
+                inputs::structured(r, 1, &mut self.asked.first);
+            }
+        }
     }
 
     /// What is due for the input, under limits on either side of what it needs.
@@ -130,8 +143,8 @@ impl Case {
         let found = self.find();
         let needed = self.needed();
         self.asked.number = match r.below(16) {
-            0 | 1 => found.depth,
-            2 => found.depth.saturating_sub(1),
+            0 | 1 => found.depth.both,
+            2 => found.depth.both.saturating_sub(1),
             3 => r.below(67) as u64,
             4 if r.one_in(3) => r.pick(&[65, 66, 1 << 32, 1 << 63, u64::MAX]),
             _ => judge::DEEPEST,
@@ -151,13 +164,16 @@ impl Case {
 
     fn encode(&mut self, r: &mut Random) {
         self.asked.begin(r.pick(&[Call::Encode, Call::EncodeTcp]));
-        let mut packet = if r.one_in(700) { long_message(r) } else { inputs::tree(r, 3) };
-        if r.one_in(40) {
-            for _ in 0..60 + r.below(6) {
-                packet =
-                    OscPacket::Bundle(OscBundle { timetag: OscTime { seconds: 0, fractional: 1 }, content: vec![packet] });
+        let packet = match r.below(2800) {
+            0..=3 => long_message(r),
+            4..=9 => inputs::deepest(r),
+            10..=109 => inputs::nested(r),
+            110..=179 => {
+                let packet = inputs::tree(r, 3);
+                inputs::in_bundles(packet, 60 + r.below(6))
             }
-        }
+            _ => inputs::tree(r, 3),
+        };
         self.encode_tree(r, &packet);
         let spoiled = r.one_in(2);
         if spoiled {

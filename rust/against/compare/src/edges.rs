@@ -1,4 +1,5 @@
-//! Inputs around each boundary: lengths of text and blobs, the end of the input, 65,535 bytes, depth, characters and UTF-8.
+//! Inputs around each boundary: lengths of text and blobs, the end of the input, 65,535 bytes, depth of bundles and of arrays,
+//! characters and UTF-8.
 
 use crate::inputs::TELLING;
 use crate::met::{Rule, Seen};
@@ -131,6 +132,64 @@ pub fn nested(r: &mut Random) -> Vec<u8> {
     chain(r, levels, last)
 }
 
+/// Arrays nested around the limit, alone or in nested bundles.
+pub fn arrays(r: &mut Random) -> Vec<u8> {
+    let levels = r.pick(&[0, 1, 2, 3, 62, 63, 64, 64, 65, 65, 66]);
+    let bundles = match r.below(4) {
+        0 | 1 => 0,
+        2 => levels.min(1 + r.below(2)),
+        _ => r.below(levels + 1),
+    };
+    let message = array_message(r, levels - bundles);
+    if bundles == 0 {
+        return message;
+    }
+    // A message that is not so deep may stand on either side of it.
+    let (before, after) = (r.one_in(3), r.one_in(3));
+    let mut last = Vec::new();
+    for (there, levels) in [(before, 0), (true, levels - bundles), (after, 0)] {
+        if there {
+            let message = array_message(r, levels);
+            last.extend_from_slice(&(message.len() as u32).to_be_bytes());
+            last.extend_from_slice(&message);
+        }
+    }
+    chain(r, bundles, &last)
+}
+
+/// A message with arrays nested so deep. Arrays that a bracket loses, since it is not closed, may stand before them.
+fn array_message(r: &mut Random, levels: usize) -> Vec<u8> {
+    let mut tags = vec![b','];
+    for _ in 0..r.below(6).saturating_sub(3) {
+        let (lost, open) = (r.pick(&[0, 1, levels, levels + 1, 65]), r.pick(&[1, 1, 2, levels + 1, 65]));
+        push_arrays(r, &mut tags, lost);
+        tags.resize(tags.len() + open, b'[');
+    }
+    if r.one_in(3) {
+        let beside = r.below(levels + 1);
+        push_arrays(r, &mut tags, beside);
+    }
+    push_arrays(r, &mut tags, levels);
+    let mut bytes = b"/a\0\0".to_vec();
+    push_text(&mut bytes, &tags);
+    for _ in tags.iter().filter(|tag| **tag == b'i') {
+        bytes.extend_from_slice(&[0, 0, 0, 7]);
+    }
+    bytes
+}
+
+/// Appends the tags of arrays, each in the one before it, now and then with a value beside a bracket.
+fn push_arrays(r: &mut Random, tags: &mut Vec<u8>, levels: usize) {
+    for bracket in [b'[', b']'] {
+        for _ in 0..levels {
+            tags.push(bracket);
+            if r.one_in(12) {
+                tags.push(r.pick(b"iTN"));
+            }
+        }
+    }
+}
+
 /// Bundles nested as deep as bytes allow, or arrays, closed and not; now and then one byte is another.
 pub fn deepest(r: &mut Random) -> Vec<u8> {
     if r.one_in(2) {
@@ -138,7 +197,11 @@ pub fn deepest(r: &mut Random) -> Vec<u8> {
         return chain(r, levels, b"");
     }
     let levels = r.pick(&[10, 1000, 32_000]);
-    let closed = if r.one_in(2) { levels } else { r.below(levels) };
+    let closed = match r.below(4) {
+        0 | 1 => levels,
+        2 => levels.min(r.pick(&[0, 1, 63, 64, 65])),
+        _ => r.below(levels),
+    };
     let mut bytes = b"/a\0\0".to_vec();
     let types = [&b","[..], &vec![b'['; levels], b"i", &vec![b']'; closed]].concat();
     push_text(&mut bytes, &types);

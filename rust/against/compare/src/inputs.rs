@@ -103,6 +103,41 @@ pub fn tree(r: &mut Random, deep: usize) -> OscPacket {
     OscPacket::Bundle(OscBundle { timetag: time(r), content: (0..r.below(4)).map(|_| tree(r, deep - 1)).collect() })
 }
 
+/// A packet in so many bundles, each the only element of the one around it.
+pub fn in_bundles(packet: OscPacket, levels: usize) -> OscPacket {
+    let timetag = OscTime { seconds: 0, fractional: 1 };
+    (0..levels).fold(packet, |inside, _| OscPacket::Bundle(OscBundle { timetag, content: vec![inside] }))
+}
+
+/// A value in so many arrays.
+fn in_arrays(value: OscType, levels: usize) -> OscType {
+    (0..levels).fold(value, |inside, _| OscType::Array(OscArray { content: vec![inside] }))
+}
+
+/// Arrays nested around the limit, alone or in nested bundles, some of them with other values beside them.
+pub fn nested(r: &mut Random) -> OscPacket {
+    let levels = r.pick(&[1, 2, 62, 63, 64, 64, 65, 65, 66]);
+    let bundles = if r.one_in(2) { 0 } else { r.below(levels + 1) };
+    let beside = r.below(levels - bundles + 1);
+    let mut args = vec![in_arrays(OscType::Nil, beside), in_arrays(OscType::Int(7), levels - bundles)];
+    if r.one_in(2) {
+        args.push(argument(r, 0));
+    }
+    let swapped = r.below(args.len());
+    args.swap(0, swapped);
+    in_bundles(OscPacket::Message(OscMessage { addr: "/a".to_string(), args }), bundles)
+}
+
+/// Arrays nested so deep that the library has to refuse them without calling itself for each.
+pub fn deepest(r: &mut Random) -> OscPacket {
+    let levels = match r.below(8) {
+        0 => 65_520 + r.below(20),
+        _ => r.pick(&[200, 900, 1000, 5000, 16_000]),
+    };
+    let args = vec![in_arrays(OscType::Nil, levels)];
+    in_bundles(OscPacket::Message(OscMessage { addr: "/a".to_string(), args }), r.below(3))
+}
+
 /// The bytes that the crate writes for a random tree.
 pub fn good(r: &mut Random) -> Vec<u8> {
     let deep = r.below(4);

@@ -2,23 +2,25 @@
 
 use crate::ask::{Asked, Call, Due};
 use crate::met::{Rule, Seen};
-use crate::oracle::{self, Told};
+use crate::oracle::{self, Depth, Told};
 use crate::rules;
 use crate::table::{word, Reader, RECORD};
-use crate::walk;
+use crate::walk::{self, Lost};
 use rosc::encoder;
 
 /// The longest input and result.
 pub const LONGEST: usize = 65_535;
-/// The deepest nesting of bundles.
+/// The deepest nesting of bundles and arrays together.
 pub const DEEPEST: u64 = 64;
 
-/// What the crate makes of an input: the number of its refusal or 0, how deep its bundles are, the bytes left over, and the
-/// rules that were at work.
+/// What the crate makes of an input: the number of its refusal or 0, how deep its packets are, the bytes left over, how deep
+/// what it lost would be, and the rules that were at work.
+#[derive(Default)]
 pub struct Found {
     pub refusal: u8,
-    pub depth: u64,
+    pub depth: Depth,
     pub left: usize,
+    lost: Lost,
     seen: Seen,
 }
 
@@ -27,18 +29,17 @@ pub fn find(call: Call, input: &[u8], table: &mut Vec<u8>) -> Found {
     table.clear();
     let mut seen = Seen::default();
     match oracle::decode(call, input, &mut seen) {
-        Told::Refused(refusal) => Found { refusal, depth: 0, left: 0, seen },
+        Told::Refused(refusal) => Found { refusal, seen, ..Found::default() },
         Told::Waiting => {
             seen.note(Rule::WaitingFirst);
-            Found { refusal: 0, depth: 0, left: input.len(), seen }
+            Found { left: input.len(), seen, ..Found::default() }
         }
         Told::Packets(packets, left) => {
             let prefix = if call == Call::Udp { 0 } else { 4 };
-            walk::table(input, prefix, &packets, left, table, &mut seen);
+            let lost = walk::table(input, prefix, &packets, left, table, &mut seen);
             seen.note_if(Rule::WaitingFirst, packets.is_empty());
             seen.note_if(Rule::WaitingLater, call == Call::TcpVec && left > 0 && !packets.is_empty());
-            let depth = packets.iter().map(oracle::depth).max().unwrap_or(0) as u64;
-            Found { refusal: 0, depth, left, seen }
+            Found { refusal: 0, depth: oracle::depth(&packets), left, lost, seen }
         }
     }
 }
@@ -55,20 +56,35 @@ pub fn decode(asked: &Asked, found: &Found, due: &mut Due, seen: &mut Seen) {
     } else if found.refusal > 0 {
         seen.add(found.seen);
         due.refuse(found.refusal);
-    } else if found.depth > limit {
-        seen.note_if(Rule::DepthOver, found.depth == limit + 1);
-        seen.note_if(Rule::Depth65, found.depth == 65 && limit == DEEPEST);
+    } else if found.depth.both > limit {
+        too_deep(found.depth, limit, seen);
         due.refuse(9);
     } else if count > asked.room / RECORD {
         seen.note_if(Rule::CapacityLess, count == asked.room / RECORD + 1);
         due.refuse(10);
     } else {
         seen.add(found.seen);
-        seen.note_if(Rule::DepthAt, found.depth == limit && limit > 0);
-        seen.note_if(Rule::Depth64, found.depth == DEEPEST);
+        deep_enough(found, limit, seen);
         seen.note_if(Rule::CapacityExact, count == asked.room / RECORD && count > 0);
         due.answer = ((count as u64) << 32) | found.left as u64;
     }
+}
+
+/// Notes what made packets too deep for a decoder: arrays, or bundles and arrays where neither would alone.
+fn too_deep(depth: Depth, limit: u64, seen: &mut Seen) {
+    seen.note_if(Rule::DepthOver, depth.both == limit + 1);
+    seen.note_if(Rule::DeepArrays, depth.arrays > limit && depth.bundles <= limit);
+    seen.note_if(Rule::DeepBoth, depth.arrays <= limit && depth.bundles <= limit);
+    seen.note_if(depth.told([Rule::Bundles65, Rule::Arrays65, Rule::Both65]), depth.both == 65 && limit == DEEPEST);
+}
+
+/// Notes what reached the limit of a decoder that accepts, and what would have passed it but is lost, and so does not count.
+fn deep_enough(found: &Found, limit: u64, seen: &mut Seen) {
+    let depth = found.depth;
+    seen.note_if(depth.told([Rule::BundlesAt, Rule::ArraysAt, Rule::BothAt]), depth.both == limit && limit > 0);
+    seen.note_if(depth.told([Rule::Bundles64, Rule::Arrays64, Rule::Both64]), depth.both == DEEPEST);
+    seen.note_if(Rule::LostDeep, found.lost.arrays > limit);
+    seen.note_if(Rule::OpenDeep, found.lost.open > limit);
 }
 
 /// What an encoder must write where the room is ample: the crate's bytes in `due`, or a refusal, in order 11, 9, 1.
@@ -80,10 +96,15 @@ pub fn encode(asked: &Asked, due: &mut Due, seen: &mut Seen) {
         return due.refuse(11);
     }
     let packet = Reader { table: &asked.first, source: &asked.second }.packet(0);
-    let depth = oracle::depth(&packet) as u64;
-    seen.note_if(Rule::EncodeDepth64, depth == DEEPEST);
-    if depth > DEEPEST {
-        seen.note_if(Rule::EncodeDepth65, depth == DEEPEST + 1);
+    let depth = oracle::depth([&packet]);
+    let (at, over) = (
+        [Rule::EncodeBundles64, Rule::EncodeArrays64, Rule::EncodeBoth64],
+        [Rule::EncodeBundles65, Rule::EncodeArrays65, Rule::EncodeBoth65],
+    );
+    seen.note_if(depth.told(at), depth.both == DEEPEST);
+    seen.note_if(depth.told(over), depth.both == DEEPEST + 1);
+    if depth.both > DEEPEST {
+        seen.note_if(Rule::EncodeThousand, depth.arrays >= 1000);
         return due.refuse(9);
     }
     let bytes = if asked.call == Call::EncodeTcp { encoder::encode_tcp(&packet) } else { encoder::encode(&packet) };

@@ -42,10 +42,20 @@ rules! {
     PrefixLonger 1 "prefix longer than its packet",
     PrefixWhole 1 "prefix equal to all there is, itself included",
     FrameTaken 1 "bundle takes the next frame as an element",
-    DepthAt 1 "depth at the limit",
+    BundlesAt 1 "depth at the limit: bundles alone",
+    ArraysAt 1 "depth at the limit: arrays alone",
+    BothAt 1 "depth at the limit: bundles and arrays together",
     DepthOver 1 "depth one over the limit",
-    Depth64 1 "decoded at depth 64",
-    Depth65 1 "refused at depth 65, limit 64",
+    DeepArrays 1 "too deep: arrays alone",
+    DeepBoth 1 "too deep: bundles and arrays together, neither alone",
+    LostDeep 1 "accepted: lost arrays over the limit",
+    OpenDeep 1 "accepted: unclosed arrays over the limit",
+    Bundles64 1 "decoded at depth 64: bundles alone",
+    Arrays64 1 "decoded at depth 64: arrays alone",
+    Both64 1 "decoded at depth 64: bundles and arrays together",
+    Bundles65 1 "refused at depth 65, limit 64: bundles alone",
+    Arrays65 1 "refused at depth 65, limit 64: arrays alone",
+    Both65 1 "refused at depth 65, limit 64: bundles and arrays together",
     CapacityExact 1 "capacity exact",
     CapacityLess 1 "capacity one less",
     Input65535 10 "input of 65,535 bytes",
@@ -62,8 +72,13 @@ rules! {
     OutputLess 1 "output one less",
     Result65532 10 "result of 65,532 bytes",
     Result65536 10 "result of 65,536 bytes",
-    EncodeDepth64 1 "encode: depth 64",
-    EncodeDepth65 1 "encode: depth 65",
+    EncodeBundles64 1 "encode: depth 64, bundles alone",
+    EncodeArrays64 1 "encode: depth 64, arrays alone",
+    EncodeBoth64 1 "encode: depth 64, bundles and arrays together",
+    EncodeBundles65 1 "encode: depth 65, bundles alone",
+    EncodeArrays65 1 "encode: depth 65, arrays alone",
+    EncodeBoth65 1 "encode: depth 65, bundles and arrays together",
+    EncodeThousand 10 "encode: a thousand arrays in each other, or more",
     NoSlash 1 "encode: address without a slash",
     NulInText 1 "encode: NUL in a text or address",
     SpoiledStill 1 "table spoiled and still well formed",
@@ -97,6 +112,9 @@ rules! {
     OscpackRead 1 "oscpack: as written, all of it read",
     OscpackDamaged 1 "oscpack: damaged",
 }
+
+// Each rule has a bit of what a case has shown.
+const _: () = assert!(RULES.len() <= 128);
 
 /// What one case has shown.
 #[derive(Clone, Copy, Debug, Default, PartialEq, Eq)]

@@ -2,6 +2,7 @@
 
 use crate::ask::{Asked, Call, Due};
 use crate::cases::Case;
+use crate::judge::DEEPEST;
 use crate::met::{Met, Seen};
 use crate::peers::Peers;
 use crate::random::Random;
@@ -34,6 +35,17 @@ const EXAMPLES: &[(Call, &[u8])] = &[
     (Call::Udp, b"#bundle\0\0\0\0\0\0\0\0\x01\0\0\0\0"),
     (Call::Tcp, b"\0\0\0\x08/a\0\0"),
     (Call::Tcp, b"\0\0\0\x09/a\0\0"),
+];
+
+/// Inputs that tell the readings of Ticket 4 apart, each with a depth limit: what is lost by an unclosed bracket does not count.
+#[rustfmt::skip]
+const NESTED: &[(Call, u64, &[u8])] = &[
+    (Call::Udp, 0, b"/a\0\0,i[i\0\0\0\0\0\0\0\x01\0\0\0\x02"),
+    (Call::Udp, 1, b"/a\0\0,[[T]\0\0\0"),
+    (Call::Udp, 0, b"/a\0\0,[[T]\0\0\0"),
+    (Call::Udp, 0, b"/a\0\0,[[T]][T\0\0"),
+    (Call::Udp, 2, b"#bundle\0\0\0\0\0\0\0\0\x01\0\0\0\x08/a\0\0,[]\0"),
+    (Call::Udp, 1, b"#bundle\0\0\0\0\0\0\0\0\x01\0\0\0\x08/a\0\0,[]\0"),
 ];
 
 /// What a case adds: its answer, its rules, kinds and sizes. Each is kept up to a quota.
@@ -145,8 +157,9 @@ impl Sample {
 fn choose(seed: u64) -> Sample {
     let mut sample = Sample { bytes: Vec::new(), cases: 0, longest: 0, most_room: 0, met: Met::new(), full: HashMap::new() };
     let mut case = Case::new();
-    for (call, input) in EXAMPLES {
-        case.ample(*call, input);
+    let examples = EXAMPLES.iter().map(|(call, input)| (*call, DEEPEST, *input));
+    for (call, limit, input) in examples.chain(NESTED.iter().copied()) {
+        case.roomy(call, limit, input);
         sample.offer(&case);
     }
     let mut r = Random::new(seed, 0);
@@ -198,7 +211,8 @@ data/answers.bin holds a sample of the answers of rosc 0.11.4, built unchanged, 
 tables, its errors as numbers, and document 01's limits, rules of a table and of a record on top. Where each item began is
 found by a walk over the input that the crate's packets lead. The port had no part in it. The sample is chosen for coverage:
 a case is kept if it adds an answer, rule, kind, length or limit that is not there often enough. Document 01's examples P1 to
-P14 come first. What needs long slices (refusal 1, depth 64 and 65) is not here: the program limit_runs has it.
+P14 come first, and after them those that tell the readings of Ticket 4 apart. What needs long slices (refusal 1, tables of
+depth 64) is not here: the program limit_runs has it.
 ";
 
 const FORMAT: &str = "

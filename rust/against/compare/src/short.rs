@@ -1,6 +1,7 @@
 //! Short inputs, exhaustively: every sequence of each length over a telling alphabet, one length after another.
 
 use crate::ask::{Asked, Call, DECODERS};
+use crate::judge::DEEPEST;
 use crate::table::RECORD;
 
 /// Families of short inputs, each with an alphabet of its own.
@@ -12,6 +13,8 @@ enum Family {
     Groups,
     /// Type texts of a message, for each decoder.
     Types,
+    /// Brackets and a tag without data as the type text of a message, alone and in a bundle, for each decoder at low depth limits.
+    Brackets,
     /// Bytes around RFC 3629's borders, as the text of `encode_string`.
     Texts,
     /// Records, as the whole table of each encoder.
@@ -44,6 +47,11 @@ const GROUPS: &[&[u8]] = &[
 
 const TYPES: &[&[u8]] = &[b",", b"[", b"]", b"i", b"T", b"s", "é".as_bytes(), b"x"];
 
+const BRACKETS: &[&[u8]] = &[b"[", b"]", b"T"];
+
+/// How many depth limits the brackets are read at, from 0 on, each with the message alone and in a bundle.
+const LIMITS: u64 = 4;
+
 const TEXTS: &[&[u8]] = &[
     b"\0", b"a", b"\x7F", b"\x80", b"\x8F", b"\x90", b"\x9F", b"\xA0", b"\xBF", b"\xC0", b"\xC1", b"\xC2", b"\xDF", b"\xE0",
     b"\xE1", b"\xEC", b"\xED", b"\xEE", b"\xEF", b"\xF0", b"\xF1", b"\xF3", b"\xF4", b"\xF5", b"\xFF",
@@ -62,12 +70,14 @@ const STAGES: &[(Family, u32, u32)] = &[
     (Family::Records, 1, 1),
     (Family::Positions, 1, 1),
     (Family::Tables, 0, 3),
+    (Family::Brackets, 0, 6),
     (Family::Bytes, 0, 5),
     (Family::Groups, 0, 4),
     (Family::Texts, 0, 3),
     (Family::Types, 0, 5),
     (Family::Texts, 4, 4),
     (Family::Types, 6, 6),
+    (Family::Brackets, 7, 9),
     (Family::Tables, 4, 4),
     (Family::Groups, 5, 5),
     (Family::Bytes, 6, 6),
@@ -88,6 +98,7 @@ impl Family {
             Family::Bytes => BYTES,
             Family::Groups => GROUPS,
             Family::Types => TYPES,
+            Family::Brackets => BRACKETS,
             Family::Texts => TEXTS,
             _ => &[],
         }
@@ -97,6 +108,7 @@ impl Family {
             Family::Bytes => "bytes, each decoder",
             Family::Groups => "groups of bytes, each decoder",
             Family::Types => "characters of type text, each decoder",
+            Family::Brackets => "brackets and tags, alone and in a bundle, limits 0 to 3, each decoder",
             Family::Texts => "bytes of text, encode_string",
             Family::Tables => "records, each encoder",
             Family::Records => "records with one bit set, look and start",
@@ -106,16 +118,23 @@ impl Family {
     /// The calls that each input is for.
     fn calls(self) -> &'static [Call] {
         match self {
-            Family::Bytes | Family::Groups | Family::Types => &DECODERS,
+            Family::Bytes | Family::Groups | Family::Types | Family::Brackets => &DECODERS,
             Family::Texts => &[Call::EncodeString],
             Family::Tables => &[Call::Encode, Call::EncodeTcp],
             Family::Records => &[Call::Look, Call::Start],
             Family::Positions => &[Call::Pad],
         }
     }
+    /// In how many ways each input is asked for.
+    fn ways(self) -> u64 {
+        match self {
+            Family::Brackets => 2 * LIMITS,
+            _ => 1,
+        }
+    }
     /// How many cases a length has.
     fn cases(self, length: u32) -> u64 {
-        self.letters().pow(length) * self.calls().len() as u64
+        self.letters().pow(length) * self.ways() * self.calls().len() as u64
     }
 }
 
@@ -137,22 +156,54 @@ fn fill(family: Family, length: u32, n: u64, asked: &mut Asked) {
     let calls = family.calls();
     asked.begin(calls[n as usize % calls.len()]);
     let mut left = n / calls.len() as u64;
-    if family == Family::Types {
-        if asked.call != Call::Udp {
-            asked.first.extend_from_slice(&[0, 0, 0, 24]);
+    if asked.call.decodes() {
+        asked.number = DEEPEST;
+    }
+    match family {
+        Family::Types => begin_types(asked),
+        Family::Brackets => {
+            begin_brackets(left % family.ways(), length, asked);
+            left /= family.ways();
         }
-        asked.first.extend_from_slice(b"/\0\0\0");
+        _ => {}
     }
     for _ in 0..length {
         push(family, left % family.letters(), asked);
         left /= family.letters();
     }
-    if family == Family::Types {
+    if matches!(family, Family::Types | Family::Brackets) {
         asked.first.push(0);
         let padded = asked.first.len().next_multiple_of(4);
         asked.first.resize(padded, 0);
+    }
+    if family == Family::Types {
         asked.first.extend_from_slice(b"\0\0\0\x02a\0\0\0\0\0\xD8\0");
     }
+}
+
+/// What stands before a type text.
+fn begin_types(asked: &mut Asked) {
+    if asked.call != Call::Udp {
+        asked.first.extend_from_slice(&[0, 0, 0, 24]);
+    }
+    asked.first.extend_from_slice(b"/\0\0\0");
+}
+
+/// What stands before a type text of so many characters, its comma included: a message's address, or a bundle around it. The
+/// way says which, and at which limit.
+fn begin_brackets(way: u64, length: u32, asked: &mut Asked) {
+    let (limit, bundled) = (way / 2, way % 2 == 1);
+    let message = 4 + (length + 2).next_multiple_of(4);
+    asked.number = limit;
+    if asked.call != Call::Udp {
+        let size = if bundled { 20 + message } else { message };
+        asked.first.extend_from_slice(&size.to_be_bytes());
+    }
+    if bundled {
+        asked.first.extend_from_slice(b"#bundle\0\0\0\0\0\0\0\0\x01");
+        asked.first.extend_from_slice(&message.to_be_bytes());
+    }
+    asked.first.extend_from_slice(b"/\0\0\0,");
 }
 
 /// Appends a letter.

@@ -8,6 +8,14 @@ use crate::reached::Reached;
 use crate::table::{put_packet, word, Spot, RECORD};
 use rosc::{decoder, OscBundle, OscMessage, OscPacket};
 
+/// How deep arrays would be that are not in the crate's packets, bundles around them counted: those that an unclosed bracket
+/// lost, and those that would be there had every bracket been closed.
+#[derive(Clone, Copy, Debug, Default, PartialEq, Eq)]
+pub struct Lost {
+    pub arrays: u64,
+    pub open: u64,
+}
+
 pub struct Walk<'a> {
     input: &'a [u8],
     /// Where the position is counted from: the start of the input or of the frame.
@@ -17,12 +25,17 @@ pub struct Walk<'a> {
     spots: Vec<Spot>,
     /// Where the data of the message stands before each tag and after the last.
     positions: Vec<usize>,
+    /// How many bundles are around.
+    around: u64,
+    lost: Lost,
     seen: Seen,
 }
 
-/// The table of the crate's packets over an input, with the offsets that the walk finds. The bytes left over must agree.
-pub fn table(input: &[u8], prefix: usize, packets: &[OscPacket], left: usize, to: &mut Vec<u8>, seen: &mut Seen) {
-    let mut walk = Walk { input, base: 0, at: 0, spots: Vec::new(), positions: Vec::new(), seen: *seen };
+/// The table of the crate's packets over an input, with the offsets that the walk finds; answers how deep what is lost would be.
+/// The bytes left over must agree.
+pub fn table(input: &[u8], prefix: usize, packets: &[OscPacket], left: usize, to: &mut Vec<u8>, seen: &mut Seen) -> Lost {
+    let (spots, positions, lost) = (Vec::new(), Vec::new(), Lost::default());
+    let mut walk = Walk { input, base: 0, at: 0, spots, positions, around: 0, lost, seen: *seen };
     for packet in packets {
         walk.frame(prefix, packet);
     }
@@ -42,6 +55,7 @@ pub fn table(input: &[u8], prefix: usize, packets: &[OscPacket], left: usize, to
     for record in to.chunks_exact(RECORD) {
         assert!(begins(input, record), "the crate's value does not stand where the walk says: {input:02X?}");
     }
+    walk.lost
 }
 
 /// Whether the value of a record, as the crate gave it, stands where the walk says that the item begins. A tag without data and
@@ -128,29 +142,45 @@ impl Walk<'_> {
     /// Walks over arguments. Of an array that is not closed only what it contains is kept, without the array itself.
     fn arguments(&mut self, tags: &str) {
         let (outside, data) = (self.spots.len(), self.at);
-        let mut open = Vec::new();
+        // What is open, the message first: the spots before what it contains, and how deep arrays are nested in it so far.
+        let mut open = vec![(outside, 0)];
         self.positions.clear();
         for tag in tags.chars() {
-            self.seen.note_if(Rule::ArrayNested, tag == '[' && !open.is_empty());
+            self.seen.note_if(Rule::ArrayNested, tag == '[' && open.len() > 1);
             self.seen.note_if(Rule::StartArray, tag == '[' && self.at > data);
             self.seen.note_if(Rule::StartNoData, "TFNI".contains(tag) && self.at > data);
             self.positions.push(self.at);
             if tag == ']' {
-                open.pop();
+                let (_, inside) = open.pop().expect("an array that is open");
+                let (_, deep) = open.last_mut().expect("what the array stands in");
+                *deep = (*deep).max(inside + 1);
                 continue;
             }
             self.begin();
             match tag {
-                '[' => open.push(self.spots.len()),
+                '[' => open.push((self.spots.len(), 0)),
                 _ => self.data(tag),
             }
         }
         self.positions.push(self.at);
-        if let Some(kept) = open.pop() {
+        let (kept, _) = open[open.len() - 1];
+        if open.len() > 1 {
             self.seen.note(Rule::ArrayUnclosed);
             self.seen.note_if(Rule::StartUnclosed, self.spots.get(kept).is_some_and(|spot| spot.start as usize > data));
             self.spots.drain(outside..kept);
+            self.lose(&open);
         }
+    }
+
+    /// Remembers how deep lost arrays are, where all but the last of what is open is lost.
+    fn lose(&mut self, open: &[(usize, u64)]) {
+        let deep = open.iter().map(|(_, deep)| *deep);
+        let arrays = deep.clone().take(open.len() - 1).max().unwrap_or(0);
+        if arrays > 0 {
+            self.lost.arrays = self.lost.arrays.max(self.around + arrays);
+        }
+        let closed = deep.zip(self.around..).map(|(deep, around)| around + deep).max().unwrap_or(0);
+        self.lost.open = self.lost.open.max(closed);
     }
 
     /// Has the crate confirm how far it has read a small message before each of the tags.
@@ -189,6 +219,7 @@ impl Walk<'_> {
         self.at += 8;
         self.pad();
         self.at += 8;
+        self.around += 1;
         for packet in &bundle.content {
             let element = self.at + 4;
             let after = element + word(self.input, self.at) as usize;
@@ -198,6 +229,7 @@ impl Walk<'_> {
             self.seen.note_if(Rule::ElementDropped, self.at < after);
             self.at = after;
         }
+        self.around -= 1;
         if self.at < end {
             self.ended(&self.input[self.at..end]);
         }

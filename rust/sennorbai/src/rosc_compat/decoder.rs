@@ -57,7 +57,7 @@ fn last(msg: &[u8], left: usize) -> &[u8] {
     &msg[msg.len() - left..]
 }
 
-/// A message or bundle as rosc has it. Bundles are at most 64 deep, so this calls itself.
+/// A message or bundle as rosc has it. What was decoded is at most 64 deep, so this calls itself.
 fn packet(root: Record<'_>) -> OscPacket {
     match root.value() {
         Value::Bundle(tag) => {
@@ -68,7 +68,7 @@ fn packet(root: Record<'_>) -> OscPacket {
     }
 }
 
-/// The arguments of a message. Arrays may be nested to any depth, so those that are open stand on a stack, as in rosc.
+/// The arguments of a message. Arrays that are open stand on a stack, as in rosc.
 fn arguments(message: Record<'_>) -> Vec<OscType> {
     let inside = message.below();
     let mut args = Vec::with_capacity(inside.len());

@@ -32,8 +32,8 @@ pub enum OscError {
     RegexError(String),
     /// Something that is not implemented. Nothing here gives it.
     Unimplemented,
-    /// A limit of document 01 that rosc does not have: an input or a result that is too long (1), or bundles nested too deep
-    /// (9).
+    /// A limit of document 01 that rosc does not have: an input or a result that is too long (1), or bundles and arrays nested
+    /// too deep (9).
     Limit(Refusal),
 }
 

@@ -13,8 +13,9 @@
 //!
 //! Where it differs from rosc:
 //!
-//! - Inputs and results over 65,535 bytes and bundles nested deeper than 64 are refused, by the variant
-//!   [`OscError::Limit`], which rosc does not have; a match on every variant of `OscError` needs an arm for it.
+//! - Inputs and results over 65,535 bytes, and bundles and arrays nested deeper than 64 together, are refused, by the variant
+//!   [`OscError::Limit`], which rosc does not have; a match on every variant of `OscError` needs an arm for it. rosc has
+//!   neither limit.
 //!   [`encoder::encode_into`], [`encoder::encode_into_tcp`] and [`encoder::encode_string`] have no place for a refusal and write
 //!   what rosc writes, past the limits by plain Rust that is not proved.
 //! - The library tells a refusal's number and no more. So [`OscError::ReadError`] always holds [`ErrorKind::Eof`], where nom's
@@ -25,9 +26,10 @@
 //!   before that year; [`encoder::pad`] of a position over 2^64 − 4 is 0, as in a release build of rosc.
 //! - [`encoder::encode_into`] writes a packet to its output in one piece.
 //!
-//! As in rosc, a tree is dropped, cloned, compared and printed by functions that call themselves for an array in an array, and a
-//! packet can hold 32,763 of them: a thread with 2 MiB of stack drops some 32,000 levels in a release build and 8,000 in a debug
-//! build, and encodes some 16,000.
+//! As in rosc, a tree is dropped, cloned, compared and printed by functions that call themselves for what an array or a bundle
+//! contains. What is decoded is at most 64 deep. A tree that a program makes itself may be deeper, and is encoded or refused
+//! whatever its depth; a thread with 2 MiB of stack drops some 32,000 arrays in each other in a release build and 8,000 in a
+//! debug build.
 
 // Types, signatures and their documentation are from rosc 0.11.4, copyright (c) 2016 Andreas Linz, under MIT or Apache-2.0:
 // see NOTICE.

@@ -11,7 +11,8 @@ returns c =
     let p2 = c .before .before in
     let p4 = p2 .before .before in
     let a = p4 .before .before .before .args in
-    says-as (same-said (a .word .now) (p4 .trouble-line .ensures) ∙ trouble-said (a .trouble) (a .number) (a .word .now)) (p2 .tell .ensures)
+    says-as (same-said (a .word .now) (p4 .trouble-line .ensures) ∙ trouble-said (a .trouble) (a .number) (a .word .now))
+    (p2 .tell .ensures)
 
 pub tell-trouble-spec : {M : Type 1} → statement M
 tell-trouble-spec = tie.close (tie.spec (λ c κs. search needs) (λ c κs. search needs) (λ c. search needs) returns)

@@ -8,9 +8,9 @@ mod same;
 use crate::ask::{Asked, Call};
 use crate::judge::{DEEPEST, LONGEST};
 use crate::table::Reader;
-use crate::{oracle, rules};
+use crate::{inputs, oracle, rules};
 use convert::{to_compat, to_rosc};
-use rosc::{OscBundle, OscPacket, OscTime};
+use rosc::OscPacket;
 use same::same_packets;
 use sennorbai::rosc_compat as compat;
 use std::io::Cursor;
@@ -86,7 +86,7 @@ fn decode_limit(msg: &[u8], packets: &[OscPacket]) -> Option<u8> {
     if msg.len() > LONGEST {
         return Some(1);
     }
-    packets.iter().any(|packet| oracle::depth(packet) as u64 > DEEPEST).then_some(9)
+    (oracle::depth(packets).both > DEEPEST).then_some(9)
 }
 
 fn decode(call: Call, msg: &[u8]) -> Result<Outcome, String> {
@@ -132,12 +132,13 @@ fn encode(asked: &Asked) -> Result<Outcome, String> {
     let bytes = if tcp { rosc::encoder::encode_tcp(&packet) } else { rosc::encoder::encode(&packet) };
     let bytes = bytes.expect("the crate encodes every packet");
     let ours = if tcp { compat::encoder::encode_tcp(&our_packet) } else { compat::encoder::encode(&our_packet) };
-    // Outputs have no place for a limit: they get the crate's bytes in any case.
+    // Outputs have no place for a limit: they get the crate's bytes in any case, also of a packet in so many bundles that the
+    // library refuses it.
     encode_into(&our_packet, tcp, &bytes)?;
-    let deep = nested(packet.clone());
+    let deep = inputs::in_bundles(packet.clone(), DEEPEST as usize + 1);
     let deep_bytes = rosc::encoder::encode(&deep).expect("the crate encodes every packet");
     encode_into(&to_compat::packet(&deep), tcp, &deep_bytes)?;
-    if oracle::depth(&packet) as u64 > DEEPEST {
+    if oracle::depth([&packet]).both > DEEPEST {
         return limited(9, ours.map(|_| ()));
     }
     if bytes.len() > LONGEST {
@@ -150,12 +151,6 @@ fn encode(asked: &Asked) -> Result<Outcome, String> {
         Some(name) => Err(format!("compat: {name}")),
         None => Ok(Outcome::Same),
     }
-}
-
-/// A packet in so many bundles that the library refuses it, and what stands in its place has to write it.
-fn nested(packet: OscPacket) -> OscPacket {
-    let timetag = OscTime { seconds: 7, fractional: 9 };
-    (0..=DEEPEST).fold(packet, |inner, _| OscPacket::Bundle(OscBundle { timetag, content: vec![inner] }))
 }
 
 /// Both outputs: bytes that are there already stay, and the count is that of the bytes written.
