@@ -79,8 +79,12 @@ range-is source item n =
     (λ q. rw q)
     (λ l. ⊎-elim
     (λ q. rw q)
-    (λ m. rw (no-range source item (item .kind) l m, ne-eqb (item .kind) messageKind (other-kind (item .kind) messageKind refl n),
-    ne-eqb (item .kind) 115 l, ne-eqb (item .kind) 98 m))
+    (λ m. rw (
+      no-range source item (item .kind) l m,
+      ne-eqb (item .kind) messageKind (other-kind (item .kind) messageKind refl n),
+      ne-eqb (item .kind) 115 l,
+      ne-eqb (item .kind) 98 m,
+    ))
     (is-or (item .kind) 98))
     (is-or (item .kind) 115)
 

@@ -171,12 +171,12 @@ counts-more f join n x a c item inside e G = omega (arith, c (node item inside G
 
 -- the records from lo to `at` have been passed, with n bytes by f: whatever is right from `at` on, they join it to what is right from lo on
 pub record Passed (t source : List ℕ) (container levels : ℕ) (f : Forest → List ℕ) (lo hi at n : ℕ) (join : Forest → Forest) : Type 0
-    where
-  pub carries : Carries (SurveyedRow t source container at hi levels) (SurveyedRow t source container lo hi levels) join
-  pub counted : Counts f join n
-  pub since : lo ≤ at
-  pub within : at ≤ hi
-  pub short : n ≤ longestElement
+  where
+    pub carries : Carries (SurveyedRow t source container at hi levels) (SurveyedRow t source container lo hi levels) join
+    pub counted : Counts f join n
+    pub since : lo ≤ at
+    pub within : at ≤ hi
+    pub short : n ≤ longestElement
 
 -- before the first record nothing is passed
 pub passed-none : {t source : List ℕ} {container levels : ℕ} {f : Forest → List ℕ} {lo hi : ℕ} → lo ≤ hi
