@@ -3,3 +3,4 @@ pub mod Exact
 pub mod Rows
 pub mod Arguments
 pub mod Packets
+pub mod Only

@@ -206,38 +206,41 @@ module _ {t source : List ℕ} {levels lo hi at n : ℕ} (b : Ahead t source lev
 module _ {t source : List ℕ} {count : ℕ} where
   -- of a table that is not well formed the survey is not sure
   pub no-tree : (WellFormed t count source → ⊥) → Surveys t count source unsure
-  no-tree n = no-length (omega arith) (λ F w h. n (tree-formed (w .tree)))
+  no-tree n = record { exact = no-length (omega arith) (λ F w h. n (tree-formed (w .tree))); most = omega arith }
 
   -- one element that is the whole table is its tree
   pub tree-surveyed : {n : ℕ} → 1 ≤ count → count ≤ mostRecords → recordSize * count ≤ length t → endAt t 0 ≡ count
-      → SurveysPackets t source 0 count deepest n → Surveys t count source n
-  tree-surveyed some few fits e w =
+      → SurveysPackets t source 0 count deepest n → n ≤ unsure → Surveys t count source n
+  tree-surveyed some few fits e w m =
       record {
-        sure = λ h.
-            let x = w .sure h in
-            let y = only-node t 0 (x .forest) (omega (arith, e)) (rw e (x .right .spans)) in
-            let i = y .1 in
-            record {
-              forest = y .0;
-              right = record {
-                tree = record {
-                  spans = rw i at (x .right .spans);
-                  obeys = rw i at (x .right .obeys);
-                  few = few;
-                  fits = fits;
-                  zeros = λ j l. x .right .zeros j (omega arith) l;
+        exact = record {
+          sure = λ h.
+              let x = w .sure h in
+              let y = only-node t 0 (x .forest) (omega (arith, e)) (rw e (x .right .spans)) in
+              let i = y .1 in
+              record {
+                forest = y .0;
+                right = record {
+                  tree = record {
+                    spans = rw i at (x .right .spans);
+                    obeys = rw i at (x .right .obeys);
+                    few = few;
+                    fits = fits;
+                    zeros = λ j l. x .right .zeros j (omega arith) l;
+                  };
+                  shallow = rw i at (x .right .shallow);
                 };
-                shallow = rw i at (x .right .shallow);
+                sized = omega (arith, element source (itemAt t 0) (y .0), ap (λ (G : Forest). length (writeElements source G)) i, x .sized);
               };
-              sized = omega (arith, element source (itemAt t 0) (y .0), ap (λ (G : Forest). length (writeElements source G)) i, x .sized);
-            };
-        only = λ G v h.
-            w .only (node (itemAt t 0) G nil)
-            (record {
-              spans = v .tree .spans;
-              obeys = v .tree .obeys;
-              zeros = λ j l m. v .tree .zeros j m;
-              shallow = v .shallow;
-            })
-            (omega (arith, element source (itemAt t 0) G, h));
+          only = λ G v h.
+              w .only (node (itemAt t 0) G nil)
+              (record {
+                spans = v .tree .spans;
+                obeys = v .tree .obeys;
+                zeros = λ j l m. v .tree .zeros j m;
+                shallow = v .shallow;
+              })
+              (omega (arith, element source (itemAt t 0) G, h));
+        };
+        most = m;
       }

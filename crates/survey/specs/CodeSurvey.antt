@@ -104,6 +104,7 @@ pub record ShallowTree (t : List ℕ) (count : ℕ) (source : List ℕ) (inside 
   pub shallow : depth (node (itemAt t 0) inside nil) ≤ deepest
 
 -- the contract of `survey`: it is sure exactly if the table is well formed, at most 64 deep and its packet at most 65,535 bytes, and then
--- answers the packet's length as an element, its size counted (Ticket 4)
-abbrev pub Surveys : List ℕ → ℕ → List ℕ → ℕ → Type 0
-Surveys t count source r = Exactly (ShallowTree t count source) (λ inside. 4 + length (packetAt source t 0 inside)) r
+-- answers the packet's length as an element, its size counted; of any other table it answers `unsure` (Ticket 4)
+pub record Surveys (t : List ℕ) (count : ℕ) (source : List ℕ) (r : ℕ) : Type 0 where
+  pub exact : Exactly (ShallowTree t count source) (λ inside. 4 + length (packetAt source t 0 inside)) r
+  pub most : r ≤ unsure

@@ -24,7 +24,7 @@ returns-5 c =
     let k = f .before in
     tree-surveyed (omega (arith, k .before .before .before .if1 .left)) (omega (arith, k .before .before .if2 .left))
     (omega (arith, k .if3 .left, k .before .capacity-of .ensures)) (sym (f .field-at .ensures) ∙ c .before .if4 .left)
-    (c .survey-packets .ensures .0)
+    (c .survey-packets .ensures .0) (c .survey-packets .ensures .1)
 
 pub survey-spec : {M : Type 1} → statement M
 survey-spec =
