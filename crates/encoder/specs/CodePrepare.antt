@@ -10,7 +10,7 @@ use Rattle.node.specs.Forest.{Forest, nil, node, depth}
 use Rattle.node.specs.Records.{recordSize, endAt, itemAt}
 use Rattle.table.specs.Formed.{WellFormed, rangeOk}
 use Rattle.table.specs.Tree.{Spans, IsTree}
-use Rattle.encoder.specs.Outcome.{Outcome, bytesOutcome}
+use Rattle.encoder.specs.Outcome.{Outcome, refuse, bytesOutcome}
 use Rattle.writers.specs.CodeWriters.{Sound, packetAt}
 use Rattle.survey.specs.CodeSurvey.{ShallowTree}
 use Rattle.encoder.specs.declared.Prepared.{Prepared}
@@ -29,6 +29,12 @@ pub data AfterNo (t : List ℕ) (count : ℕ) (source : List ℕ) (x : Refusal) 
       → x ≡ TooDeep → AfterNo t count source x
   long : (inside : Forest) → ShallowTree t count source inside → longest < length (packetAt source t 0 inside)
       → x ≡ TooLong → AfterNo t count source x
+
+-- the outcome of an encoder after a "no": that refusal, and every byte of the output as it was; so never 12, and nothing is written
+pub record NoOutcome (t : List ℕ) (count : ℕ) (source out : List ℕ) (r : Outcome) : Type 0 where
+  pub refusal : Refusal
+  pub after : AfterNo t count source refusal
+  pub is : r ≡ refuse refusal out
 
 -- the packet of the first record can be written, and n is its length, which is not over the limit
 pub record Writable (source t : List ℕ) (n : ℕ) : Type 0 where
