@@ -1,4 +1,5 @@
 -- `encoder::after_no` meets its contract: the full check, then the depth; what passes both is too long.
+use native.Mathlib.Omega.{arith}
 use borrow.Author.Needs.{needs}
 use Rattle.encoder.proofs.Answers.{bad-table, rooted, too-deep, too-long}
 use Rattle.encoder.proofs.after_no.Statement.{statement}
@@ -10,7 +11,7 @@ returns c = bad-table _ _ _ (c .before .is-well-formed .ensures) (c .if1 .taken)
 deeper-than-requires : tie.Need-deeper-than-requires
 deeper-than-requires c κs =
     let a = c .before .before .before .before .args in
-    rooted (a .table .now) (a .count) (a .source .now) (c .before .is-well-formed .ensures) (c .if1 .left)
+    (rooted (a .table .now) (a .count) (a .source .now) (c .before .is-well-formed .ensures) (c .if1 .left), omega arith)
 
 returns-2 : tie.Need-returns-2
 returns-2 c =
