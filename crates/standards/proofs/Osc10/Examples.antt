@@ -1,6 +1,6 @@
 -- Examples, computed, that meet the hypotheses of `osc10-accepted`, `frame-accepted`, `osc10-seen`, `strict-written` and
--- `strict-frame-written`: document 01's P3 and a bundle that holds it; a message of OSC 1.0 itself with a blob, a double, a character, a
--- negative integer and a text; a bundle in a bundle that holds it.
+-- `strict-frame-written`: document 01's P3 and a bundle that holds it; an array in an array; a message of OSC 1.0 itself with a blob, a
+-- double, a character, a negative integer and a text; a bundle in a bundle that holds it.
 use mathlib.Core.Path.{_≡_, refl, ap, _∙_}
 use mathlib.Core.List.{List, [], _∷_}
 use Prim.Native.Nat.{ℕ}
@@ -30,9 +30,9 @@ use Rattle.writers.specs.Osc.{writeData, writeTags, writeMessage, writeBundle, 
 use Rattle.encoder.specs.Outcome.{formed, unframed, prefixed, treeOutcome, bytesOutcome}
 use Rattle.answers.specs.Demands.{tableAfter}
 use Rattle.osc10.specs.Words.{NoNul}
-use Rattle.osc10.specs.Osc10.{end, atom, word, long, string, blob, char, Packet, message, bundle, none, also, ArgumentsAllowed, Allowed}
-use Rattle.osc10.specs.Osc10.{AllAllowed, argumentsDeep, deep, tagsOf, as-word, as-long, as-string, as-blob, as-char, no-argument, one-atom}
-use Rattle.osc10.specs.Osc10.{Spells, as-message, as-bundle, no-element, element}
+use Rattle.osc10.specs.Osc10.{end, atom, array, word, long, string, blob, char, Packet, message, bundle, none, also, ArgumentsAllowed}
+use Rattle.osc10.specs.Osc10.{Allowed, AllAllowed, argumentsDeep, deep, tagsOf, as-word, as-long, as-string, as-blob, as-char, no-argument}
+use Rattle.osc10.specs.Osc10.{one-atom, one-array, Spells, as-message, as-bundle, no-element, element}
 use Rattle.osc10.specs.Strict.{ArgumentsStrict, StrictIn, Strict, StrictNode, StrictForest}
 use Rattle.standards.specs.Seen.{argument, argumentEntries, entriesOf, Seen, as-i, LookAs}
 use Rattle.standards.specs.Standards.{oscFrame, AcceptedAs, SeenIn, SpelledStrictly, FrameOf}
@@ -91,6 +91,38 @@ held-spelled =
 pub held-accepted : AcceptedAs udp held held-bytes
 unfolding deep argumentsDeep
 held-accepted = osc10-accepted held held-bytes held-allowed held-spelled (omega arith) (omega arith)
+
+-- ---- arrays
+
+-- /a with an array in an array that holds the integer 5
+abbrev arrays : Packet
+arrays = message (0x2F ∷ 0x61 ∷ []) (array (array (atom (word 105 5) end) end) end)
+
+-- 2F610000 2C5B5B69 5D5D0000 00000005
+abbrev arrays-bytes : List ℕ
+arrays-bytes =
+    0x2F ∷ 0x61 ∷ 0 ∷ 0 ∷ 0x2C ∷ 0x5B ∷ 0x5B ∷ 0x69 ∷ 0x5D ∷ 0x5D ∷ 0 ∷ 0 ∷ 0 ∷ 0 ∷ 0 ∷ 5 ∷ []
+
+-- it is two levels deep
+arrays-deep : deep arrays ≡ 2
+unfolding deep argumentsDeep
+arrays-deep = refl
+
+arrays-allowed : Allowed arrays
+unfolding Allowed ArgumentsAllowed
+arrays-allowed = (p3-allowed .0, p3-allowed .1, ((p3-allowed .2, tt), tt))
+
+arrays-spelled : Spells arrays arrays-bytes
+unfolding bytes tagsOf
+arrays-spelled =
+    as-message
+    (record { additional = 1; few = omega arith; spelled = refl; multiple = refl })
+    (record { additional = 1; few = omega arith; spelled = refl; multiple = refl })
+    (one-array (one-array (one-atom as-word no-argument) no-argument) no-argument)
+
+-- it is accepted
+pub arrays-accepted : AcceptedAs udp arrays arrays-bytes
+arrays-accepted = osc10-accepted arrays arrays-bytes arrays-allowed arrays-spelled (omega arith) (omega (arith, arrays-deep))
 
 -- ---- a message of OSC 1.0 itself
 
