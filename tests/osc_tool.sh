@@ -133,7 +133,7 @@ refuses 5 'first string is neither /-led nor exactly #bundle' 'a\0\0\0'
 refuses 6 '] with no array open' '/a\0\0,]\0\0'
 refuses 7 'unknown type tag' '/a\0\0,x\0\0'
 refuses 8 'c is not a scalar number' '/a\0\0,c\0\0\0\0\330\0'
-expect 1 'refused 9: bundles nested deeper than the limit' '' decode udp "$examples/bundle.osc" refused.bin --depth 0
+expect 1 'refused 9: bundles and arrays nested deeper than the limit' '' decode udp "$examples/bundle.osc" refused.bin --depth 0
 expect 1 'refused 10: the result has more records than the capacity' '' \
     decode udp "$examples/bundle.osc" refused.bin --depth 1 --records 6
 expect 0 'packets: 1, records: 7, bytes left: 0' '' decode udp "$examples/bundle.osc" kept.bin --records 7 --depth 1
