@@ -11,7 +11,7 @@ use Rattle.encoder.specs.declared.Encoded.{Encoded}
 use Rattle.encoder.specs.declared.Encoded.the-variants as encoded
 use Rattle.telling.specs.Forms.{line}
 
--- the words of document 01's "Refusal numbers", each at the place of its number; none has the number 0
+-- the words of document 01's "Refusal numbers", each at the place of its number (those of 9 are Ticket 4's); none has the number 0
 abbrev pub refusedForms : List String
 refusedForms =
     "\n" ∷ "refused %: decode input over 65,535 bytes, or encoded result (prefix included) over it\n" ∷ "refused %: a packet of no bytes\n"
