@@ -3,9 +3,9 @@ use mathlib.Core.Path.{_≡_, refl, sym, ap, _∙_}
 use mathlib.Core.Bool.{Bool, true, false, not, false≢true}
 use mathlib.Core.Logic.{⊎-elim}
 use mathlib.Core.List.{List}
-use Prim.Native.Nat.{ℕ, _+_, _-_, _*_, _≤_, _<_}
+use Prim.Native.Nat.{ℕ, _+_, _-_, _≤_, _<_}
 use native.Mathlib.Omega.{arith}
-use lib.Dec.{ltb}
+use lib.Dec.{eqb, ltb}
 use lib.ListN.{length, length-append}
 use borrow.Author.Tests.{le-leb, lt-leb, ltb-true, ltb-false, eq-eqb, ne-eqb, not-true, not-false}
 use borrow.Rule.Slice.PartMut.{midOf, putMid}
@@ -14,33 +14,30 @@ use Rattle.refusal.specs.declared.Refusal.the-variants.{TooLong, Unreadable, To
 use Rattle.refusal.specs.declared.Fault.the-variants.{NotUtf8}
 use Rattle.wire.specs.Number.{bytes}
 use Rattle.wire.specs.Wrote.{Wrote, Filled}
-use Rattle.wire.proofs.Choices.{lt-or-le}
+use Rattle.wire.proofs.Choices.{by-test, lt-or-le}
 use Rattle.wire.proofs.Numbers.{length-bytes}
 use Rattle.wire.proofs.Writers.{filled-lent}
 use Rattle.utf8.specs.Utf8.{Octets, Decides}
 use Rattle.utf8.proofs.Grammar.{octets, same-answer}
 use Rattle.node.specs.Forest.{Forest, nil, node, depth}
-use Rattle.node.specs.Records.{recordSize, kindAt, endAt, mostRecords, itemAt, capacity}
+use Rattle.node.specs.Records.{kindAt, endAt, itemAt, capacity}
 use Rattle.table.specs.Formed.{WellFormed}
 use Rattle.table.specs.Tree.{Spans, Obeys, IsTree, Row}
 use Rattle.table.proofs.Spanned.{spans-size, spans-unique}
-use Rattle.table.proofs.Grown.{tiles-le}
 use Rattle.table.proofs.Theorem.{formed-tree}
 use Rattle.strings.specs.Atomic.{oscString}
 use Rattle.writers.specs.Osc.{writeElement}
 use Rattle.encoder.specs.Outcome.{Outcome, refuse, bytesOutcome, unframed, prefixed, treeOutcome, stringOutcome}
 use Rattle.encoder.specs.Outcome.{Encodes, malformed, formed}
 use Rattle.writers.specs.CodeWriters.{packetAt, Ready, WritesPacket, longestElement}
-use Rattle.lengths.specs.CodeLengths.{sumTo, elementLength, LengthOrOver}
-use Rattle.survey.specs.CodeSurvey.{Surveyed}
-use Rattle.encoder.specs.CodePrepare.{Writable, Prepares}
+use Rattle.survey.specs.CodeSurvey.{ShallowTree, Surveys}
+use Rattle.encoder.specs.CodePrepare.{Unsure, AfterNo, Writable, Prepares}
 use Rattle.encoder.specs.CodePrepare as prepare
 use Rattle.encoder.specs.declared.Encoded.the-variants.{Written}
 use Rattle.encoder.specs.declared.Prepared.{Prepared}
 use Rattle.encoder.specs.declared.Prepared.the-variants.{Length, Refused}
 use Rattle.node.specs.Tags.{messageKind}
 use Rattle.wire.specs.Limits.{longest, longestFramed, deepest}
-use Rattle.lengths.proofs.Sums.{packet-sum}
 
 -- ---- the limit and the output's length
 
@@ -78,15 +75,15 @@ module _ (text out : List ℕ) {b : Bool} (d : Decides b (Octets text)) where
 
 module _ {source t : List ℕ} {n : ℕ} (z : Writable source t n) where
   -- an output of at least n bytes has room for the packet
-  pub ready : (m : ℕ) → n ≤ longest → n ≤ m → Ready source t 0 m
-  ready m l h =
+  pub ready : (m : ℕ) → n ≤ m → Ready source t 0 m
+  ready m h =
       record {
         room = record {
           forest = z .inside;
           spans = z .spans;
           holds = z .sound;
-          fits = omega (arith, z .exact l);
-          few = omega (arith, z .exact l);
+          fits = omega (arith, z .sized);
+          few = omega (arith, z .sized, z .short);
           table = z .table;
         };
         range = z .range;
@@ -94,27 +91,17 @@ module _ {source t : List ℕ} {n : ℕ} (z : Writable source t n) where
 
   -- whatever forest stands in the table, n is the length of its packet
   module _ (F : Forest) (s : Spans t 1 (endAt t 0) F) where
-    same : z .inside ≡ F
-    same = spans-unique t 1 (endAt t 0) (z .inside) F (z .spans) s
-
-    known : n ≤ longest → n ≡ length (packetAt source t 0 F)
-    known l = z .exact l ∙ ap (λ (G : Forest). length (packetAt source t 0 G)) same
-
-    long : longest < n → longest < length (packetAt source t 0 F)
-    long l = rw same at (z .over l)
-
-    -- a packet over the limit is refusal 1
-    pub packet-long : (out : List ℕ) → longest < n → refuse TooLong out ≡ bytesOutcome (packetAt source t 0 F) out
-    packet-long out h = bytes-long (packetAt source t 0 F) out (long h)
+    known : n ≡ length (packetAt source t 0 F)
+    known = z .sized ∙ ap (λ (G : Forest). length (packetAt source t 0 G)) (spans-unique t 1 (endAt t 0) (z .inside) F (z .spans) s)
 
     -- an output that is shorter than the packet is refusal 12
-    pub packet-short : (out : List ℕ) → n ≤ longest → length out < n → refuse OutputShort out ≡ bytesOutcome (packetAt source t 0 F) out
-    packet-short out l h = bytes-short (packetAt source t 0 F) out (omega (arith, known l)) (omega (arith, known l))
+    pub packet-short : (out : List ℕ) → length out < n → refuse OutputShort out ≡ bytesOutcome (packetAt source t 0 F) out
+    packet-short out h = bytes-short (packetAt source t 0 F) out (omega (arith, known, z .short)) (omega (arith, known))
 
     -- a packet that stands over the output is written
-    pub packet-written : (out : List ℕ) {o : List ℕ} {r : ℕ} → n ≤ longest → WritesPacket source t 0 out o r
+    pub packet-written : (out : List ℕ) {o : List ℕ} {r : ℕ} → WritesPacket source t 0 out o r
         → _≡_ {A = Outcome} (record { answer = Written r; out = o }) (bytesOutcome (packetAt source t 0 F) out)
-    packet-written out l f = bytes-written (packetAt source t 0 F) out (omega (arith, known l)) (f F s)
+    packet-written out f = bytes-written (packetAt source t 0 F) out (omega (arith, known, z .short)) (f F s)
 
     -- the same after a length
     element-length : length (writeElement (packetAt source t 0 F)) ≡ 4 + length (packetAt source t 0 F)
@@ -122,16 +109,13 @@ module _ {source t : List ℕ} {n : ℕ} (z : Writable source t n) where
 
     -- with its length before it a packet over the lower limit is refusal 1
     pub element-long : (out : List ℕ) → longestFramed < n → refuse TooLong out ≡ bytesOutcome (writeElement (packetAt source t 0 F)) out
-    element-long out h =
-        bytes-long (writeElement (packetAt source t 0 F)) out
-        (⊎-elim (λ l. omega (arith, long l, element-length)) (λ l. omega (arith, known l, element-length)) (lt-or-le longest n))
+    element-long out h = bytes-long (writeElement (packetAt source t 0 F)) out (omega (arith, known, element-length))
 
     -- an output that is shorter than both is refusal 12
     pub element-short : (out : List ℕ) → n ≤ longestFramed → length out < 4 + n
         → refuse OutputShort out ≡ bytesOutcome (writeElement (packetAt source t 0 F)) out
     element-short out l h =
-        let e = known (omega arith) in
-        bytes-short (writeElement (packetAt source t 0 F)) out (omega (arith, element-length)) (omega (arith, element-length))
+        bytes-short (writeElement (packetAt source t 0 F)) out (omega (arith, known, element-length)) (omega (arith, known, element-length))
 
     -- length and packet over the output are written
     pub element-written : (out : List ℕ) {o p : List ℕ} {r : ℕ} → n ≤ longestFramed → Wrote (bytes 4 n) out o
@@ -139,36 +123,42 @@ module _ {source t : List ℕ} {n : ℕ} (z : Writable source t n) where
         → _≡_ {A = Outcome} (record { answer = Written (4 + r); out = putMid 4 (length o - 4) o p })
         (bytesOutcome (writeElement (packetAt source t 0 F)) out)
     element-written out {o} {p} {r} l w f =
-        let e = known (omega arith) in
         let size : Filled (bytes 4 n) out o 4 = record { count = sym (length-bytes 4 n); wrote = w } in
-        bytes-written (writeElement (packetAt source t 0 F)) out (omega (arith, element-length)) (rw (← e) (filled-lent size (f F s)))
+        bytes-written (writeElement (packetAt source t 0 F)) out (omega (arith, known, element-length))
+        (rw (← known) (filled-lent size (f F s)))
 
 -- ---- before a byte is written
 
--- where the survey is sure, its length is the packet's
-module _ {t : List ℕ} {count : ℕ} {source : List ℕ} {n : ℕ} (w : Surveyed t count source n) where
-  -- it counts the four bytes of a size
-  pub survey-some : 4 ≤ n
-  survey-some = omega (arith, w .sized)
+module _ {t : List ℕ} {count : ℕ} {source : List ℕ} {n : ℕ} (w : Surveys t count source n) where
+  -- where the survey is not sure, no packet of the table is short enough
+  pub survey-no : longestElement < n → Unsure t count source
+  survey-no h inside x =
+      ⊎-elim (λ l. l) (λ l. absurd (omega (arith, w .exact .only inside x (omega arith)))) (lt-or-le longest (length (packetAt source t 0 inside)))
+
+  -- where it is sure, its length counts the four bytes of a size
+  pub survey-some : n ≤ longestElement → 4 ≤ n
+  survey-some h = omega (arith, w .exact .sure h .sized)
 
   -- so the table is ready, and the length without them is the packet's
   pub survey-ready : n ≤ longestElement → Prepares t count source (Length (n - 4))
   unfolding Spans Obeys
   survey-ready h =
-      prepare.ready (w .inside) (w .tree) (w .shallow) (n - 4) refl
+      let x = w .exact .sure h in
+      let tree = x .right .tree in
+      prepare.ready (x .forest) (x .right) (n - 4) refl
       (record {
-        inside = w .inside;
-        spans = w .tree .spans .1;
-        sound = record { container = kindAt t 0; obeys = w .tree .obeys .3 };
-        range = w .tree .obeys .1;
-        table = omega (arith, w .tree .fits, w .tree .spans .2);
-        exact = λ l. omega (arith, w .sized);
-        over = λ l. absurd (omega (arith, l));
+        inside = x .forest;
+        spans = tree .spans .1;
+        sound = record { container = kindAt t 0; obeys = tree .obeys .3 };
+        range = tree .obeys .1;
+        table = omega (arith, tree .fits, tree .spans .2);
+        sized = omega (arith, x .sized);
+        short = omega arith;
       })
 
 module _ (t : List ℕ) (count : ℕ) (source : List ℕ) {b : Bool} (d : Decides b (WellFormed t count source)) where
   -- a table that is not well formed is refusal 11
-  pub bad-table : not b ≡ true → Prepares t count source (Refused BadTable)
+  pub bad-table : not b ≡ true → AfterNo t count source BadTable
   bad-table e = prepare.malformed (λ w. false≢true (sym (not-true b e) ∙ d .complete w)) refl
 
   module _ (e : not b ≡ false) where
@@ -189,77 +179,79 @@ module _ (t : List ℕ) (count : ℕ) (source : List ℕ) {b : Bool} (d : Decide
     pub rooted : Row t 0 count
     rooted = record { forest = root; spans = tree .spans; table = well .fits }
 
-    -- its records can be summed
-    pub measurable : ((count ≤ mostRecords) × (recordSize * count ≤ length t)) ×
-        ((i : ℕ) → i < count → (i < endAt t i) × (endAt t i ≤ count))
-    measurable = ((well .few, well .fits), λ i h. (omega (arith, tiles-le (well .nodes i h .tiles)), well .nodes i h .within))
-
     module _ {x : Bool} (q : (F : Forest) → Spans t 0 count F → x ≡ ltb deepest (depth F)) where
       -- a tree that is too deep is refusal 9
-      pub too-deep : x ≡ true → Prepares t count source (Refused TooDeep)
+      pub too-deep : x ≡ true → AfterNo t count source TooDeep
       too-deep y = prepare.deep inside tree (ltb-true deepest (depth root) (sym (q root (tree .spans)) ∙ y)) refl
 
-      module _ {m : ℕ} (g : LengthOrOver m (sumTo (elementLength t) count)) where
-        total : sumTo (elementLength t) count ≡ 4 + length (packetAt source t 0 inside)
-        total = packet-sum source t count (itemAt t 0) inside (tree .spans) (tree .obeys)
-
-        -- the sum counts the four bytes of a size
-        pub some-length : 4 ≤ m
-        some-length = ⊎-elim (λ l. omega arith) (λ l. omega (arith, g .exact l, total)) (lt-or-le longestElement m)
-
-        sized : Writable source t (m - 4)
-        unfolding Spans Obeys
-        sized =
-            record {
-              inside = inside;
-              spans = tree .spans .1;
-              sound = record { container = kindAt t 0; obeys = tree .obeys .3 };
-              range = tree .obeys .1;
-              table = omega (arith, well .fits, well .whole);
-              exact = λ l. omega (arith, g .exact (omega arith), total);
-              over = λ l. omega (arith, g .over (omega arith), total);
-            }
-
-        -- without them it is the length of the packet
-        pub measured : x ≡ false → Prepares t count source (Length (m - 4))
-        measured y = prepare.ready inside tree (ltb-false deepest (depth root) (sym (q root (tree .spans)) ∙ y)) (m - 4) refl sized
+      -- any other, where the survey is not sure, is refusal 1
+      pub too-long : x ≡ false → Unsure t count source → AfterNo t count source TooLong
+      too-long y n =
+          let s : ShallowTree t count source inside
+          = record { tree = tree; shallow = ltb-false deepest (depth root) (sym (q root (tree .spans)) ∙ y) } in
+          prepare.long inside s (n inside s) refl
 
 -- ---- the calls
 
-module _ (frame : ℕ → List ℕ → List ℕ) (t : List ℕ) (count : ℕ) (source out : List ℕ) where
+-- a frame takes nothing from a packet
+abbrev pub Keeps : (ℕ → List ℕ → List ℕ) → Type 0
+Keeps frame = (kind : ℕ) (bs : List ℕ) → length bs ≤ length (frame kind bs)
+
+-- that of `encode` does not
+pub unframed-keeps : Keeps unframed
+unframed-keeps kind bs = omega arith
+
+-- nor does that of `encode_tcp`
+pub prefixed-keeps : Keeps prefixed
+prefixed-keeps kind bs =
+    by-test (λ (xs : List ℕ). length bs ≤ length xs) (eqb kind messageKind) (λ _. simp length-append (omega arith)) (λ _. omega arith)
+
+module _ (frame : ℕ → List ℕ → List ℕ) (k : Keeps frame) (t : List ℕ) (count : ℕ) (source out : List ℕ) where
+  -- a packet over the limit is refusal 1, whatever stands before it
+  pub outcome-long : (inside : Forest) → ShallowTree t count source inside → longest < length (packetAt source t 0 inside)
+      → refuse TooLong out ≡ treeOutcome frame source out (itemAt t 0) inside
+  unfolding treeOutcome
+  outcome-long inside w h =
+      let bs = packetAt source t 0 inside in
+      rw (le-leb (depth (node (itemAt t 0) inside nil)) deepest (w .shallow))
+      (bytes-long (frame (kindAt t 0) bs) out (omega (arith, k (kindAt t 0) bs)))
+
+  -- a tree that is too deep is refusal 9
+  pub outcome-deep : (inside : Forest) → deepest < depth (node (itemAt t 0) inside nil)
+      → refuse TooDeep out ≡ treeOutcome frame source out (itemAt t 0) inside
+  unfolding treeOutcome
+  outcome-deep inside h = rw (lt-leb (depth (node (itemAt t 0) inside nil)) deepest h)
+
   -- what is refused before a byte is written is refused
   pub refused : {r : Prepared} {x : Refusal} → Prepares t count source r → r ≡ Refused x → Encodes frame t count source out (refuse x out)
-  unfolding treeOutcome
-  refused {r} {x} (prepare.malformed n e) q = let y : x ≡ BadTable = cc in malformed n (rw y)
-  refused {r} {x} (prepare.deep inside tree h e) q =
-      let y : x ≡ TooDeep = cc in
-      formed (itemAt t 0) inside tree (rw (y, lt-leb (depth (node (itemAt t 0) inside nil)) deepest h))
-  refused {r} {x} (prepare.ready inside tree h n e z) q = let y : _≡_ {A = ℕ} 0 1 = cc in absurd (omega arith)
+  refused {r} {x} (prepare.no y (prepare.malformed n e) q) p = let z : x ≡ BadTable = cc in malformed n (rw z)
+  refused {r} {x} (prepare.no y (prepare.deep inside tree h e) q) p =
+      let z : x ≡ TooDeep = cc in formed (itemAt t 0) inside tree (rw z (outcome-deep inside h))
+  refused {r} {x} (prepare.no y (prepare.long inside w h e) q) p =
+      let z : x ≡ TooLong = cc in formed (itemAt t 0) inside (w .tree) (rw z (outcome-long inside w h))
+  refused {r} {x} (prepare.ready inside w n e z) p = let y : _≡_ {A = ℕ} 0 1 = cc in absurd (omega arith)
 
 -- a packet that is to be written
 pub record Planned (t : List ℕ) (count : ℕ) (source : List ℕ) (n : ℕ) : Type 0 where
   pub inside : Forest
-  pub tree : IsTree t count source (itemAt t 0) inside
-  pub shallow : depth (node (itemAt t 0) inside nil) ≤ deepest
+  pub fine : ShallowTree t count source inside
   pub sized : Writable source t n
 
 -- where a length is known, the packet is to be written
 pub planned : (t : List ℕ) (count : ℕ) (source : List ℕ) {r : Prepared} {n : ℕ} → Prepares t count source r → r ≡ Length n
     → Planned t count source n
-planned t count source {r} {n} (prepare.malformed m e) q = let y : _≡_ {A = ℕ} 0 1 = cc in absurd (omega arith)
-planned t count source {r} {n} (prepare.deep inside tree h e) q = let y : _≡_ {A = ℕ} 0 1 = cc in absurd (omega arith)
-planned t count source {r} {n} (prepare.ready inside tree h m e z) q =
-    let y : m ≡ n = cc in record { inside = inside; tree = tree; shallow = h; sized = rw y at z }
+planned t count source {r} {n} (prepare.no x a e) q = let y : _≡_ {A = ℕ} 0 1 = cc in absurd (omega arith)
+planned t count source {r} {n} (prepare.ready inside w m e z) q = let y : m ≡ n = cc in record { inside = inside; fine = w; sized = rw y at z }
 
 module _ {t : List ℕ} {count : ℕ} {source : List ℕ} {n : ℕ} (out : List ℕ) (w : Planned t count source n) where
   inside-spans : Spans t 1 (endAt t 0) (w .inside)
   unfolding Spans
-  inside-spans = w .tree .spans .1
+  inside-spans = w .fine .tree .spans .1
 
   framed : (frame : ℕ → List ℕ → List ℕ) {x : Outcome} → x ≡ bytesOutcome (frame (kindAt t 0) (packetAt source t 0 (w .inside))) out
       → Encodes frame t count source out x
   unfolding treeOutcome
-  framed frame e = formed (itemAt t 0) (w .inside) (w .tree) (rw (le-leb _ deepest (w .shallow)) e)
+  framed frame e = formed (itemAt t 0) (w .inside) (w .fine .tree) (rw (le-leb _ deepest (w .fine .shallow)) e)
 
   -- `encode` writes the packet as it is
   pub encoded-unframed : {x : Outcome} → ((F : Forest) → Spans t 1 (endAt t 0) F → x ≡ bytesOutcome (packetAt source t 0 F) out)

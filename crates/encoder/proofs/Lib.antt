@@ -1,4 +1,5 @@
 pub mod Answers
+pub mod NoLeads
 pub mod Fours
 pub mod Examples
 pub mod Only

@@ -1,5 +1,4 @@
 // Packets back to bytes (encoder.rs).
-use lengths::packet_length;
 use node::record::kind_at;
 use node::tags::MESSAGE;
 use refusal::Fault;
@@ -17,7 +16,7 @@ use writers::LONGEST_ELEMENT;
 use writers::encode_packet;
 ghost use Rattle.writers.specs.Osc.{writeElement};
 ghost use Rattle.encoder.specs.Outcome.{unframed, prefixed, Encodes, EncodesString};
-ghost use Rattle.encoder.specs.CodePrepare.{Writable, Writes, Prepares};
+ghost use Rattle.encoder.specs.CodePrepare.{Unsure, AfterNo, Writable, Writes, Prepares};
 
 // The longest text that is not too long with its 1 to 4 NULs.
 const LONGEST_TEXT: usize = LONGEST - 4;
@@ -31,12 +30,26 @@ pub enum Encoded {
 
 // What is known of a packet before a byte of it is written.
 enum Prepared {
-    // Its length, or a number over 65,535 where that is over it.
+    // Its length, which is at most 65,535.
     Length(usize),
     Refused(Refusal),
 }
 
-// Checks a table and measures its packet: 11, then 9. Where the survey is sure, there is nothing left to check.
+// Which refusal it is where the survey is not sure: 11, then 9, and otherwise the packet is too long.
+fn after_no(table: &[u8], count: usize, source: &[u8]) -> Refusal
+    requires { ⌜ Unsure (now table) count (now source) ⌝ }
+    ensures { λ r. ⌜ AfterNo (now (table .entry)) count (now (source .entry)) r ⌝ }
+{
+    if !is_well_formed(table, count, source) {
+        return Refusal::BadTable;
+    }
+    if deeper_than(table, count, DEEPEST) {
+        return Refusal::TooDeep;
+    }
+    Refusal::TooLong
+}
+
+// Checks a table and measures its packet. Where the survey is sure, there is nothing left to check.
 fn prepare(table: &[u8], count: usize, source: &[u8]) -> Prepared
     ensures { λ r. ⌜ Prepares (now (table .entry)) count (now (source .entry)) r ⌝ }
 {
@@ -44,25 +57,15 @@ fn prepare(table: &[u8], count: usize, source: &[u8]) -> Prepared
     if surveyed <= LONGEST_ELEMENT {
         return Prepared::Length(surveyed - 4);
     }
-    if !is_well_formed(table, count, source) {
-        return Prepared::Refused(Refusal::BadTable);
-    }
-    if deeper_than(table, count, DEEPEST) {
-        return Prepared::Refused(Refusal::TooDeep);
-    }
-    let length = packet_length(table, count) - 4;
-    Prepared::Length(length)
+    Prepared::Refused(after_no(table, count, source))
 }
 
-// Writes the packet of a table, which is n bytes long: 1, then 12.
+// Writes the packet of a table, which is n bytes long: 12 where the output is shorter.
 fn encode_into(table: &[u8], source: &[u8], n: usize, out: &mut [u8]) -> Encoded
     requires { ⌜ Writable (now source) (now table) n ⌝ }
     ensures { λ r. ⌜ Writes (λ bs. bs) (now (source .entry)) (now (table .entry)) (now (out .entry))
         (record { answer = r; out = now (out .exit) }) ⌝ }
 {
-    if LONGEST < n {
-        return Encoded::Refused(Refusal::TooLong);
-    }
     if out.len() < n {
         return Encoded::Refused(Refusal::OutputShort);
     }

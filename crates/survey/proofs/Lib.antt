@@ -1,1 +1,6 @@
-pub mod Surveyed
+pub mod Leaf
+pub mod Exact
+pub mod Rows
+pub mod Arguments
+pub mod Packets
+pub mod Only

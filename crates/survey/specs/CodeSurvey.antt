@@ -1,29 +1,39 @@
--- Describes code, and no part of the document: what one reading of a table finds, where it is sure. The words are those of
--- Formed.antt and Tree.antt of `table`, and of Osc.antt of `writers`.
+-- Describes code, and no part of the document: what one reading of a table finds. The words are those of Formed.antt and Tree.antt of
+-- `table`, and of Osc.antt of `writers`.
 use mathlib.Core.Path.{_≡_}
 use mathlib.Core.Bool.{Bool, true, false, cond}
 use mathlib.Core.List.{List}
-use Prim.Native.Nat.{ℕ, _+_, _≤_, _<_}
+use Prim.Native.Nat.{ℕ, _+_, _*_, _≤_, _<_}
 use lib.Dec.{eqb, leb, ltb}
 use lib.ListN.{length}
-use Rattle.node.specs.Forest.{Forest, nil, node, level, depth}
-use Rattle.node.specs.Tags.{sortOf, messageKind, bundleKind}
-use Rattle.node.specs.Records.{kindAt, zerosAt, endAt, aAt, bAt, itemAt}
-use Rattle.node.specs.Rules.{leafRules, ownRules}
+use Rattle.node.specs.Forest.{Forest, nil, node, depth}
+use Rattle.node.specs.Tags.{messageKind, bundleKind}
+use Rattle.node.specs.Records.{recordSize, mostRecords, zerosAt, endAt, itemAt}
+use Rattle.node.specs.Rules.{leafRules}
 use Rattle.node.specs.declared.tags.Class.{Class}
 use Rattle.node.specs.declared.tags.Class.the-variants.{Four, Eight, Bare, Text, Blob, Scalar, Unknown}
-use Rattle.wire.specs.Part.{inside}
-use Rattle.table.specs.Formed.{textOk, rangeOk, allowed}
-use Rattle.table.specs.Tree.{Spans, Obeys, IsTree}
-use Rattle.writers.specs.Osc.{writeTags, writeData, writeMessage, writeElements}
-use Rattle.writers.specs.CodeWriters.{packetAt}
 use Rattle.wire.specs.Limits.{deepest}
+use Rattle.wire.specs.Part.{inside}
+use Rattle.table.specs.Formed.{textOk}
+use Rattle.table.specs.Tree.{Spans, Obeys, IsTree}
+use Rattle.strings.specs.CodeStrings.{stringLength, blobLength}
+use Rattle.writers.specs.Osc.{writeTags, writeData, writeElements}
+use Rattle.writers.specs.CodeWriters.{packetAt, longestElement}
 use Rattle.node.specs.declared.record.Item.{Item}
-use Rattle.lengths.specs.CodeLengths.{tagLength, dataLength}
+use Rattle.survey.specs.declared.Tally.{Tally}
+
+-- ---- a record by itself
 
 -- record `at` has its three zeros, and ends after itself and no later than hi ("The node table")
 abbrev pub placed : List ℕ → ℕ → ℕ → Bool
 placed t at hi = cond (eqb (zerosAt t at) 0) (cond (ltb at (endAt t at)) (leb (endAt t at) hi) false) false
+
+-- record `at` is placed, and it and what it contains are records of a table that may be encoded
+pub record InTable (t : List ℕ) (at : ℕ) : Type 0 where
+  pub zeros : zerosAt t at ≡ 0
+  pub on : at < endAt t at
+  pub low : endAt t at ≤ mostRecords
+  pub table : recordSize * endAt t at ≤ length t
 
 -- the range of an argument that is no array is right ("The node table"); a class without a range passes
 abbrev pub leafRange : List ℕ → Class → Item → Bool
@@ -39,57 +49,62 @@ leafRange source Unknown item = true
 abbrev pub leafOk : List ℕ → Class → Item → Bool
 leafOk source class item = cond (leafRules class item) (leafRange source class item) false
 
--- the records lo to hi - 1 are a forest that obeys the rules of a container, and have their zeros ("The node table")
-pub record SurveyedRow (t source : List ℕ) (container lo hi : ℕ) (F : Forest) : Type 0 where
+-- how many bytes the data of an argument takes whose second number is b ("How bytes are written")
+abbrev pub argumentLength : Class → ℕ → ℕ
+argumentLength Four b = 4
+argumentLength Eight b = 8
+argumentLength Bare b = 0
+argumentLength Text b = stringLength b
+argumentLength Blob b = blobLength b
+argumentLength Scalar b = 4
+argumentLength Unknown b = 0
+
+-- what is answered in the place of a length where the reading is not sure
+abbrev pub unsure : ℕ
+unsure = longestElement + 1
+
+-- what is answered of an argument that is no array
+abbrev pub leafContent : List ℕ → Class → Item → ℕ
+leafContent source class item = cond (leafOk source class item) (argumentLength class (item .b)) unsure
+
+-- ---- rows of records, and the table
+
+-- the records lo to hi - 1 are a forest that obeys the rules of a container and is no deeper than `levels`, and have their zeros: what a
+-- reading of them has to find ("The node table", and refusal 9 as Ticket 4 has it)
+pub record SurveyedRow (t source : List ℕ) (container lo hi levels : ℕ) (F : Forest) : Type 0 where
   pub spans : Spans t lo hi F
   pub obeys : Obeys source container F
   pub zeros : (i : ℕ) → lo ≤ i → i < hi → zerosAt t i ≡ 0
+  pub shallow : depth F ≤ levels
 
--- record `at` and what it contains may stand in a container: what `Obeys` says of a forest's first node
-pub record SurveyedNode (t source : List ℕ) (container at : ℕ) (inside : Forest) : Type 0 where
-  pub rules : ownRules (itemAt t at) ≡ true
-  pub range : rangeOk source (itemAt t at) ≡ true
-  pub may : allowed container (kindAt t at) ≡ true
-  pub found : SurveyedRow t source (kindAt t at) (at + 1) (endAt t at) inside
-
--- record `at` is an argument, with so many tags and so many bytes of data in it ("How bytes are written": arrays have brackets)
-pub record SurveyedArgument (t source : List ℕ) (at tags content : ℕ) : Type 0 where
-  pub inside : Forest
-  pub stands : SurveyedNode t source messageKind at inside
-  pub tagged : tagLength (sortOf (kindAt t at)) + length (writeTags inside) ≡ tags
-  pub sized : dataLength (sortOf (kindAt t at)) (bAt t at) + length (writeData source inside) ≡ content
-
--- the records lo to hi - 1 are arguments, with so many tags and so many bytes of data
-pub record SurveyedArguments (t source : List ℕ) (lo hi tags content : ℕ) : Type 0 where
+-- there is a right forest, and this is its length
+pub record Sized (Right : Forest → Type 0) (lengthOf : Forest → ℕ) (n : ℕ) : Type 0 where
   pub forest : Forest
-  pub found : SurveyedRow t source messageKind lo hi forest
-  pub tagged : length (writeTags forest) ≡ tags
-  pub sized : length (writeData source forest) ≡ content
+  pub right : Right forest
+  pub sized : lengthOf forest ≡ n
 
--- record `at` is a message's, which is n bytes long as it is written
-pub record SurveyedMessage (t source : List ℕ) (at n : ℕ) : Type 0 where
-  pub forest : Forest
-  pub found : SurveyedRow t source messageKind (at + 1) (endAt t at) forest
-  pub range : textOk source (aAt t at) (bAt t at) ≡ true
-  pub sized : length (writeMessage source (itemAt t at) forest) ≡ n
+-- a reading that is sure, and answers at most 65,539, exactly where there is a right forest that is no longer; then it answers its length
+pub record Exactly (Right : Forest → Type 0) (lengthOf : Forest → ℕ) (r : ℕ) : Type 0 where
+  pub sure : r ≤ longestElement → Sized Right lengthOf r
+  pub only : (F : Forest) → Right F → lengthOf F ≤ longestElement → r ≤ longestElement
 
--- record `at` is a packet, whose bundles are nested no deeper than `levels`, and n bytes long as an element, its size counted
-pub record SurveyedPacket (t source : List ℕ) (at levels n : ℕ) : Type 0 where
-  pub inside : Forest
-  pub stands : SurveyedNode t source bundleKind at inside
-  pub shallow : level (kindAt t at) (depth inside) ≤ levels
-  pub sized : 4 + length (packetAt source t at inside) ≡ n
+-- a reading of the records lo to hi - 1 as arguments: their bytes of data exactly, and where it is sure of these, their tags
+pub record SurveysArguments (t source : List ℕ) (lo hi levels : ℕ) (r : Tally) : Type 0 where
+  pub exact : Exactly (SurveyedRow t source messageKind lo hi levels) (λ F. length (writeData source F)) (r .content)
+  pub tagged : r .content ≤ longestElement → (F : Forest) → Spans t lo hi F → length (writeTags F) ≡ r .tags
 
--- the records lo to hi - 1 are packets, whose bundles are nested no deeper than `levels`, and n bytes long as elements
-pub record SurveyedPackets (t source : List ℕ) (lo hi levels n : ℕ) : Type 0 where
-  pub forest : Forest
-  pub found : SurveyedRow t source bundleKind lo hi forest
-  pub shallow : depth forest ≤ levels
-  pub sized : length (writeElements source forest) ≡ n
+-- a reading of the records lo to hi - 1 as elements of a bundle: their bytes exactly
+abbrev pub SurveysPackets : List ℕ → List ℕ → ℕ → ℕ → ℕ → ℕ → Type 0
+SurveysPackets t source lo hi levels r =
+    Exactly (SurveyedRow t source bundleKind lo hi levels) (λ F. length (writeElements source F)) r
 
--- the table has a tree, which is not too deep (refusal 9), and n bytes long as an element, its size counted
-pub record Surveyed (t : List ℕ) (count : ℕ) (source : List ℕ) (n : ℕ) : Type 0 where
-  pub inside : Forest
+-- the table is well formed (refusal 11), with this content of its first record, and at most 64 deep (refusal 9)
+pub record ShallowTree (t : List ℕ) (count : ℕ) (source : List ℕ) (inside : Forest) : Type 0 where
   pub tree : IsTree t count source (itemAt t 0) inside
   pub shallow : depth (node (itemAt t 0) inside nil) ≤ deepest
-  pub sized : 4 + length (packetAt source t 0 inside) ≡ n
+
+-- the contract of `survey`: it is sure exactly if the table is well formed, at most 64 deep and its packet at most 65,535 bytes, and then
+-- answers the packet's length as an element, its size counted; of any other table it answers `unsure` (Ticket 4)
+pub record Surveys (t : List ℕ) (count : ℕ) (source : List ℕ) (r : ℕ) : Type 0 where
+  pub exact : Exactly (ShallowTree t count source) (λ inside. 4 + length (packetAt source t 0 inside)) r
+  pub most : r ≤ unsure

@@ -1,5 +1,7 @@
-// One reading of a table for its check, its depth and its length. Of the tables that packets have it is sure; of others, such as one
-// with arrays nested deep, it answers that it is not, and the full check decides. So its contracts promise only for where it is sure.
+// One reading of a table for its check, its depth and its length. It is sure exactly of the tables whose packets can be written; of any
+// other it answers that it is not, and the encoder finds out which refusal that is.
+mod lengths; // lengths.rt: how long the data of an argument will be
+
 use lengths::argument_length;
 use lengths::string_length;
 use node::record::END;
@@ -23,23 +25,21 @@ use wire::lies_in;
 use writers::BUNDLE_HEAD;
 use writers::LONGEST_ELEMENT;
 ghost use mathlib.Core.Path.{_≡_};
-ghost use mathlib.Core.Bool.{true};
 ghost use Prim.Native.Nat.{_+_, _-_, _*_, _^_, _≤_, _<_};
 ghost use lib.ListN.{length};
-ghost use Rattle.node.specs.Records.{recordSize, mostRecords, endAt, capacity};
-ghost use Rattle.writers.specs.CodeWriters.{longestElement};
-ghost use Rattle.lengths.specs.CodeLengths.{InTable, argumentLength};
-ghost use Rattle.survey.specs.CodeSurvey.{placed, leafOk, leafRange, SurveyedArgument, SurveyedArguments, SurveyedMessage};
-ghost use Rattle.survey.specs.CodeSurvey.{SurveyedPacket, SurveyedPackets, Surveyed};
+ghost use Rattle.node.specs.Tags.{messageKind};
+ghost use Rattle.node.specs.Records.{recordSize, mostRecords, kindAt, endAt, capacity};
+ghost use Rattle.survey.specs.CodeSurvey.{placed, InTable, leafOk, leafRange, leafContent, unsure};
+ghost use Rattle.survey.specs.CodeSurvey.{SurveysArguments, SurveysPackets, Surveys};
 
 // What is answered in the place of a length where the reading is not sure.
 const UNSURE: usize = LONGEST_ELEMENT + 1;
 
-// The bytes of a bundle as an element before its elements: its size, its mark and its time tag.
-const BUNDLE_AS_ELEMENT: usize = 4 + BUNDLE_HEAD;
+// The bytes of a message as an element before its address: its size.
+const SIZE: usize = 4;
 
-// How deep arrays may be nested where it is sure: each level takes some of the stack.
-const ARRAY_LEVELS: usize = 16;
+// The bytes of a bundle as an element before its elements: its size, its mark and its time tag.
+const BUNDLE_AS_ELEMENT: usize = SIZE + BUNDLE_HEAD;
 
 // The tags and the bytes of data of arguments; UNSURE bytes where the reading is not sure.
 struct Tally {
@@ -89,8 +89,7 @@ fn leaf_ok(class: Class, item: Item, source: &[u8]) -> bool
 
 // The bytes of data of an argument that is no array, or UNSURE.
 fn leaf_content(class: Class, item: Item, source: &[u8]) -> usize
-    ensures { λ r. ⌜ (r ≤ longestElement → (leafOk (now (source .entry)) class item ≡ true) × (r ≡ argumentLength class (item .b)))
-        × (r ≤ 2 ^ 33) ⌝ }
+    ensures { λ r. ⌜ (r ≡ leafContent (now (source .entry)) class item) × (r ≤ 2 ^ 33) ⌝ }
 {
     if !leaf_ok(class, item, source) {
         return UNSURE;
@@ -98,11 +97,10 @@ fn leaf_content(class: Class, item: Item, source: &[u8]) -> usize
     argument_length(class, item.b)
 }
 
-// The tags and the data of one argument and what it contains; arrays in it are nested no deeper than `levels`.
+// The tags and the data of one argument and what it contains, no deeper than `levels`: an array takes one of them.
 fn survey_argument(table: &[u8], at: usize, source: &[u8], levels: usize) -> Tally
     requires { ⌜ InTable (now table) at ⌝ }
-    ensures { λ r. ⌜ (r .content ≤ longestElement
-        → SurveyedArgument (now (table .entry)) (now (source .entry)) at (r .tags) (r .content)) ⌝ }
+    ensures { λ r. ⌜ SurveysArguments (now (table .entry)) (now (source .entry)) at (endAt (now (table .entry)) at) levels r ⌝ }
     ensures { λ r. ⌜ (r .tags ≤ 2 * (endAt (now (table .entry)) at - at)) × (r .content ≤ 2 ^ 33) ⌝ }
 {
     let unsure = Tally {
@@ -138,12 +136,11 @@ fn survey_argument(table: &[u8], at: usize, source: &[u8], levels: usize) -> Tal
     }
 }
 
-// The tags and the data of the arguments from record `lo` to record `hi`, in which arrays are nested no deeper than `levels`.
+// The tags and the data of the arguments from record `lo` to record `hi`, no deeper than `levels`.
 fn survey_arguments(table: &[u8], lo: usize, hi: usize, source: &[u8], levels: usize) -> Tally
     requires { ⌜ (lo ≤ hi) × (hi ≤ mostRecords) × (recordSize * hi ≤ length (now table)) ⌝ }
-    ensures { λ r. ⌜ (r .content ≤ longestElement
-        → SurveyedArguments (now (table .entry)) (now (source .entry)) lo hi (r .tags) (r .content)) ⌝ }
-    ensures { λ r. ⌜ (r .tags ≤ 2 * (hi - lo)) × (r .content ≤ longestElement + 1) ⌝ }
+    ensures { λ r. ⌜ SurveysArguments (now (table .entry)) (now (source .entry)) lo hi levels r ⌝ }
+    ensures { λ r. ⌜ (r .tags ≤ 2 * (hi - lo)) × (r .content ≤ unsure) ⌝ }
 {
     let unsure = Tally {
         tags: 0,
@@ -170,27 +167,29 @@ fn survey_arguments(table: &[u8], lo: usize, hi: usize, source: &[u8], levels: u
     }
 }
 
-// The length of the message at a record.
-fn survey_message(table: &[u8], at: usize, source: &[u8]) -> usize
-    requires { ⌜ InTable (now table) at ⌝ }
-    ensures { λ r. ⌜ (r ≤ longestElement → SurveyedMessage (now (table .entry)) (now (source .entry)) at r) × (r ≤ 2 ^ 33) ⌝ }
+// The length of the message at a record as an element, its size counted. A message takes no level, and hands `levels` on to its arguments.
+fn survey_message(table: &[u8], at: usize, source: &[u8], levels: usize) -> usize
+    requires { ⌜ (kindAt (now table) at ≡ messageKind) × InTable (now table) at ⌝ }
+    ensures { λ r. ⌜ SurveysPackets (now (table .entry)) (now (source .entry)) at (endAt (now (table .entry)) at) levels r
+        × (r ≤ 2 ^ 34) ⌝ }
 {
     let item = item_at(table, at);
     if !text_ok(source, item.a, item.b) {
         return UNSURE;
     }
     let end = field_at(table, at, END) as usize;
-    let inner = survey_arguments(table, at + 1, end, source, ARRAY_LEVELS);
-    string_length(item.b as usize) + string_length(1 + inner.tags) + inner.content
+    let inner = survey_arguments(table, at + 1, end, source, levels);
+    SIZE + string_length(item.b as usize) + string_length(1 + inner.tags) + inner.content
 }
 
-// The length of one packet as an element, its size counted; bundles in it are nested no deeper than `levels`.
+// The length of one packet as an element, its size counted, and no deeper than `levels`: a bundle takes one of them.
 fn survey_packet(table: &[u8], at: usize, source: &[u8], levels: usize) -> usize
     requires { ⌜ InTable (now table) at ⌝ }
-    ensures { λ r. ⌜ (r ≤ longestElement → SurveyedPacket (now (table .entry)) (now (source .entry)) at levels r) × (r ≤ 2 ^ 34) ⌝ }
+    ensures { λ r. ⌜ SurveysPackets (now (table .entry)) (now (source .entry)) at (endAt (now (table .entry)) at) levels r
+        × (r ≤ 2 ^ 34) ⌝ }
 {
     match kind_at(table, at) {
-        MESSAGE => 4 + survey_message(table, at, source),
+        MESSAGE => survey_message(table, at, source, levels),
         BUNDLE => {
             if levels == 0 {
                 return UNSURE;
@@ -202,11 +201,10 @@ fn survey_packet(table: &[u8], at: usize, source: &[u8], levels: usize) -> usize
     }
 }
 
-// The length of the packets from record `lo` to record `hi` as elements of a bundle, in which bundles are nested no deeper than `levels`.
+// The length of the packets from record `lo` to record `hi` as elements of a bundle, no deeper than `levels`.
 fn survey_packets(table: &[u8], lo: usize, hi: usize, source: &[u8], levels: usize) -> usize
     requires { ⌜ (lo ≤ hi) × (hi ≤ mostRecords) × (recordSize * hi ≤ length (now table)) ⌝ }
-    ensures { λ r. ⌜ (r ≤ longestElement → SurveyedPackets (now (table .entry)) (now (source .entry)) lo hi levels r)
-        × (r ≤ longestElement + 1) ⌝ }
+    ensures { λ r. ⌜ SurveysPackets (now (table .entry)) (now (source .entry)) lo hi levels r × (r ≤ unsure) ⌝ }
 {
     let mut total: usize = 0;
     let mut at = lo;
@@ -223,11 +221,11 @@ fn survey_packets(table: &[u8], lo: usize, hi: usize, source: &[u8], levels: usi
     total
 }
 
-// The length of the packet of a table as an element, its size counted, or UNSURE.
+// The length of the packet of a table as an element, its size counted, or UNSURE where no such packet can be written.
 //
-// Ruled out: a length for a table whose first record ends before its last; a length that leaves out the comma before the type tags.
+// Ruled out: a length for a table whose first record ends before its last; UNSURE for a table that has a packet of 65,535 bytes.
 pub fn survey(table: &[u8], count: usize, source: &[u8]) -> usize
-    ensures { λ r. ⌜ (r ≤ longestElement → Surveyed (now (table .entry)) count (now (source .entry)) r) ⌝ }
+    ensures { λ r. ⌜ Surveys (now (table .entry)) count (now (source .entry)) r ⌝ }
 {
     if count == 0 {
         return UNSURE;

@@ -31,8 +31,8 @@ use Rattle.encoder.specs.Outcome.{formed, unframed, prefixed, treeOutcome, byte
 use Rattle.demands.specs.Words.{NoNul}
 use Rattle.demands.specs.Demands.{tableAfter}
 use Rattle.demands.specs.Osc10.{end, atom, word, long, string, blob, char, Packet, message, bundle, none, also, ArgumentsAllowed}
-use Rattle.demands.specs.Osc10.{Allowed, AllAllowed, deep, tagsOf, as-word, as-long, as-string, as-blob, as-char, no-argument}
-use Rattle.demands.specs.Osc10.{one-atom, Spells, as-message, as-bundle, no-element, element}
+use Rattle.demands.specs.Osc10.{Allowed, AllAllowed, argumentsDeep, deep, tagsOf, as-word, as-long, as-string, as-blob, as-char}
+use Rattle.demands.specs.Osc10.{no-argument, one-atom, Spells, as-message, as-bundle, no-element, element}
 use Rattle.demands.specs.Strict.{ArgumentsStrict, StrictIn, Strict, StrictNode, StrictForest}
 use Rattle.demands.specs.Seen.{argument, argumentEntries, entriesOf, Seen, as-i, LookAs}
 use Rattle.demands.specs.Standards.{oscFrame, AcceptedAs, SeenIn, SpelledStrictly, FrameOf}
@@ -67,7 +67,7 @@ p3-spelled =
 
 -- P3 is accepted
 pub p3-accepted : AcceptedAs udp p3 p3-bytes
-unfolding deep
+unfolding deep argumentsDeep
 p3-accepted = osc10-accepted p3 p3-bytes p3-allowed p3-spelled (omega arith) (omega arith)
 
 -- a bundle, to be played at once, that holds P3
@@ -89,7 +89,7 @@ held-spelled =
 
 -- so is the bundle that holds it
 pub held-accepted : AcceptedAs udp held held-bytes
-unfolding deep
+unfolding deep argumentsDeep
 held-accepted = osc10-accepted held held-bytes held-allowed held-spelled (omega arith) (omega arith)
 
 -- ---- a message of OSC 1.0 itself
@@ -135,12 +135,12 @@ mixed-spelled =
 
 -- its frame is accepted by `decode_tcp`
 pub mixed-accepted : AcceptedAs tcp mixed (oscFrame mixed-bytes)
-unfolding deep bytes
+unfolding deep argumentsDeep bytes
 mixed-accepted = frame-accepted mixed mixed-bytes (strict-allowed mixed mixed-strict) mixed-spelled (omega arith) (omega arith)
 
 -- a table of six records shows it
 pub mixed-seen : SeenIn udp mixed mixed-bytes (replicate 120 0)
-unfolding deep entriesOf argumentEntries
+unfolding deep argumentsDeep entriesOf argumentEntries
 mixed-seen =
     osc10-seen mixed mixed-bytes (strict-allowed mixed mixed-strict) mixed-spelled (omega arith) (omega arith) (replicate 120 0)
     (omega arith)

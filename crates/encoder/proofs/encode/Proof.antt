@@ -1,6 +1,6 @@
 -- `encoder::encode` meets its contract.
 use Rattle.encoder.specs.Outcome.{unframed}
-use Rattle.encoder.proofs.Answers.{refused, planned, encoded-unframed}
+use Rattle.encoder.proofs.Answers.{unframed-keeps, refused, planned, encoded-unframed}
 use borrow.Author.Needs.{needs}
 use Rattle.encoder.proofs.encode.Statement.{statement}
 use Rattle.encoder.proofs.encode.Tie as tie
@@ -16,7 +16,7 @@ returns : tie.Need-returns
 returns c =
     let p3 = c .before .before .before in
     let p7 = p3 .before .before .before .before in
-    refused unframed (p7 .args .table .now) (p7 .args .count) (p7 .args .source .now) (p7 .args .out .now) (p3 .prepare .ensures)
+    refused unframed unframed-keeps (p7 .args .table .now) (p7 .args .count) (p7 .args .source .now) (p7 .args .out .now) (p3 .prepare .ensures)
     (c .before .refusal .given .1)
 
 returns-2 : tie.Need-returns-2

@@ -25,7 +25,7 @@ encode-packet-requires c κs =
     let p3 = c .before .before .before in
     let p10 = p3 .before .before .before .before .before .before .before in
     let o = p3 .put-u32 .last .0 in
-    ready (p10 .pre) (length (midOf 4 (length o - 4) o)) (omega arith)
+    ready (p10 .pre) (length (midOf 4 (length o - 4) o))
     (rw length-lent (omega (arith, wrote-length _ _ _ (p3 .put-u32 .ensures))))
 
 add-written : tie.Need-add-written

@@ -1,6 +1,6 @@
 -- `encoder::encode_tcp` meets its contract.
 use Rattle.encoder.specs.Outcome.{prefixed}
-use Rattle.encoder.proofs.Answers.{refused, planned, root-read, encoded-message, encoded-bundle}
+use Rattle.encoder.proofs.Answers.{prefixed-keeps, refused, planned, root-read, encoded-message, encoded-bundle}
 use borrow.Author.Needs.{needs}
 use Rattle.encoder.proofs.encode_tcp.Statement.{statement}
 use Rattle.encoder.proofs.encode_tcp.Tie as tie
@@ -30,7 +30,7 @@ returns : tie.Need-returns
 returns c =
     let p3 = c .before .before .before in
     let p7 = p3 .before .before .before .before in
-    refused prefixed (p7 .args .table .now) (p7 .args .count) (p7 .args .source .now) (p7 .args .out .now) (p3 .prepare .ensures)
+    refused prefixed prefixed-keeps (p7 .args .table .now) (p7 .args .count) (p7 .args .source .now) (p7 .args .out .now) (p3 .prepare .ensures)
     (c .before .refusal .given .1)
 
 returns-2 : tie.Need-returns-2

@@ -3,8 +3,10 @@
 use mathlib.Core.Path.{sym, _∙_}
 use native.Mathlib.Omega.{arith}
 use borrow.Author.Needs.{needs}
-use borrow.Author.Tests.{not-false}
-use Rattle.survey.proofs.Surveyed.{Behind, placed-is, argument-leaf, argument-array, behind-none, behind-more, behind-all}
+use borrow.Author.Tests.{not-true, not-false}
+use Rattle.survey.proofs.Rows.{placed-is}
+use Rattle.survey.proofs.Arguments.{Behind, array-too-deep, array-wrong, closes-wrong, leaf-long, argument-leaf, argument-array}
+use Rattle.survey.proofs.Arguments.{behind-none, behind-more, arguments-unplaced, arguments-long, arguments-all}
 use Prim.Native.Nat.{ℕ, _+_, _-_, _*_, _<_}
 use borrow.Fn.Kinds.{In}
 use borrow.Fn.PlainCycle.{Measures, is, falls, and}
@@ -62,7 +64,7 @@ survey-arguments-below t =
     survey-arguments.Pre
 
 abbrev survey-arguments-Inv-loop : survey-arguments-lts.InvT-loop
-survey-arguments-Inv-loop table lo hi source levels unsure tags₀ content₀ at₀ tags content at = Behind table source lo hi at tags content
+survey-arguments-Inv-loop table lo hi source levels unsure tags₀ content₀ at₀ tags content at = Behind table source levels lo hi at tags content
 
 abbrev survey-arguments-μ-loop : survey-arguments-lts.MeasureT-loop
 survey-arguments-μ-loop table lo hi source levels unsure tags₀ content₀ at₀ tags content at = hi - at
@@ -96,11 +98,23 @@ pub +survey-argument+survey-arguments-spec : {M : Type 1} → statement M
     -- enum-told
     (λ c. search needs)
     -- returns
-    (λ c. ((λ h. absurd (omega (arith, h))), (omega arith, omega arith)))
+    (λ c.
+    let p3 = c .before .before .before in
+    let p5 = p3 .before .before in (
+      array-too-deep _ _ (p5 .before .before .before .pre .1) (p3 .before .item-at .ensures) (p5 .field-at .ensures) (p3 .sort-of .ensures)
+          (c .before .enum-told .given .1) (c .if1 .taken),
+      (omega arith, omega arith),
+    ))
     -- own-rules-requires
     (λ c κs. search needs)
     -- returns-2
-    (λ c. ((λ h. absurd (omega (arith, h))), (omega arith, omega arith)))
+    (λ c.
+    let p5 = c .before .before .before .before .before in
+    let p7 = p5 .before .before in (
+      array-wrong _ _ (p7 .before .before .before .pre .1) (p5 .before .item-at .ensures) (p7 .field-at .ensures) (p5 .sort-of .ensures)
+          (sym (c .before .own-rules .ensures) ∙ not-true _ (c .if2 .taken)),
+      (omega arith, omega arith),
+    ))
     -- add-survey-arguments
     (λ c. let p7 = c .before .before .before .before .before .before .before in
     let q = p7 .before .before .before .pre .1 in omega (arith, q .on, q .low))
@@ -125,7 +139,13 @@ pub +survey-argument+survey-arguments-spec : {M : Type 1} → statement M
     -- add-if3
     (λ c. let p8 = c .before .before .before .before .before .before .before .before in let q = p8 .pre .1 in omega (arith, q .on, q .low))
     -- returns-3
-    (λ c. ((λ h. absurd (omega (arith, h))), (omega arith, omega arith)))
+    (λ c.
+    let p4 = c .before .before .before .before in
+    let p6 = p4 .before .before in (
+      leaf-long _ _ (p6 .before .before .before .pre .1) (p4 .before .item-at .ensures) (p6 .field-at .ensures) (p4 .sort-of .ensures)
+          (c .before .before .class .given .1) (c .if3 .taken),
+      (omega arith, omega arith),
+    ))
     -- leaf-content-requires
     (λ c κs. search needs)
     -- returns-4
@@ -134,24 +154,29 @@ pub +survey-argument+survey-arguments-spec : {M : Type 1} → statement M
     let s = o .before .before .before .before in
     let f = s .before .before in
     let q = f .before .before .before .pre .1 in (
-      (λ h. argument-array _ _ _ (s .before .item-at .ensures) (f .field-at .ensures) (s .sort-of .ensures)
-          (o .before .before .enum-told .given .1) (sym (o .own-rules .ensures) ∙ not-false _ (c .before .before .if2 .left))
-          (c .before .survey-arguments .ensures .0 h)),
+      argument-array _ _ q (s .before .item-at .ensures) (f .field-at .ensures) (s .sort-of .ensures)
+          (o .before .before .enum-told .given .1) (o .before .if1 .left) (sym (o .own-rules .ensures) ∙ not-false _ (c .before .before .if2 .left))
+          (c .before .survey-arguments .ensures .0),
       (
-        omega (arith, c .before .survey-arguments .ensures, f .field-at .ensures, q .on),
-        omega (arith, c .before .survey-arguments .ensures),
+        omega (arith, c .before .survey-arguments .ensures .1, f .field-at .ensures, q .on),
+        omega (arith, c .before .survey-arguments .ensures .1),
       ),
     ))
     -- returns-5
-    (λ c. ((λ h. absurd (omega (arith, h))), (omega arith, omega arith)))
+    (λ c.
+    let p2 = c .before .before in
+    let p4 = p2 .before .before in (
+      closes-wrong _ _ (p4 .before .before .before .pre .1) (p2 .before .item-at .ensures) (p4 .field-at .ensures) (p2 .sort-of .ensures)
+          (c .enum-told2 .given .1),
+      (omega arith, omega arith),
+    ))
     -- returns-6
     (λ c.
     let s = c .before .before .before .before .before in
     let f = s .before .before in
     let q = f .before .before .before .pre .1 in (
-      (λ h. let l = c .leaf-content .ensures .0 h in
-          rw (← l .1) at (argument-leaf _ _ _ (s .before .item-at .ensures) (f .field-at .ensures) (s .sort-of .ensures)
-          (c .before .before .before .class .given .1) (c .before .if3 .left) (l .0))),
+      argument-leaf _ _ q (s .before .item-at .ensures) (f .field-at .ensures) (s .sort-of .ensures)
+          (c .before .before .before .class .given .1) (c .before .if3 .left) (c .leaf-content .ensures .0),
       (omega (arith, f .field-at .ensures, q .on), omega (arith, c .leaf-content .ensures .1)),
     )))
     λ t. survey-arguments-lts.spec (
@@ -167,17 +192,21 @@ pub +survey-argument+survey-arguments-spec : {M : Type 1} → statement M
     survey-arguments-Inv-loop
     survey-arguments-μ-loop
     -- loop-holds
-    (λ c. behind-none _ _ _ _ (c .before .before .pre .1 .0))
+    (λ c. behind-none _ _ _ _ _ (c .before .before .pre .1 .0))
     -- is-placed-requires
     (λ c κs. let p4 = c .before .before .before .before in omega (arith, p4 .pre .1))
     -- returns
-    (λ c. ((λ h. absurd (omega (arith, h))), (omega arith, omega arith)))
+    (λ c. (
+      arguments-unplaced (c .before .before .before .loop .inv) (c .before .before .loop-test .taken)
+          (sym (c .before .is-placed .ensures) ∙ not-true _ (c .if1 .taken)),
+      (omega arith, omega arith),
+    ))
     -- survey-argument-requires
     (λ c κs.
     let p = placed-is _ _ _ (sym (c .before .is-placed .ensures) ∙ not-false _ (c .if1 .left)) in
     let s = c .before .before .before .before .before .before .pre in (
       omega (arith, s .0),
-      record { on = p .on; low = omega (arith, p .within, s .1); table = omega (arith, p .within, s .1) },
+      record { zeros = p .zeros; on = p .on; low = omega (arith, p .within, s .1); table = omega (arith, p .within, s .1) },
     ))
     -- add-tags
     (λ c.
@@ -189,15 +218,20 @@ pub +survey-argument+survey-arguments-spec : {M : Type 1} → statement M
       p .on,
       p .within,
       l .loop .inv .few,
-      l .loop .inv .passed,
+      l .loop .inv .passed .since,
       c .before .survey-argument .ensures .1,
       l .before .before .before .pre .1,
     ))
     -- add-content
     (λ c. let p2 = c .before .before in let p6 = p2 .before .before .before .before in
-    omega (arith, p6 .loop .inv .short, p2 .survey-argument .ensures .1))
+    omega (arith, p6 .loop .inv .passed .short, p2 .survey-argument .ensures .1))
     -- returns-2
-    (λ c. ((λ h. absurd (omega (arith, h))), (omega arith, omega arith)))
+    (λ c.
+    let x = c .before .before .before in
+    let l = x .before .before .before in (
+      arguments-long (l .before .loop .inv) (x .survey-argument .ensures .0) (l .loop-test .taken) (c .if2 .taken),
+      (omega arith, omega arith),
+    ))
     -- field-at-requires
     (λ c κs. let p10 = c .before .before .before .before .before .before .before .before .before .before in
     (omega (arith, p10 .pre .1), omega arith))
@@ -214,10 +248,12 @@ pub +survey-argument+survey-arguments-spec : {M : Type 1} → statement M
     let p = placed-is _ _ _ (sym (i .before .is-placed .ensures) ∙ not-false _ (i .if1 .left)) in
     let x = c .before .before .before .before .survey-argument in
     rw (← c .field-at .ensures) at
-    (behind-more (i .before .before .before .loop .inv) (x .result .tags) (x .result .content) p
-    (x .ensures .0 (omega (arith, c .before .if2 .left))) (x .ensures .1 .0) (omega (arith, c .before .if2 .left))))
+    (behind-more (i .before .before .before .loop .inv) (x .ensures .0) p (x .ensures .1 .0) (omega (arith, c .before .if2 .left))))
     -- returns-3
     (λ c. (
-      (λ h. behind-all (c .before .loop .inv) (c .loop-test .left)),
-      (omega (arith, c .before .loop .inv .few, c .before .loop .inv .within), omega (arith, c .before .loop .inv .short)),
+      arguments-all (c .before .loop .inv) (c .loop-test .left),
+      (
+        omega (arith, c .before .loop .inv .few, c .before .loop .inv .passed .within),
+        omega (arith, c .before .loop .inv .passed .short),
+      ),
     ))

@@ -4,10 +4,12 @@ use mathlib.Core.Path.{refl, sym, _∙_}
 use mathlib.Core.List.{[], _∷_}
 use native.Mathlib.Omega.{arith}
 use borrow.Author.Needs.{needs}
-use borrow.Author.Tests.{not-false}
+use borrow.Author.Tests.{ne-eqb, not-true, not-false}
 use Rattle.node.specs.Tags.{messageKind, bundleKind}
 use Rattle.node.proofs.Keys.{by-keys}
-use Rattle.survey.proofs.Surveyed.{Ahead, placed-is, surveyed-message, surveyed-bundle, ahead-none, ahead-more, ahead-all}
+use Rattle.survey.proofs.Rows.{placed-is}
+use Rattle.survey.proofs.Packets.{not-packet, bundle-too-deep, bundle-found, Ahead, ahead-none, ahead-more}
+use Rattle.survey.proofs.Packets.{packets-unplaced, packets-long, packets-all}
 use Prim.Native.Nat.{ℕ, _+_, _-_, _*_, _<_}
 use borrow.Fn.Kinds.{In}
 use borrow.Fn.PlainCycle.{Measures, is, falls, and}
@@ -81,11 +83,18 @@ pub +survey-packet+survey-packets-spec : {M : Type 1} → statement M
     -- kind-at-requires
     (λ c κs. let q = c .before .before .pre .1 in omega (arith, q .on, q .table))
     -- survey-message-requires
-    (λ c κs. let p4 = c .before .before .before .before in p4 .pre .1)
-    -- add-result
-    (λ c. omega (arith, c .survey-message .ensures .1))
+    (λ c κs. (
+      sym (c .before .kind-at .ensures) ∙ sym (by-keys (λ (k : ℕ). k) messageKind (messageKind ∷ []) (refl, tt) _ (c .match .keys1)),
+      c .before .before .before .before .pre .1,
+    ))
     -- returns
-    (λ c. ((λ h. absurd (omega (arith, h))), omega arith))
+    (λ c.
+    let p2 = c .before .before in (
+      bundle-too-deep
+          (sym (p2 .kind-at .ensures) ∙ sym (by-keys (λ (k : ℕ). k) bundleKind (bundleKind ∷ []) (refl, tt) _ (c .before .match .keys2)))
+          (p2 .before .before .before .pre .1) (c .if1 .taken),
+      omega arith,
+    ))
     -- field-at-requires
     (λ c κs. let p5 = c .before .before .before .before .before in let q = p5 .pre .1 in
     (omega (arith, q .on, q .table), omega arith))
@@ -103,25 +112,23 @@ pub +survey-packet+survey-packets-spec : {M : Type 1} → statement M
       omega (arith, s .0, c .before .if1 .left),
       (omega (arith, e, q .on), omega (arith, e, q .low), omega (arith, e, q .table)),
     ))
-    -- add-result-2
+    -- add-result
     (λ c. omega (arith, c .survey-packets .ensures .1))
     -- returns-2
-    (λ c. (
-      (λ h. surveyed-message
-          (sym (c .before .before .kind-at .ensures)
-          ∙ sym (by-keys (λ (k : ℕ). k) messageKind (messageKind ∷ []) (refl, tt) _ (c .before .match .keys1)))
-          (c .survey-message .ensures .0 (omega (arith, h)))),
-      omega (arith, c .survey-message .ensures .1),
-    ))
+    (λ c. c .survey-message .ensures)
     -- returns-3
     (λ c. let p2 = c .before .before in let p3 = p2 .before in let p4 = p3 .before in (
-      (λ h. surveyed-bundle
+      bundle-found
           (sym (p4 .kind-at .ensures) ∙ sym (by-keys (λ (k : ℕ). k) bundleKind (bundleKind ∷ []) (refl, tt) _ (p3 .match .keys2)))
-          (p2 .if1 .left) (rw (c .before .field-at .ensures) at (c .survey-packets .ensures .0 (omega (arith, h))))),
+          (p4 .before .before .before .pre .1) (p2 .if1 .left) (c .before .field-at .ensures) (c .survey-packets .ensures .0),
       omega (arith, c .survey-packets .ensures .1),
     ))
     -- returns-4
-    (λ c. ((λ h. absurd (omega (arith, h))), omega arith)))
+    (λ c. (
+      not-packet (c .before .before .before .before .pre .1) (c .before .kind-at .ensures)
+          (rw (ne-eqb _ _ (c .match .rest .0 .1), ne-eqb _ _ (c .match .rest .1))),
+      omega arith,
+    )))
     λ t. survey-packets-lts.spec (
       is-placed-reads.Asked,
       is-placed-reads.Learnt,
@@ -139,18 +146,27 @@ pub +survey-packet+survey-packets-spec : {M : Type 1} → statement M
     -- is-placed-requires
     (λ c κs. let p4 = c .before .before .before .before in omega (arith, p4 .pre .1))
     -- returns
-    (λ c. ((λ h. absurd (omega (arith, h))), omega arith))
+    (λ c. (
+      packets-unplaced (c .before .before .before .loop .inv) (c .before .before .loop-test .taken)
+          (sym (c .before .is-placed .ensures) ∙ not-true _ (c .if1 .taken)),
+      omega arith,
+    ))
     -- survey-packet-requires
     (λ c κs.
     let p = placed-is _ _ _ (sym (c .before .is-placed .ensures) ∙ not-false _ (c .if1 .left)) in
     let s = c .before .before .before .before .before .before .pre in (
       omega (arith, s .0),
-      record { on = p .on; low = omega (arith, p .within, s .1); table = omega (arith, p .within, s .1) },
+      record { zeros = p .zeros; on = p .on; low = omega (arith, p .within, s .1); table = omega (arith, p .within, s .1) },
     ))
     -- add-total
-    (λ c. let p4 = c .before .before .before .before in omega (arith, p4 .loop .inv .short, c .survey-packet .ensures .1))
+    (λ c. let p4 = c .before .before .before .before in omega (arith, p4 .loop .inv .passed .short, c .survey-packet .ensures .1))
     -- returns-2
-    (λ c. ((λ h. absurd (omega (arith, h))), omega arith))
+    (λ c.
+    let x = c .before in
+    let l = x .before .before .before in (
+      packets-long (l .before .loop .inv) (x .survey-packet .ensures .0) (l .loop-test .taken) (c .if2 .taken),
+      omega arith,
+    ))
     -- field-at-requires
     (λ c κs. let p8 = c .before .before .before .before .before .before .before .before in
     (omega (arith, p8 .pre .1), omega arith))
@@ -165,9 +181,7 @@ pub +survey-packet+survey-packets-spec : {M : Type 1} → statement M
     (λ c.
     let i = c .before .before .before in
     let p = placed-is _ _ _ (sym (i .before .is-placed .ensures) ∙ not-false _ (i .if1 .left)) in
-    let x = c .before .before .survey-packet in
     rw (← c .field-at .ensures) at
-    (ahead-more (i .before .before .before .loop .inv) (x .result) p
-    (x .ensures .0 (omega (arith, c .before .if2 .left))) (omega (arith, c .before .if2 .left))))
+    (ahead-more (i .before .before .before .loop .inv) (c .before .before .survey-packet .ensures .0) p (omega (arith, c .before .if2 .left))))
     -- returns-3
-    (λ c. ((λ h. ahead-all (c .before .loop .inv) (c .loop-test .left)), omega (arith, c .before .loop .inv .short)))
+    (λ c. (packets-all (c .before .loop .inv) (c .loop-test .left), omega (arith, c .before .loop .inv .passed .short)))

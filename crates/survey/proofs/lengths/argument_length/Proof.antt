@@ -1,8 +1,8 @@
--- `lengths::argument_length` meets its contract.
+-- `survey::lengths::argument_length` meets its contract.
 use native.Mathlib.Omega.{arith}
 use borrow.Author.Needs.{needs}
-use Rattle.lengths.proofs.argument_length.Statement.{statement}
-use Rattle.lengths.proofs.argument_length.Tie as tie
+use Rattle.survey.proofs.lengths.argument_length.Statement.{statement}
+use Rattle.survey.proofs.lengths.argument_length.Tie as tie
 
 returns-4 : tie.Need-returns-4
 returns-4 c = rw (c .before .enum-told4 .given .1) (c .string-length .ensures, omega (arith, c .string-length .ensures))
