@@ -1,4 +1,5 @@
--- The scans answer as `readArgs` does: the bytes used and the fault from the forward scan, the count of records from the backward one.
+-- The scans answer as `readArgs` does: the bytes used and the fault from the forward scan, the count of records and the depth of their
+-- arrays (Nested.antt) from the backward one.
 use mathlib.Core.Path.{_≡_, refl, ap, sym, _∙_, subst}
 use Prim.Native.Nat.{ℕ, zero, suc, _+_, _*_, _≤_}
 use mathlib.Core.List.{List, [], _∷_}
@@ -26,6 +27,7 @@ use Rattle.scan.specs.declared.Back.{Back}
 use Rattle.scan.specs.declared.Back.the-variants.{Uncut, Cut}
 use Rattle.argument.proofs.Within.{given-within}
 use Rattle.scan.proofs.Passed.{any-base}
+use Rattle.arguments.proofs.Nested.{Nested, nesting, args-nested}
 
 -- ---- the forward scan
 
@@ -73,8 +75,8 @@ waiting (suc n) (waits f item ∷ b) = 1 + size f + waiting n b
 
 -- so many records are kept, where k is what later tags give, f the frame and b what waits below it
 abbrev total : Back → Forest → List Open → ℕ
-total (Cut n c) f b = c
-total (Uncut n c) f b = c + size f + waiting n b
+total (Cut n c d) f b = c
+total (Uncut n c d) f b = c + size f + waiting n b
 
 -- n records are kept, unless the arguments are refused
 abbrev pub Counts : ℕ → Args → Type 0
@@ -87,26 +89,28 @@ counts-later n used (args kept used′) w = w
 
 total-opens : (k : Back) (f : Forest) (item : Item) (b : List Open) → total k nil (waits f item ∷ b) ≡ total (tagBefore Opens k) f b
 unfolding size
-total-opens (Cut n c) f item b = refl
-total-opens (Uncut zero c) f item b = omega arith
-total-opens (Uncut (suc n) c) f item b = omega arith
+total-opens (Cut n c d) f item b = refl
+total-opens (Uncut zero c d) f item b = omega arith
+total-opens (Uncut (suc n) c d) f item b = omega arith
 
 total-closes : (k : Back) (f g : Forest) (item : Item) (b : List Open)
     → total k (snoc g item f) b ≡ total (tagBefore Closes k) f (waits g item ∷ b)
-total-closes (Cut n c) f g item b = refl
-total-closes (Uncut n c) f g item b = omega (arith, size-snoc g item f)
+total-closes (Cut n c d) f g item b = refl
+total-closes (Uncut n c d) f g item b = omega (arith, size-snoc g item f)
 
 total-leaf : (class : Class) (k : Back) (f : Forest) (b : List Open) (item : Item)
     → total k (snoc f item nil) b ≡ total (tagBefore (Leaf class) k) f b
 unfolding size
-total-leaf class (Cut n c) f b item = refl
-total-leaf class (Uncut n c) f b item = omega (arith, size-snoc f item nil)
+total-leaf class (Cut n c d) f b item = refl
+total-leaf class (Uncut n c d) f b item = omega (arith, size-snoc f item nil)
 
 counts-act : (s : Sort) (k : Back) (go : List ℕ → ℕ → Forest → List Open → Args) (base tag : ℕ) (l : List ℕ) (p : ℕ) (frame : Forest)
     (below : List Open)
     → ((m : List ℕ) (q : ℕ) (f : Forest) (b : List Open) → Counts (total k f b) (go m q f b))
     → Counts (total (tagBefore s k) frame below) (act s go base tag l p frame below)
-counts-act Opens k go base tag l p frame below h = rw (total-opens k frame (arrayItem (base + p)) below) at (h l p nil (waits frame (arrayItem (base + p)) ∷ below))
+counts-act Opens k go base tag l p frame below h =
+    let array = arrayItem (base + p) in
+    rw (total-opens k frame array below) at (h l p nil (waits frame array ∷ below))
 counts-act Closes k go base tag l p frame [] h = tt
 counts-act Closes k go base tag l p frame (waits outer item ∷ below) h =
     rw (total-closes k frame outer item below) at (h l p (snoc outer item frame) below)
@@ -126,14 +130,14 @@ counts-law base (t ∷ ts) l p frame below = counts-act (sortOf t) (back ts) _ b
 
 -- how many records are kept, if nothing is read yet
 abbrev pub counted : Back → ℕ
-counted (Uncut n c) = c
-counted (Cut n c) = c
+counted (Uncut n c d) = c
+counted (Cut n c d) = c
 
 total-none : (k : Back) → total k nil [] ≡ counted k
 unfolding size
-total-none (Cut n c) = refl
-total-none (Uncut zero c) = omega arith
-total-none (Uncut (suc n) c) = omega arith
+total-none (Cut n c d) = refl
+total-none (Uncut zero c d) = omega arith
+total-none (Uncut (suc n) c d) = omega arith
 
 -- the backward scan counts the records that are kept
 pub args-counted : (base : ℕ) (ts l : List ℕ) (p : ℕ) → Counts (counted (back ts)) (readArgs base ts l p)
@@ -153,14 +157,16 @@ measured-refused {fault} base ts l p e = by-out (readArgs base ts l p) (e ∙ sy
 
 -- what both scans answer is what the reading keeps and uses
 pub measured-kept : {used : ℕ} (base : ℕ) (ts l : List ℕ) (p : ℕ) (k : Back) → Used used ≡ scan ts l p 0 → k ≡ back ts
-    → measure.Kept (counted k) used ≡ measured (readArgs base ts l p)
+    → measure.Kept (counted k) (nesting k) used ≡ measured (readArgs base ts l p)
 unfolding measured
 measured-kept {used} base ts l p k e b =
     by-out (readArgs base ts l p) (e ∙ sym (scan-law base ts l p nil [])) (rw (← b) at (args-counted base ts l p))
+    (rw (← b) at (args-nested base ts l p))
   where
-    by-out : (o : Args) → Used used ≡ outcome o → Counts (counted k) o → measure.Kept (counted k) used ≡ measured o
-    by-out (refused fault) s w = let z : _≡_ {A = ℕ} 0 1 = cc in absurd (omega arith)
-    by-out (args kept u) s w = let z : used ≡ u = cc in rw (z, w)
+    by-out : (o : Args) → Used used ≡ outcome o → Counts (counted k) o → Nested (nesting k) o
+        → measure.Kept (counted k) (nesting k) used ≡ measured o
+    by-out (refused fault) s w d = let z : _≡_ {A = ℕ} 0 1 = cc in absurd (omega arith)
+    by-out (args kept u) s w d = let z : used ≡ u = cc in rw (z, w, d)
 
 -- ---- bounds: no more records than tags, no more bytes than there are
 
@@ -170,13 +176,13 @@ counted-le [] = omega arith
 counted-le (t ∷ ts) = by-sort (sortOf t) (back ts) (counted-le ts)
   where
     by-sort : (s : Sort) (k : Back) → counted k ≤ length ts → counted (tagBefore s k) ≤ suc (length ts)
-    by-sort Opens (Cut n c) h = omega arith
-    by-sort Opens (Uncut zero c) h = omega arith
-    by-sort Opens (Uncut (suc n) c) h = omega arith
-    by-sort Closes (Cut n c) h = omega arith
-    by-sort Closes (Uncut n c) h = omega arith
-    by-sort (Leaf class) (Cut n c) h = omega arith
-    by-sort (Leaf class) (Uncut n c) h = omega arith
+    by-sort Opens (Cut n c d) h = omega arith
+    by-sort Opens (Uncut zero c d) h = omega arith
+    by-sort Opens (Uncut (suc n) c d) h = omega arith
+    by-sort Closes (Cut n c d) h = omega arith
+    by-sort Closes (Uncut n c d) h = omega arith
+    by-sort (Leaf class) (Cut n c d) h = omega arith
+    by-sort (Leaf class) (Uncut n c d) h = omega arith
 
 -- no more records are kept than there are tags
 pub kept-few : (base : ℕ) (ts l : List ℕ) (p : ℕ) → size (keptOf (readArgs base ts l p)) ≤ length ts
@@ -222,18 +228,18 @@ args-within base ts l p e = subst (UsedIn (length l)) (sym e) (used-law base ts 
 -- ---- what a caller knows by the first reading
 
 -- so does the first reading answer no more records than tags, and no more bytes than there are
-pub measured-within : {count used : ℕ} (base : ℕ) (ts l : List ℕ) (p : ℕ) → measure.Kept count used ≡ measured (readArgs base ts l p)
-    → (count ≤ length ts) × (used ≤ length l)
+pub measured-within : {count deep used : ℕ} (base : ℕ) (ts l : List ℕ) (p : ℕ)
+    → measure.Kept count deep used ≡ measured (readArgs base ts l p) → (count ≤ length ts) × (used ≤ length l)
 unfolding measured
-measured-within {count} {used} base ts l p e = by-out (readArgs base ts l p) e (kept-few base ts l p) (used-law base ts l p nil [])
+measured-within {count} {deep} {used} base ts l p e = by-out (readArgs base ts l p) e (kept-few base ts l p) (used-law base ts l p nil [])
   where
-    by-out : (o : Args) → measure.Kept count used ≡ measured o → size (keptOf o) ≤ length ts → UsedIn (length l) o
+    by-out : (o : Args) → measure.Kept count deep used ≡ measured o → size (keptOf o) ≤ length ts → UsedIn (length l) o
         → (count ≤ length ts) × (used ≤ length l)
     by-out (refused fault) e k w = let z : _≡_ {A = ℕ} 0 1 = cc in absurd (omega arith)
     by-out (args kept u) e k w = let z : count ≡ size kept = cc in let y : used ≡ u = cc in (omega arith, omega arith)
 
 -- the second reading has room, if the table has room for the count
-pub measured-room : {count used : ℕ} (o : Args) (index : ℕ) (table : List ℕ) → measure.Kept count used ≡ measured o
+pub measured-room : {count deep used : ℕ} (o : Args) (index : ℕ) (table : List ℕ) → measure.Kept count deep used ≡ measured o
     → recordSize * count ≤ length table → index + count ≤ mostRecords → ArgsRoom o index table
 unfolding measured
 measured-room (refused fault) index table e h k = let z : _≡_ {A = ℕ} 0 1 = cc in absurd (omega arith)

@@ -38,9 +38,10 @@ pub record Filling (base : ℕ) (F : Forest) (i E : ℕ) (T₀ T ts m : List ℕ
   pub frame : Forest
   pub below : List Open
   pub left : ℕ
+  pub nested : ℕ
   pub used : ℕ
   pub reads : readTags base ts m q frame below ≡ args F used
-  pub ahead : back ts ≡ Uncut (length below) left
+  pub ahead : back ts ≡ Uncut (length below) left nested
   pub count : n + left ≡ size F
   pub place : n ≡ held frame below
   pub linked : top ≡ link below
@@ -59,13 +60,14 @@ filling-start base ts m q i T₀ w closed =
         → Counts (counted k) o
         → Filling base (keptOf o) i (q + length m) T₀ T₀ ts m q 0 0
     by-both (refused fault) k e b r closed d s = absurd (r .accepted)
-    by-both (args kept used) (Cut n c) e b r closed d s = absurd closed
-    by-both (args kept used) (Uncut (suc n) c) e b r closed d s = absurd (omega arith)
-    by-both (args kept used) (Uncut zero c) e b r closed d s =
+    by-both (args kept used) (Cut n c g) e b r closed d s = absurd closed
+    by-both (args kept used) (Uncut (suc n) c g) e b r closed d s = absurd (omega arith)
+    by-both (args kept used) (Uncut zero c g) e b r closed d s =
         record {
           frame = nil;
           below = [];
           left = c;
+          nested = g;
           used = used;
           reads = e;
           ahead = b;
@@ -91,23 +93,33 @@ held-snoc frame (waits f item′ ∷ below) item g = omega (arith, size-snoc fra
 -- k says that d arrays are closed later; one record fewer than c is left
 record Fewer (k : Back) (d c : ℕ) : Type 0 where
   pub rest : ℕ
-  pub is : k ≡ Uncut d rest
+  pub nested : ℕ
+  pub is : k ≡ Uncut d rest nested
   pub one : c ≡ suc rest
 
-fewer-opens : (k : Back) (d c : ℕ) → tagBefore Opens k ≡ Uncut d c → Fewer k (suc d) c
-fewer-opens (Cut n x) d c e = absurd (clash (sym e))
-fewer-opens (Uncut zero x) d c e = absurd (clash (sym e))
-fewer-opens (Uncut (suc n) x) d c e =
-    let z : n ≡ d = cc in let y : suc x ≡ c = cc in record { rest = x; is = ap (λ (m : ℕ). Uncut (suc m) x) z; one = sym y }
+fewer-opens : (k : Back) (d c g : ℕ) → tagBefore Opens k ≡ Uncut d c g → Fewer k (suc d) c
+fewer-opens (Cut n x i) d c g e = absurd (clash (sym e))
+fewer-opens (Uncut zero x i) d c g e = absurd (clash (sym e))
+fewer-opens (Uncut (suc n) x i) d c g e =
+    let z : n ≡ d = cc in
+    let y : suc x ≡ c = cc in
+    record { rest = x; nested = i; is = ap (λ (m : ℕ). Uncut (suc m) x i) z; one = sym y }
 
-fewer-leaf : (class : Class) (k : Back) (d c : ℕ) → tagBefore (Leaf class) k ≡ Uncut d c → Fewer k d c
-fewer-leaf class (Cut n x) d c e = absurd (clash (sym e))
-fewer-leaf class (Uncut n x) d c e =
-    let z : n ≡ d = cc in let y : suc x ≡ c = cc in record { rest = x; is = ap (λ (m : ℕ). Uncut m x) z; one = sym y }
+fewer-leaf : (class : Class) (k : Back) (d c g : ℕ) → tagBefore (Leaf class) k ≡ Uncut d c g → Fewer k d c
+fewer-leaf class (Cut n x i) d c g e = absurd (clash (sym e))
+fewer-leaf class (Uncut n x i) d c g e =
+    let z : n ≡ d = cc in
+    let y : suc x ≡ c = cc in
+    record { rest = x; nested = i; is = ap (λ (m : ℕ). Uncut m x i) z; one = sym y }
 
-closes-one : (k : Back) (d c : ℕ) → tagBefore Closes k ≡ Uncut d c → (d ≡ 0 → ⊥) × (k ≡ Uncut (d - 1) c)
-closes-one (Cut n x) d c e = absurd (clash (sym e))
-closes-one (Uncut n x) d c e = let z : suc n ≡ d = cc in let y : x ≡ c = cc in let s : n ≡ d - 1 = omega arith in ((λ h. omega arith), cc)
+closes-one : (k : Back) (d c g : ℕ) → tagBefore Closes k ≡ Uncut d c g → (d ≡ 0 → ⊥) × (k ≡ Uncut (d - 1) c g)
+closes-one (Cut n x i) d c g e = absurd (clash (sym e))
+closes-one (Uncut n x i) d c g e =
+    let z : suc n ≡ d = cc in
+    let y : x ≡ c = cc in
+    let v : i ≡ g = cc in
+    let s : n ≡ d - 1 = omega arith in
+    ((λ h. omega arith), cc)
 
 record Later (o : Args) (F : Forest) : Type 0 where
   pub used : ℕ
@@ -133,23 +145,24 @@ module _ {base : ℕ} {F : Forest} {i E : ℕ} {T₀ T ts m : List ℕ} {q n top
       by-list [] h r = absurd (omega arith)
       by-list (t ∷ ts) h r = r
 
-  looked : {s : Sort} → s ≡ sortOf (getD ts 0 0) → tagBefore s (back (drop 1 ts)) ≡ Uncut (length (w .below)) (w .left)
+  looked : {s : Sort} → s ≡ sortOf (getD ts 0 0) → tagBefore s (back (drop 1 ts)) ≡ Uncut (length (w .below)) (w .left) (w .nested)
   unfolding back
   looked {s} e = rw e (by-list ts h (w .ahead))
     where
-      by-list : (ts : List ℕ) → 0 < length ts → back ts ≡ Uncut (length (w .below)) (w .left)
-          → tagBefore (sortOf (getD ts 0 0)) (back (drop 1 ts)) ≡ Uncut (length (w .below)) (w .left)
+      by-list : (ts : List ℕ) → 0 < length ts → back ts ≡ Uncut (length (w .below)) (w .left) (w .nested)
+          → tagBefore (sortOf (getD ts 0 0)) (back (drop 1 ts)) ≡ Uncut (length (w .below)) (w .left) (w .nested)
       by-list [] h a = absurd (omega arith)
       by-list (t ∷ ts) h a = a
 
   has-opens : Opens ≡ sortOf (getD ts 0 0) → Fewer (back (drop 1 ts)) (suc (length (w .below))) (w .left)
-  has-opens e = fewer-opens (back (drop 1 ts)) (length (w .below)) (w .left) (looked e)
+  has-opens e = fewer-opens (back (drop 1 ts)) (length (w .below)) (w .left) (w .nested) (looked e)
 
   has-leaf : {class : Class} → Leaf class ≡ sortOf (getD ts 0 0) → Fewer (back (drop 1 ts)) (length (w .below)) (w .left)
-  has-leaf {class} e = fewer-leaf class (back (drop 1 ts)) (length (w .below)) (w .left) (looked e)
+  has-leaf {class} e = fewer-leaf class (back (drop 1 ts)) (length (w .below)) (w .left) (w .nested) (looked e)
 
-  has-closes : Closes ≡ sortOf (getD ts 0 0) → (length (w .below) ≡ 0 → ⊥) × (back (drop 1 ts) ≡ Uncut (length (w .below) - 1) (w .left))
-  has-closes e = closes-one (back (drop 1 ts)) (length (w .below)) (w .left) (looked e)
+  has-closes : Closes ≡ sortOf (getD ts 0 0)
+      → (length (w .below) ≡ 0 → ⊥) × (back (drop 1 ts) ≡ Uncut (length (w .below) - 1) (w .left) (w .nested))
+  has-closes e = closes-one (back (drop 1 ts)) (length (w .below)) (w .left) (w .nested) (looked e)
 
   -- the link reaches no record that is not written, and what is written is in the table
   held-there : (top ≤ n) × (i + n ≤ mostRecords) × (recordSize * n ≤ length T)
@@ -195,6 +208,7 @@ module _ {base : ℕ} {F : Forest} {i E : ℕ} {T₀ T ts m : List ℕ} {q n top
         frame = nil;
         below = waits (w .frame) (arrayItem (base + q)) ∷ w .below;
         left = k .rest;
+        nested = k .nested;
         used = w .used;
         reads = turned e;
         ahead = k .is;
@@ -227,6 +241,7 @@ module _ {base : ℕ} {F : Forest} {i E : ℕ} {T₀ T ts m : List ℕ} {q n top
         frame = f;
         below = w .below;
         left = k .rest;
+        nested = k .nested;
         used = o .used;
         reads = o .is;
         ahead = k .is;
@@ -247,7 +262,7 @@ module _ {base : ℕ} {F : Forest} {i E : ℕ} {T₀ T ts m : List ℕ} {q n top
   filling-closes {T′} {r} e er v =
       by-below (w .below) (has-closes e .0) (has-closes e .1) (turned e) (w .place) (w .linked) (w .table)
     where
-      by-below : (b : List Open) → (length b ≡ 0 → ⊥) → back (drop 1 ts) ≡ Uncut (length b - 1) (w .left)
+      by-below : (b : List Open) → (length b ≡ 0 → ⊥) → back (drop 1 ts) ≡ Uncut (length b - 1) (w .left) (w .nested)
           → act Closes (λ m q f b. readTags base (drop 1 ts) m q f b) base (getD ts 0 0) m q (w .frame) b ≡ args F (w .used)
           → n ≡ held (w .frame) b → top ≡ link b → Wrote (layout i (w .frame) b) T₀ T
           → Filling base F i E T₀ T′ (take (length ts - 1) (drop 1 ts)) m q n r
@@ -262,6 +277,7 @@ module _ {base : ℕ} {F : Forest} {i E : ℕ} {T₀ T ts m : List ℕ} {q n top
             frame = snoc f item (w .frame);
             below = b;
             left = w .left;
+            nested = w .nested;
             used = w .used;
             reads = rd;
             ahead = k ∙ rw down;
@@ -286,12 +302,12 @@ module _ {base : ℕ} {F : Forest} {i E : ℕ} {T₀ T ts m : List ℕ} {q n top
       let z : _≡_ {A = ℕ} 0 1 = cc in omega arith
 
 -- where no tag is left, the frame is all, and none waits below it
-ended : (base : ℕ) (ts m : List ℕ) (q : ℕ) {frame F : Forest} {used d c : ℕ} (below : List Open) → length ts ≤ 0
+ended : (base : ℕ) (ts m : List ℕ) (q : ℕ) {frame F : Forest} {used d c g : ℕ} (below : List Open) → length ts ≤ 0
     → readTags base ts m q frame below ≡ args F used
-    → back ts ≡ Uncut d c → (frame ≡ F) × (d ≡ 0)
+    → back ts ≡ Uncut d c g → (frame ≡ F) × (d ≡ 0)
 unfolding readTags back
 ended base (t ∷ ts) m q below h r a = absurd (omega arith)
-ended base [] m q {frame} {F} {used} {d} {c} below h r a = (cc, cc)
+ended base [] m q {frame} {F} {used} {d} {c} {g} below h r a = (cc, cc)
 
 -- where no tag is left, the records are those of all
 pub filling-done : {base : ℕ} {F : Forest} {i E : ℕ} {T₀ T ts m : List ℕ} {q n top : ℕ} → Filling base F i E T₀ T ts m q n top

@@ -26,7 +26,7 @@ use Rattle.argument.proofs.Within.{given-within}
 use Rattle.scan.proofs.Passed.{any-base}
 
 -- tags are not both cut and uncut
-pub clash : {m d n c : ℕ} → Uncut m d ≡ Cut n c → ⊥
+pub clash : {m d i n c j : ℕ} → Uncut m d i ≡ Cut n c j → ⊥
 clash e = let z : _≡_ {A = ℕ} 0 1 = cc in omega arith
 
 -- 0 bytes later is the same
@@ -51,21 +51,21 @@ accepted-later n (args kept used) w = tt
 
 -- no more than m arrays are closed that were open before
 abbrev pub Deep : Back → ℕ → Type 0
-Deep (Uncut n c) m = n ≤ m
-Deep (Cut n c) m = Unit {0}
+Deep (Uncut n c i) m = n ≤ m
+Deep (Cut n c i) m = Unit {0}
 
 deep-act : (s : Sort) (k : Back) (go : List ℕ → ℕ → Forest → List Open → Args) (base tag : ℕ) (l : List ℕ) (p : ℕ) (frame : Forest)
     (below : List Open)
     → ((m : List ℕ) (q : ℕ) (f : Forest) (b : List Open) → ArgsAccepted (go m q f b) → Deep k (length b))
     → ArgsAccepted (act s go base tag l p frame below) → Deep (tagBefore s k) (length below)
-deep-act Opens (Cut n c) go base tag l p frame below h w = tt
-deep-act Opens (Uncut zero c) go base tag l p frame below h w = tt
-deep-act Opens (Uncut (suc n) c) go base tag l p frame below h w = omega (arith, h l p nil (waits frame (arrayItem (base + p)) ∷ below) w)
+deep-act Opens (Cut n c i) go base tag l p frame below h w = tt
+deep-act Opens (Uncut zero c i) go base tag l p frame below h w = tt
+deep-act Opens (Uncut (suc n) c i) go base tag l p frame below h w = omega (arith, h l p nil (waits frame (arrayItem (base + p)) ∷ below) w)
 deep-act Closes k go base tag l p frame [] h w = absurd w
-deep-act Closes (Cut n c) go base tag l p frame (waits f item ∷ b) h w = tt
-deep-act Closes (Uncut n c) go base tag l p frame (waits f item ∷ b) h w = omega (arith, h l p (snoc f item frame) b w)
-deep-act (Leaf class) (Cut n c) go base tag l p frame below h w = tt
-deep-act (Leaf class) (Uncut n c) go base tag l p frame below h w = by-arg (readArg tag class base l p) w
+deep-act Closes (Cut n c i) go base tag l p frame (waits f item ∷ b) h w = tt
+deep-act Closes (Uncut n c i) go base tag l p frame (waits f item ∷ b) h w = omega (arith, h l p (snoc f item frame) b w)
+deep-act (Leaf class) (Cut n c i) go base tag l p frame below h w = tt
+deep-act (Leaf class) (Uncut n c i) go base tag l p frame below h w = by-arg (readArg tag class base l p) w
   where
     by-arg : (x : Arg) → ArgsAccepted (argTaken (λ m q f. go m q f below) l p frame x) → n ≤ length below
     by-arg (arg.Refused fault) w = absurd w
@@ -85,22 +85,22 @@ deep-law base (t ∷ ts) l p frame below w =
 
 -- no array stays open, and no more than m are closed that were open before
 abbrev pub Closed : Back → ℕ → Type 0
-Closed (Uncut n c) m = n ≤ m
-Closed (Cut n c) m = ⊥
+Closed (Uncut n c i) m = n ≤ m
+Closed (Cut n c i) m = ⊥
 
 under-act : (s : Sort) (k : Back) (go : List ℕ → ℕ → Forest → List Open → Args) (base tag : ℕ) (l : List ℕ) (p : ℕ) (frame : Forest)
     (A B : List Open)
     → ((m : List ℕ) (q : ℕ) (f : Forest) (A : List Open) → Closed k (length A) → go m q f (A ++ B) ≡ go m q f A)
     → Closed (tagBefore s k) (length A)
     → act s go base tag l p frame (A ++ B) ≡ act s go base tag l p frame A
-under-act Opens (Cut n c) go base tag l p frame A B h w = absurd w
-under-act Opens (Uncut zero c) go base tag l p frame A B h w = absurd w
-under-act Opens (Uncut (suc n) c) go base tag l p frame A B h w = h l p nil (waits frame (arrayItem (base + p)) ∷ A) (omega arith)
-under-act Closes (Cut n c) go base tag l p frame A B h w = absurd w
-under-act Closes (Uncut n c) go base tag l p frame [] B h w = absurd (omega arith)
-under-act Closes (Uncut n c) go base tag l p frame (waits f item ∷ A) B h w = h l p (snoc f item frame) A (omega arith)
-under-act (Leaf class) (Cut n c) go base tag l p frame A B h w = absurd w
-under-act (Leaf class) (Uncut n c) go base tag l p frame A B h w = by-arg (readArg tag class base l p)
+under-act Opens (Cut n c i) go base tag l p frame A B h w = absurd w
+under-act Opens (Uncut zero c i) go base tag l p frame A B h w = absurd w
+under-act Opens (Uncut (suc n) c i) go base tag l p frame A B h w = h l p nil (waits frame (arrayItem (base + p)) ∷ A) (omega arith)
+under-act Closes (Cut n c i) go base tag l p frame A B h w = absurd w
+under-act Closes (Uncut n c i) go base tag l p frame [] B h w = absurd (omega arith)
+under-act Closes (Uncut n c i) go base tag l p frame (waits f item ∷ A) B h w = h l p (snoc f item frame) A (omega arith)
+under-act (Leaf class) (Cut n c i) go base tag l p frame A B h w = absurd w
+under-act (Leaf class) (Uncut n c i) go base tag l p frame A B h w = by-arg (readArg tag class base l p)
   where
     by-arg : (x : Arg) → argTaken (λ m q f. go m q f (A ++ B)) l p frame x ≡ argTaken (λ m q f. go m q f A) l p frame x
     by-arg (arg.Refused fault) = refl
@@ -140,39 +140,39 @@ keeps-later base u s o ts l p h w =
 
 abbrev Cuts : ℕ → List ℕ → Type 0
 Cuts base ts =
-    (l : List ℕ) (p : ℕ) (frame : Forest) (below : List Open) (n c : ℕ) → back ts ≡ Cut n c
+    (l : List ℕ) (p : ℕ) (frame : Forest) (below : List Open) (n c g : ℕ) → back ts ≡ Cut n c g
     → ArgsAccepted (readTags base ts l p frame below)
     → Keeps base (scan (take n ts) l p (length below)) (readTags base ts l p frame below) (drop n ts) l p
 
-cut-act : (s : Sort) (k : Back) (base tag : ℕ) (ts l : List ℕ) (p : ℕ) (frame : Forest) (below : List Open) (n c : ℕ)
+cut-act : (s : Sort) (k : Back) (base tag : ℕ) (ts l : List ℕ) (p : ℕ) (frame : Forest) (below : List Open) (n c g : ℕ)
     → Cuts base ts → back ts ≡ k
-    → tagBefore s k ≡ Cut (suc n) c → ArgsAccepted (act s (λ m q f b. readTags base ts m q f b) base tag l p frame below)
+    → tagBefore s k ≡ Cut (suc n) c g → ArgsAccepted (act s (λ m q f b. readTags base ts m q f b) base tag l p frame below)
     → Keeps base (turn s (λ m q i. scan (take n ts) m q i) tag l p (length below))
     (act s (λ m q f b. readTags base ts m q f b) base tag l p frame below) (drop n ts) l p
 unfolding scan
-cut-act Opens (Cut m d) base tag ts l p frame below n c h e x w =
-    h l p nil (waits frame (arrayItem (base + p)) ∷ below) n c (let z : m ≡ n = cc in e ∙ cc) w
-cut-act Opens (Uncut zero d) base tag ts l p frame below n c h e x w =
+cut-act Opens (Cut m d i) base tag ts l p frame below n c g h e x w =
+    h l p nil (waits frame (arrayItem (base + p)) ∷ below) n c g (let z : m ≡ n = cc in e ∙ cc) w
+cut-act Opens (Uncut zero d i) base tag ts l p frame below n c g h e x w =
     let z : n ≡ 0 = (let y : suc n ≡ 1 = cc in omega arith) in
     let q : p + 0 ≡ p = omega arith in
     let shut : Closed (back ts) 0 = subst (λ (k : Back). Closed k 0) (sym e) (omega arith) in
-    subst (λ (n : ℕ). Keeps base (scan (take n ts) l p (suc (length below))) (readTags base ts l p nil (waits frame (arrayItem (base + p)) ∷ below))
-    (drop n ts) l p)
+    let below′ = waits frame (arrayItem (base + p)) ∷ below in
+    subst (λ (n : ℕ). Keeps base (scan (take n ts) l p (suc (length below))) (readTags base ts l p nil below′) (drop n ts) l p)
     (sym z)
     (record {
       lost = 0;
       inside = omega arith;
       scanned = refl;
-      same = under-law base ts l p nil [] (waits frame (arrayItem (base + p)) ∷ below) shut ∙ sym (later-none (readArgs base ts l p)) ∙ rw q;
+      same = under-law base ts l p nil [] below′ shut ∙ sym (later-none (readArgs base ts l p)) ∙ rw q;
       closed = shut;
     })
-cut-act Opens (Uncut (suc m) d) base tag ts l p frame below n c h e x w = absurd (clash x)
-cut-act Closes (Uncut m d) base tag ts l p frame below n c h e x w = absurd (clash x)
-cut-act Closes (Cut m d) base tag ts l p frame [] n c h e x w = absurd w
-cut-act Closes (Cut m d) base tag ts l p frame (waits f item ∷ b) n c h e x w =
-    h l p (snoc f item frame) b n c (let z : m ≡ n = cc in e ∙ cc) w
-cut-act (Leaf class) (Uncut m d) base tag ts l p frame below n c h e x w = absurd (clash x)
-cut-act (Leaf class) (Cut m d) base tag ts l p frame below n c h e x w =
+cut-act Opens (Uncut (suc m) d i) base tag ts l p frame below n c g h e x w = absurd (clash x)
+cut-act Closes (Uncut m d i) base tag ts l p frame below n c g h e x w = absurd (clash x)
+cut-act Closes (Cut m d i) base tag ts l p frame [] n c g h e x w = absurd w
+cut-act Closes (Cut m d i) base tag ts l p frame (waits f item ∷ b) n c g h e x w =
+    h l p (snoc f item frame) b n c g (let z : m ≡ n = cc in e ∙ cc) w
+cut-act (Leaf class) (Uncut m d i) base tag ts l p frame below n c g h e x w = absurd (clash x)
+cut-act (Leaf class) (Cut m d i) base tag ts l p frame below n c g h e x w =
     rw (any-base tag class 0 base l p) (by-arg (readArg tag class base l p) refl w)
   where
     by-arg : (y : Arg) → y ≡ readArg tag class base l p → ArgsAccepted (argTaken (λ m q f. readTags base ts m q f below) l p frame y)
@@ -184,44 +184,46 @@ cut-act (Leaf class) (Cut m d) base tag ts l p frame below n c h e x w =
         let o = readTags base ts (drop used l) (p + used) f below in
         keeps-later base used (scan (take n ts) (drop used l) (p + used) (length below)) o (drop n ts) l p
         (given-within tag class base l p r)
-        (h (drop used l) (p + used) f below n c (let z : m ≡ n = cc in e ∙ cc) (accepted-later used o v))
+        (h (drop used l) (p + used) f below n c g (let z : m ≡ n = cc in e ∙ cc) (accepted-later used o v))
 
 -- how many tags a cut takes of those from some tag on
-first-le : (s : Sort) (k : Back) (n c : ℕ) → tagBefore s k ≡ Cut n c → (m : ℕ) → ((j d : ℕ) → k ≡ Cut j d → j ≤ m) → (1 ≤ n) × (n ≤ suc m)
-first-le Opens (Cut j d) n c e m h = let z : suc j ≡ n = cc in (omega arith, omega (arith, h j d refl))
-first-le Opens (Uncut zero d) n c e m h = let z : 1 ≡ n = cc in (omega arith, omega arith)
-first-le Opens (Uncut (suc j) d) n c e m h = absurd (clash e)
-first-le Closes (Cut j d) n c e m h = let z : suc j ≡ n = cc in (omega arith, omega (arith, h j d refl))
-first-le Closes (Uncut j d) n c e m h = absurd (clash e)
-first-le (Leaf class) (Cut j d) n c e m h = let z : suc j ≡ n = cc in (omega arith, omega (arith, h j d refl))
-first-le (Leaf class) (Uncut j d) n c e m h = absurd (clash e)
+first-le : (s : Sort) (k : Back) (n c g : ℕ) → tagBefore s k ≡ Cut n c g → (m : ℕ)
+    → ((j d i : ℕ) → k ≡ Cut j d i → j ≤ m) → (1 ≤ n) × (n ≤ suc m)
+first-le Opens (Cut j d i) n c g e m h = let z : suc j ≡ n = cc in (omega arith, omega (arith, h j d i refl))
+first-le Opens (Uncut zero d i) n c g e m h = let z : 1 ≡ n = cc in (omega arith, omega arith)
+first-le Opens (Uncut (suc j) d i) n c g e m h = absurd (clash e)
+first-le Closes (Cut j d i) n c g e m h = let z : suc j ≡ n = cc in (omega arith, omega (arith, h j d i refl))
+first-le Closes (Uncut j d i) n c g e m h = absurd (clash e)
+first-le (Leaf class) (Cut j d i) n c g e m h = let z : suc j ≡ n = cc in (omega arith, omega (arith, h j d i refl))
+first-le (Leaf class) (Uncut j d i) n c g e m h = absurd (clash e)
 
-cut-few : (ts : List ℕ) (n c : ℕ) → back ts ≡ Cut n c → n ≤ length ts
+cut-few : (ts : List ℕ) (n c g : ℕ) → back ts ≡ Cut n c g → n ≤ length ts
 unfolding back
-cut-few [] n c e = absurd (clash e)
-cut-few (t ∷ ts) n c e = first-le (sortOf t) (back ts) n c e (length ts) (λ j d x. cut-few ts j d x) .1
+cut-few [] n c g e = absurd (clash e)
+cut-few (t ∷ ts) n c g e = first-le (sortOf t) (back ts) n c g e (length ts) (λ j d i x. cut-few ts j d i x) .1
 
 cut-law : (base : ℕ) (ts : List ℕ) → Cuts base ts
 unfolding readTags back scan
-cut-law base [] l p frame below n c e w = absurd (clash e)
-cut-law base (t ∷ ts) l p frame below zero c e w =
-    absurd (omega (arith, first-le (sortOf t) (back ts) 0 c e (length ts) (λ j d x. cut-few ts j d x)))
-cut-law base (t ∷ ts) l p frame below (suc n) c e w = cut-act (sortOf t) (back ts) base t ts l p frame below n c (cut-law base ts) refl e w
+cut-law base [] l p frame below n c g e w = absurd (clash e)
+cut-law base (t ∷ ts) l p frame below zero c g e w =
+    absurd (omega (arith, first-le (sortOf t) (back ts) 0 c g e (length ts) (λ j d i x. cut-few ts j d i x)))
+cut-law base (t ∷ ts) l p frame below (suc n) c g e w =
+    cut-act (sortOf t) (back ts) base t ts l p frame below n c g (cut-law base ts) refl e w
 
 -- ---- as the second reading cites it
 
 -- a cut takes no more tags than there are
-pub cut-le : {n c : ℕ} (ts : List ℕ) → Cut n c ≡ back ts → n ≤ length ts
-cut-le {n} {c} ts e = cut-few ts n c (sym e)
+pub cut-le : {n c g : ℕ} (ts : List ℕ) → Cut n c g ≡ back ts → n ≤ length ts
+cut-le {n} {c} {g} ts e = cut-few ts n c g (sym e)
 
 -- tags that are not cut close all that they open
-pub all-closed : {n c : ℕ} (k : Back) → Uncut n c ≡ k → AllClosed k
-all-closed (Uncut m d) e = tt
-all-closed (Cut m d) e = absurd (clash e)
+pub all-closed : {n c g : ℕ} (k : Back) → Uncut n c g ≡ k → AllClosed k
+all-closed (Uncut m d i) e = tt
+all-closed (Cut m d i) e = absurd (clash e)
 
 closed-all : (k : Back) → Closed k 0 → AllClosed k
-closed-all (Uncut n c) w = tt
-closed-all (Cut n c) w = w
+closed-all (Uncut n c i) w = tt
+closed-all (Cut n c i) w = w
 
 -- what is left of tags and data, as it is lent: the tags from n on, and the data after `used` bytes
 abbrev pub rest : ℕ → List ℕ → List ℕ → ℕ → ℕ → ℕ → Args
@@ -234,9 +236,9 @@ pub record CutAt (base : ℕ) (ts l : List ℕ) (p n used : ℕ) : Type 0 where
   pub accepted : ArgsAccepted (rest base ts l p n used)
   pub kept : keptOf (readArgs base ts l p) ≡ keptOf (rest base ts l p n used)
 
-module _ (base : ℕ) (ts l : List ℕ) (p : ℕ) {n c : ℕ} (e : Cut n c ≡ back ts) (a : ArgsAccepted (readArgs base ts l p)) where
+module _ (base : ℕ) (ts l : List ℕ) (p : ℕ) {n c g : ℕ} (e : Cut n c g ≡ back ts) (a : ArgsAccepted (readArgs base ts l p)) where
   keeps : Keeps base (scan (take n ts) l p 0) (readArgs base ts l p) (drop n ts) l p
-  keeps = cut-law base ts l p nil [] n c (sym e) a
+  keeps = cut-law base ts l p nil [] n c g (sym e) a
 
   -- the first tags of what is accepted are not refused
   pub cut-never : {fault : Fault} → Refused fault ≡ scan (take n ts) l p 0 → ⊥

@@ -1,3 +1,4 @@
+pub mod Nested
 pub mod Counts
 pub mod Frames
 pub mod Kept

@@ -2,7 +2,7 @@
 use mathlib.Core.Path.{_≡_, refl, ap, sym, subst, _∙_}
 use mathlib.Core.Logic.{⊎-elim}
 use mathlib.Core.List.{List, [], _∷_, _++_, append-assoc, append-nil}
-use Prim.Native.Nat.{ℕ, zero, suc, _+_, _≤_}
+use Prim.Native.Nat.{ℕ, zero, suc, _+_, _≤_, max}
 use native.Mathlib.Omega.{arith}
 use borrow.Author.Tests.{ne-eqb}
 use lib.ListN.{drop}
@@ -29,7 +29,8 @@ use Rattle.arguments.proofs.Kept.{later-none, later-later, Deep, deep-l
 -- no array stays open, and n more are closed
 record Closing (n : ℕ) (k : Back) : Type 0 where
   count : ℕ
-  is : k ≡ Uncut n count
+  deep : ℕ
+  is : k ≡ Uncut n count deep
 
 other : {tag : ℕ} → (tag ≡ arrayKind → ⊥) → (tag ≡ 93 → ⊥) → sortOf tag ≡ Leaf (classOf tag)
 unfolding sortOf
@@ -40,15 +41,15 @@ unfolding back sortOf
 closing rest n nothing w = w
 closing rest n (another tag a c b) w =
     let v = closing rest n b w in
-    record { count = suc (v .count); is = rw (other a c, v .is) }
+    record { count = suc (v .count); deep = v .deep; is = rw (other a c, v .is) }
 closing rest n (matched {within} {tags} b d) w =
     let v = closing rest n d w in
-    let u = closing (93 ∷ (tags ++ rest)) (suc n) b (record { count = v .count; is = ap (tagBefore Closes) (v .is) }) in
-    record { count = suc (u .count); is = rw (append-assoc within (93 ∷ tags) rest, u .is) }
+    let u = closing (93 ∷ (tags ++ rest)) (suc n) b (record { count = v .count; deep = v .deep; is = ap (tagBefore Closes) (v .is) }) in
+    record { count = suc (u .count); deep = max (u .deep) (suc n); is = rw (append-assoc within (93 ∷ tags) rest, u .is) }
 
 balanced-back : {ts : List ℕ} → Balanced ts → Closing 0 (back ts)
 unfolding back
-balanced-back {ts} b = subst (λ (x : List ℕ). Closing 0 (back x)) (append-nil ts) (closing [] 0 b (record { count = 0; is = refl }))
+balanced-back {ts} b = subst (λ (x : List ℕ). Closing 0 (back x)) (append-nil ts) (closing [] 0 b (record { count = 0; deep = 0; is = refl }))
 
 -- so what waits below changes nothing
 alone : (base : ℕ) (post l : List ℕ) (p : ℕ) (below : List Open) → Balanced post → readTags base post l p nil below ≡ readArgs base post l p
@@ -97,7 +98,8 @@ module _ (base : ℕ) (post rest : List ℕ)
 pub since-last : KeptSinceLast
 unfolding readTags sortOf
 since-last base pre post l p b =
-    front base post (arrayKind ∷ post) (λ m q frame below. alone base post m q (waits frame (arrayItem (base + q)) ∷ below) b) pre l p nil []
+    front base post (arrayKind ∷ post)
+    (λ m q frame below. alone base post m q (waits frame (arrayItem (base + q)) ∷ below) b) pre l p nil []
 
 -- ---- every row of tags that is accepted ends so
 
@@ -137,7 +139,7 @@ unfolding back sortOf
 closers-back (last b) = balanced-back b
 closers-back (more {n} {rest = rest} b w) =
     let v = closers-back w in
-    closing (93 ∷ rest) (suc n) b (record { count = v .count; is = ap (tagBefore Closes) (v .is) })
+    closing (93 ∷ rest) (suc n) b (record { count = v .count; deep = v .deep; is = ap (tagBefore Closes) (v .is) })
 
 -- tags that are accepted end with no array open, or have a last '[' that stays open
 pub ends-so : EndsSo

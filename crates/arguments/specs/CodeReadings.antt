@@ -2,16 +2,17 @@
 -- says.
 use Prim.Native.Nat.{ℕ}
 use mathlib.Core.List.{List}
-use Rattle.node.specs.Forest.{Forest, nil, size}
+use Rattle.node.specs.Forest.{Forest, nil, size, depth}
 use Rattle.node.specs.Records.{TableRoom}
 use Rattle.arguments.specs.Arguments.{Args, refused, args}
 use Rattle.arguments.specs.declared.Measured.{Measured}
 use Rattle.arguments.specs.declared.Measured.the-variants.{Kept, Refused}
 
--- the first reading: how many records the kept arguments take and how many bytes were read; or the fault
+-- the first reading: how many records the kept arguments take, how deep arrays are nested in them, and how many bytes were read; or the
+-- fault
 unfoldable pub measured : Args → Measured
 measured (refused fault) = Refused fault
-measured (args kept used) = Kept (size kept) used
+measured (args kept used) = Kept (size kept) (depth kept) used
 
 -- the arguments that are kept; the first line is never met where records are written, by the field `accepted` of `ArgsRoom`
 abbrev pub keptOf : Args → Forest

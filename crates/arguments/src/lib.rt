@@ -15,22 +15,34 @@ ghost use Rattle.arguments.specs.CodeReadings.{measured, keptOf, ArgsRoo
 
 // What the first reading of the arguments answers.
 pub enum Measured {
-    // How many records the kept arguments take, and how many bytes of data were read.
-    Kept { count: usize, used: usize },
+    // How many records the kept arguments take, how deep arrays are nested in them, and how many bytes of data were read.
+    Kept {
+        count: usize,
+        depth: usize,
+        used: usize,
+    },
     Refused(Fault),
 }
 
 // First reading of the arguments: nothing is written. Their offsets don't matter here, so it takes no `base`.
 //
-// Ruled out: the bytes in place of the records; padding counted from the arguments, and not from the frame.
+// Ruled out: an array that is lost counted in the depth; padding counted from the arguments, and not from the frame.
 pub fn measure_osc_args(tags: &[u8], input: &[u8], pos: usize) -> Measured
     requires { ⌜ pos + length (now input) ≤ longest ⌝ }
     ensures { λ r. ⌜ ((base : ℕ) → r ≡ measured (readArgs base (now (tags .entry)) (now (input .entry)) pos)) ⌝ }
 {
     match scan::scan_args(tags, input, pos) {
         Scanned::Used(used) => match scan::look_back(tags) {
-            Back::Uncut { closed: _, count } => Measured::Kept { count, used },
-            Back::Cut { first: _, count } => Measured::Kept { count, used },
+            Back::Uncut {
+                closed: _,
+                count,
+                depth,
+            } => Measured::Kept { count, depth, used },
+            Back::Cut {
+                first: _,
+                count,
+                depth,
+            } => Measured::Kept { count, depth, used },
         },
         Scanned::Refused(fault) => Measured::Refused(fault),
     }
@@ -58,8 +70,13 @@ pub fn read_osc_args(
         Back::Uncut {
             closed: _,
             count: _,
+            depth: _,
         } => records::fill_whole(tags, input, base, pos, table, index),
-        Back::Cut { first, count: _ } => match scan::scan_args(&tags[..first], input, pos) {
+        Back::Cut {
+            first,
+            count: _,
+            depth: _,
+        } => match scan::scan_args(&tags[..first], input, pos) {
             Scanned::Used(used) => {
                 records::fill_whole(
                     &tags[first..],

@@ -118,6 +118,11 @@ nested =
     hex (0x2362756E ∷ 0x646C6500 ∷ 0x00000000 ∷ 0x00000001 ∷ 0x00000014
     ∷ 0x2362756E ∷ 0x646C6500 ∷ 0x00000000 ∷ 0x00000002 ∷ 0x00000000 ∷ [])
 
+-- an array in a message in a bundle
+abbrev holding : List ℕ
+holding =
+    hex (0x2362756E ∷ 0x646C6500 ∷ 0x00000000 ∷ 0x00000001 ∷ 0x0000000C ∷ 0x2F610000 ∷ 0x2C5B545D ∷ 0x00000000 ∷ [])
+
 -- inputs that are easily misread
 abbrev pub misread : List Case
 misread =
@@ -171,6 +176,21 @@ misread =
     ∷ call Udp nested 160 65 (refused 13) []
     ∷ call Udp nested 39 1 (refused 9) []
     ∷ call Udp nested 39 2 (refused 10) []
+    -- depth counts the arrays that are kept, with the bundles around them: P6 has none, '[[T]' one, and the last one stands in a bundle
+    ∷ call Udp (hex (0x2F610000 ∷ 0x2C695B69 ∷ 0x00000000 ∷ 0x00000001 ∷ 0x00000002 ∷ [])) 160 0 (packets 2 0)
+    (hex (0x2F000000 ∷ 0x00000002 ∷ 0x00000000 ∷ 0x00000002 ∷ 0x00000000
+    ∷ 0x69000000 ∷ 0x00000002 ∷ 0x00000002 ∷ 0x00000000 ∷ 0x00000010 ∷ []))
+    ∷ call Udp (hex (0x2F610000 ∷ 0x2C5B5B54 ∷ 0x5D000000 ∷ [])) 160 0 (refused 9) []
+    ∷ call Udp (hex (0x2F610000 ∷ 0x2C5B5B54 ∷ 0x5D000000 ∷ [])) 160 1 (packets 3 0)
+    (hex (0x2F000000 ∷ 0x00000003 ∷ 0x00000000 ∷ 0x00000002 ∷ 0x00000000
+    ∷ 0x5B000000 ∷ 0x00000003 ∷ 0x00000000 ∷ 0x00000000 ∷ 0x0000000C
+    ∷ 0x54000000 ∷ 0x00000003 ∷ 0x00000000 ∷ 0x00000000 ∷ 0x0000000C ∷ []))
+    ∷ call Udp holding 160 1 (refused 9) []
+    ∷ call Udp holding 160 2 (packets 4 0)
+    (hex (0x23000000 ∷ 0x00000004 ∷ 0x00000000 ∷ 0x00000001 ∷ 0x00000000
+    ∷ 0x2F000000 ∷ 0x00000004 ∷ 0x00000014 ∷ 0x00000002 ∷ 0x00000014
+    ∷ 0x5B000000 ∷ 0x00000004 ∷ 0x00000000 ∷ 0x00000000 ∷ 0x00000020
+    ∷ 0x54000000 ∷ 0x00000004 ∷ 0x00000000 ∷ 0x00000000 ∷ 0x00000020 ∷ []))
     -- a late frame's 2 comes before an early one's 9
     ∷ call TcpVec (hex (0x00000000 ∷ []) ++ (nested ++ hex (0x00000000 ∷ []))) 160 1 (refused 2) []
     ∷ []
@@ -181,4 +201,5 @@ unfolding decoded size depth snoc number bytes classOf sortOf readText readArg r
     packetBy elementBy elementsBy packetAt readPacket udp readFrame tcp framesAt readFrames tcpVec stored recordsOf recordOf
 traps =
     ends and ends and ends and ends and ends and ends and ends and ends and ends and ends and ends and ends and ends and ends and ends
-    and ends and ends and ends and ends and ends and ends and ends and ends and ends and ends and ends and none
+    and ends and ends and ends and ends and ends and ends and ends and ends and ends and ends and ends and ends and ends and ends and ends
+    and ends and none

@@ -29,7 +29,7 @@ pub enum FrameExtent {
 pub enum Total {
     // The records of all the trees, and the bytes left over.
     Trees { count: usize, left: usize },
-    // In one of the trees bundles are nested deeper than the limit.
+    // In one of the trees bundles and arrays are nested deeper than the limit.
     Deep,
     Waiting,
     Refused(Fault),

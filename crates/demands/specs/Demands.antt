@@ -30,7 +30,7 @@ answerTo rule limit msg table = decoded rule (capacity table) limit msg
 
 -- ---- demand 2: the round trip
 
--- a table that demand 2 speaks of: well formed, '/'-led and without NUL, at most 64 bundles deep, and fitting 65,535 bytes
+-- a table that demand 2 speaks of: well formed, '/'-led and without NUL, of depth at most 64, and fitting 65,535 bytes
 pub record Playable (t : List ℕ) (count : ℕ) (source : List ℕ) (item : Item) (inside : Forest) : Type 0 where
   pub bytes : Bytes t
   pub sourced : Bytes source

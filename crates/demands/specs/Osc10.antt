@@ -89,10 +89,16 @@ unfoldable mutual
   AllAllowed none = Unit {0}
   AllAllowed (also packet rest) = Allowed packet × AllAllowed rest
 
+-- how deep arrays are nested: an array is one level more than what is in it (document 02, Ticket 4)
+unfoldable pub argumentsDeep : OscArguments → ℕ
+argumentsDeep end = 0
+argumentsDeep (atom value rest) = argumentsDeep rest
+argumentsDeep (array within rest) = max (argumentsDeep within + 1) (argumentsDeep rest)
+
 unfoldable mutual
-  -- how deep bundles are nested: a bundle has depth 1, one in it 2
+  -- how deep bundles and arrays are nested along a path: a bundle is one level, and a message none (document 02, Ticket 4)
   pub deep : Packet → ℕ
-  deep (message address arguments) = 0
+  deep (message address arguments) = argumentsDeep arguments
   deep (bundle seconds fractional elements) = deepAll elements + 1
 
   -- the depth of the deepest

@@ -28,7 +28,7 @@ oscFrame l = oscInt32 (length l) ++ l
 
 -- ---- what is read
 
--- what holds of every packet that is allowed and at most 64 bundles deep, and of its bytes as a decoder is handed them, at most 65,535
+-- what holds of every packet that is allowed and of depth at most 64, and of its bytes as a decoder is handed them, at most 65,535
 abbrev pub OfAllowed : (List ℕ → List ℕ) → (Packet → List ℕ → Type 0) → Type 0
 OfAllowed handed Is =
     (packet : Packet) (l : List ℕ) → Allowed packet → Spells packet l → length (handed l) ≤ longest → deep packet ≤ deepest

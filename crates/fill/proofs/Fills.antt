@@ -225,13 +225,13 @@ module _ {m used : ℕ} {tags rest : List ℕ} (base : ℕ) (item : Item) (l : L
       → T' ≡ stored i (treeOf (readMessage base item l p)) T
   args-stored i T w = stored-after used given with-args i T w
 
-  module _ {count taken : ℕ} (g : measure.Kept count taken ≡ measured (readArgs base tags rest (p + used))) where
+  module _ {count deep taken : ℕ} (g : measure.Kept count deep taken ≡ measured (readArgs base tags rest (p + used))) where
     -- arguments that were measured have their message known
     pub kept-known : Known given (1 + count)
     unfolding measured size
     kept-known = by-args (readArgs base tags rest (p + used)) g
       where
-        by-args : (o : Args) → measure.Kept count taken ≡ measured o → Known (messageWith item o) (1 + count)
+        by-args : (o : Args) → measure.Kept count deep taken ≡ measured o → Known (messageWith item o) (1 + count)
         by-args (refused j) g = let z : _≡_ {A = ℕ} 0 1 = cc in absurd (omega arith)
         by-args (args f u) g = let z : count ≡ size f = cc in record { some = omega arith; records = omega arith }
 
@@ -239,7 +239,7 @@ module _ {m used : ℕ} {tags rest : List ℕ} (base : ℕ) (item : Item) (l : L
     unfolding measured
     kept-answer = by-args (readArgs base tags rest (p + used)) g
       where
-        by-args : (o : Args) → measure.Kept count taken ≡ measured o
+        by-args : (o : Args) → measure.Kept count deep taken ≡ measured o
             → Wrote (1 + count) (p + used + taken) ≡ reread (p + used) (messageWith item o)
         by-args (refused j) g = let z : _≡_ {A = ℕ} 0 1 = cc in absurd (omega arith)
         by-args (args f u) g = let z : count ≡ size f = cc in let y : taken ≡ u = cc in rw (z, y)

@@ -67,7 +67,11 @@ fn decode_message(
             let tags = packet::tags_in(&input[0..length]);
             let rest = &input[used..];
             match arguments::measure_osc_args(tags, rest, pos + used) {
-                Measured::Kept { count, used: data } => {
+                Measured::Kept {
+                    count,
+                    depth: _,
+                    used: data,
+                } => {
                     put_message(tags, rest, base, pos + used, item, table, index, 1 + count);
                     Reread::Wrote {
                         count: 1 + count,

@@ -25,7 +25,7 @@ use Rattle.packet.specs.Packet.{filling}
 use Rattle.packet.specs.Heads.{tagsIn}
 use Rattle.packet.specs.Packet.{readPacket, readElements, readBundle, readElement, usedBy, treesIn}
 use Rattle.packet.specs.Heads.{startOf, sizeOf}
-use Rattle.measure.specs.CodeMeasure.{extent}
+use Rattle.measure.specs.CodeMeasure.{fitting, extent}
 use Rattle.packet.specs.declared.Start.the-variants as start
 use Rattle.packet.specs.declared.ElementSize.the-variants as sized
 use Rattle.measure.specs.declared.Extent.{Extent}
@@ -43,9 +43,9 @@ refused-is room p e = sym (ap (extent room p) e)
 -- ---- messages
 
 -- the extent of a message by that of its arguments
-abbrev pub messageExtent : ℕ → Measured → Extent
-messageExtent p (measure.Kept count used) = Tree (1 + count) (p + used)
-messageExtent p (measure.Refused k) = Refused k
+abbrev pub messageExtent : ℕ → ℕ → Measured → Extent
+messageExtent room p (measure.Kept count deep used) = fitting room deep (1 + count) (p + used)
+messageExtent room p (measure.Refused k) = Refused k
 
 -- n bytes before a packet move its end
 pub extent-after : (room p n : ℕ) (o : Out) → extent room (p + n) o ≡ extent room p (after n o)
@@ -53,20 +53,21 @@ unfolding extent
 extent-after room p n (fault k) = refl
 extent-after room p n (one item f u) = rw add-assoc
 
-extent-message : (room p offset n : ℕ) (o : Args) → messageExtent p (measured o) ≡ extent room p (messageWith (messageItem offset n) o)
+extent-message : (room p offset n : ℕ) (o : Args)
+    → messageExtent room p (measured o) ≡ extent room p (messageWith (messageItem offset n) o)
 unfolding extent measured
 extent-message room p offset n (refused k) = refl
-extent-message room p offset n (args f u) = rw (leb·zero room)
+extent-message room p offset n (args f u) = refl
 
 module _ (base offset n room : ℕ) (l : List ℕ) (p : ℕ) where
   -- the extent of a message is that of its arguments, after the type text
   pub message-exit : {m used : ℕ} {x : Measured} {tags rest : List ℕ} → Found m used ≡ readText l p → tags ≡ tagsIn (take m l)
       → rest ≡ drop used l
       → x ≡ measured (readArgs base tags rest (p + used))
-      → messageExtent (p + used) x ≡ extent room p (readMessage base (messageItem offset n) l p)
+      → messageExtent room (p + used) x ≡ extent room p (readMessage base (messageItem offset n) l p)
   message-exit {m} {used} {x} e t s g =
       let y : x ≡ measured (readArgs base (tagsIn (take m l)) (drop used l) (p + used)) = rw (t, s) at g in
-      ap (messageExtent (p + used)) y
+      ap (messageExtent room (p + used)) y
       ∙ extent-message room (p + used) offset n (readArgs base (tagsIn (take m l)) (drop used l) (p + used))
       ∙ extent-after room p used _
       ∙ ap (extent room p) (sym (types-found base (messageItem offset n) l p e))

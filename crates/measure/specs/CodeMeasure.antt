@@ -10,12 +10,16 @@ use Rattle.measure.specs.declared.Extent.the-variants.{Tree, Deep, Refus
 use Rattle.measure.specs.declared.Skimmed.{Skimmed}
 use Rattle.measure.specs.declared.Skimmed.the-variants.{Takes, Fails}
 
--- a packet at position p, where `room` levels of bundles may be opened yet: its records and where it ends; or that it is too
+-- a packet that ends at `next`: its records; or that it is deeper than the `room` levels that may be opened yet
+abbrev pub fitting : ℕ → ℕ → ℕ → ℕ → Extent
+fitting room deep count next = cond (leb deep room) (Tree count next) (Deep next)
+
+-- a packet at position p, where `room` levels of bundles and arrays may be opened yet: its records and where it ends; or that it is too
 -- deep, and where it ends
 unfoldable pub extent : ℕ → ℕ → Out → Extent
 extent room p (fault k) = Refused k
 extent room p (one item inside used) =
-    cond (leb (level (item .kind) (depth inside)) room) (Tree (1 + size inside) (p + used)) (Deep (p + used))
+    fitting room (level (item .kind) (depth inside)) (1 + size inside) (p + used)
 
 -- whether an element is accepted, and its size then
 abbrev pub skimmed : Out → Skimmed

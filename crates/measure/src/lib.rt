@@ -1,4 +1,4 @@
-// The first reading of a packet: it writes nothing, and goes no deeper than the limit on nested bundles.
+// The first reading of a packet: it writes nothing, and goes no deeper than the limit on nested bundles and arrays.
 use arguments::Measured;
 use packet::ElementSize;
 use packet::Start;
@@ -9,13 +9,13 @@ ghost use Prim.Native.Nat.{ℕ, _+_, _≤_};
 ghost use lib.ListN.{length};
 ghost use Rattle.wire.specs.Limits.{longest};
 ghost use Rattle.packet.specs.Packet.{messageItem, readMessage, readPacket, readElements, readBundle, readElement, usedBy};
-ghost use Rattle.measure.specs.CodeMeasure.{extent, skimmed, accepted};
+ghost use Rattle.measure.specs.CodeMeasure.{fitting, extent, skimmed, accepted};
 
 // What the first reading of a packet answers; `next` is the position after its last byte.
 pub enum Extent {
     // Its records.
     Tree { count: usize, next: usize },
-    // Its bundles are nested deeper than the limit.
+    // Its bundles and arrays are nested deeper than the limit.
     Deep { next: usize },
     Refused(Fault),
 }
@@ -27,7 +27,7 @@ pub enum Skimmed {
     Fails,
 }
 
-// A packet at `pos`; `room` levels of bundles may be opened yet.
+// A packet at `pos`; `room` levels of bundles and arrays may be opened yet.
 //
 // Ruled out: padding counted from the start of an element; a bundle too deep where there is room for one level.
 pub fn measure_packet(input: &[u8], pos: usize, room: usize) -> Extent
@@ -35,27 +35,38 @@ pub fn measure_packet(input: &[u8], pos: usize, room: usize) -> Extent
     ensures { λ r. ⌜ ((base : ℕ) → r ≡ extent room pos (readPacket base (now (input .entry)) pos)) ⌝ }
 {
     match packet::read_start(input, pos) {
-        Start::Message { length: _, used } => measure_message(&input[used..], pos + used),
+        Start::Message { length: _, used } => measure_message(&input[used..], pos + used, room),
         Start::Bundle { used } => measure_bundle(&input[used..], pos + used, room),
         Start::Refused(fault) => Extent::Refused(fault),
     }
 }
 
-// What follows the address of a message: the type text, then the data.
+// A packet that is `depth` levels deep, has `count` records and ends at `next`.
+fn fit(room: usize, depth: usize, count: usize, next: usize) -> Extent
+    ensures { λ r. ⌜ r ≡ fitting room depth count next ⌝ }
+{
+    if room < depth {
+        return Extent::Deep { next };
+    }
+    Extent::Tree { count, next }
+}
+
+// What follows the address of a message: the type text, then the data. The message is as deep as its arguments.
 //
-// Ruled out: a count without the message's own record; an end that leaves out the type text's padding.
-pub fn measure_message(input: &[u8], pos: usize) -> Extent
+// Ruled out: a count without the message's own record; too deep where arrays are nested exactly as deep as there is room.
+pub fn measure_message(input: &[u8], pos: usize, room: usize) -> Extent
     requires { ⌜ pos + length (now input) ≤ longest ⌝ }
-    ensures { λ r. ⌜ ((base offset n room : ℕ) → r ≡ extent room pos (readMessage base (messageItem offset n) (now (input .entry)) pos)) ⌝ }
+    ensures { λ r. ⌜ ((base offset n : ℕ) → r ≡ extent room pos (readMessage base (messageItem offset n) (now (input .entry)) pos)) ⌝ }
 {
     match text::read_osc_string(input, pos) {
         Text::Found { length, used } => {
             let tags = packet::tags_in(&input[0..length]);
             match arguments::measure_osc_args(tags, &input[used..], pos + used) {
-                Measured::Kept { count, used: data } => Extent::Tree {
-                    count: 1 + count,
-                    next: pos + used + data,
-                },
+                Measured::Kept {
+                    count,
+                    depth,
+                    used: data,
+                } => fit(room, depth, 1 + count, pos + used + data),
                 Measured::Refused(fault) => Extent::Refused(fault),
             }
         }
@@ -64,7 +75,7 @@ pub fn measure_message(input: &[u8], pos: usize) -> Extent
 }
 
 // What follows "#bundle". Where the limit is reached, or was passed in an element, no bundle is opened any more: the
-// elements that are left say where the bundle ends.
+// elements that are left are skimmed, and say where the bundle ends.
 fn measure_bundle(input: &[u8], pos: usize, room: usize) -> Extent
     requires { ⌜ pos + length (now input) ≤ longest ⌝ }
     ensures { λ r. ⌜ ((base start : ℕ) → r ≡ extent room pos (readBundle base start (now (input .entry)) pos)) ⌝ }
@@ -158,7 +169,7 @@ fn is_packet(input: &[u8], pos: usize) -> bool
 {
     match packet::read_start(input, pos) {
         Start::Message { length: _, used } => {
-            match measure_message(&input[used..], pos + used) {
+            match measure_message(&input[used..], pos + used, 0) {
                 Extent::Tree { count: _, next: _ } => true,
                 Extent::Deep { next: _ } => true,
                 Extent::Refused(_) => false,

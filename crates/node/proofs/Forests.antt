@@ -1,9 +1,9 @@
--- A forest with one node more at its end: how many nodes it has, and which records.
+-- A forest with one node more at its end: how many nodes it has, how deep it is, and which records.
 use mathlib.Core.Path.{_≡_}
 use mathlib.Core.List.{_++_, append-assoc}
-use Prim.Native.Nat.{ℕ, _+_}
+use Prim.Native.Nat.{ℕ, _+_, max}
 use native.Mathlib.Omega.{arith}
-use Rattle.node.specs.Forest.{Forest, nil, node, size, snoc}
+use Rattle.node.specs.Forest.{Forest, nil, node, size, level, depth, snoc}
 use Rattle.node.specs.Records.{recordsOf}
 use Rattle.node.specs.declared.record.Item.{Item}
 
@@ -13,7 +13,13 @@ unfolding snoc size
 size-snoc nil item g = omega arith
 size-snoc (node item′ f′ rest) item g = omega (arith, size-snoc rest item g)
 
--- and that node's records after its own
+-- it is as deep as the deeper of the two
+pub depth-snoc : (f : Forest) (item : Item) (g : Forest) → depth (snoc f item g) ≡ max (depth f) (level (item .kind) (depth g))
+unfolding snoc depth
+depth-snoc nil item g = omega arith
+depth-snoc (node item′ f′ rest) item g = omega (arith, depth-snoc rest item g)
+
+-- its records are that node's after its own
 pub records-snoc : (i : ℕ) (f : Forest) (item : Item) (g : Forest)
     → recordsOf i (snoc f item g) ≡ recordsOf i f ++ recordsOf (i + size f) (node item g nil)
 unfolding recordsOf snoc size

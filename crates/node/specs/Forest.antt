@@ -1,5 +1,5 @@
 -- The tree of a packet, and the trees of a list: document 01, "The node table".
-use mathlib.Core.Bool.{cond}
+use mathlib.Core.Bool.{Bool, cond}
 use mathlib.Core.List.{[], _∷_}
 use Prim.Native.Nat.{ℕ, _+_, max}
 use Rattle.node.specs.Tags.{bundleKind, arrayKind, among}
@@ -15,9 +15,13 @@ unfoldable pub size : Forest → ℕ
 size nil = 0
 size (node item inside rest) = 1 + size inside + size rest
 
--- a node whose content is d deep: "bundles and arrays together", one level each; a message adds none, and hands on what is in it (Ticket 4)
+-- what is a level: "bundles and arrays together" (Ticket 4)
+abbrev pub isLevel : ℕ → Bool
+isLevel kind = among kind (bundleKind ∷ arrayKind ∷ [])
+
+-- a node whose content is d deep: a level is one more; a message adds none, and hands on what is in it (Ticket 4)
 abbrev pub level : ℕ → ℕ → ℕ
-level kind d = cond (among kind (bundleKind ∷ arrayKind ∷ [])) (d + 1) d
+level kind d = cond (isLevel kind) (d + 1) d
 
 -- how deep bundles and arrays are nested "along any path" of the trees (Ticket 4): what refusal 9 speaks of
 unfoldable pub depth : Forest → ℕ

@@ -57,7 +57,7 @@ leaf tag e =
     rw (n, m)
 
 -- they are all kept
-pub flat : (tags : List ℕ) → brackets tags ≡ false → Uncut 0 (length tags) ≡ back tags
+pub flat : (tags : List ℕ) → brackets tags ≡ false → Uncut 0 (length tags) 0 ≡ back tags
 unfolding back
 flat [] e = refl
 flat (tag ∷ tags) e =

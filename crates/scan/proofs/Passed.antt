@@ -47,8 +47,8 @@ any-base tag String base base′ l p = used-text tag (base + p) (base′ + p) (r
 any-base tag Blob base base′ l p = used-there 4 l _ _ (used-there (reach p (4 + number 4 l)) l _ _ refl)
 any-base tag Scalar base base′ l p =
     used-there 4 l _ _
-    (used-chosen (isScalar (number 4 l)) (Given (argItem tag (base + p) (number 4 l) 0) 4) (Given (argItem tag (base′ + p) (number 4 l) 0) 4)
-    (Refused NotScalar) refl)
+    (used-chosen (isScalar (number 4 l))
+    (Given (argItem tag (base + p) (number 4 l) 0) 4) (Given (argItem tag (base′ + p) (number 4 l) 0) 4) (Refused NotScalar) refl)
 any-base tag Unknown base base′ l p = refl
 
 -- how much is used of an argument that lies in its part

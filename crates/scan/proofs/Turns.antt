@@ -1,6 +1,6 @@
 -- Each turn of the two scans: what one tag does.
 use mathlib.Core.Path.{_≡_, refl, ap, sym, _∙_, subst}
-use Prim.Native.Nat.{ℕ, zero, suc, _+_, _-_, _<_, _≤_}
+use Prim.Native.Nat.{ℕ, zero, suc, _+_, _-_, _<_, _≤_, max}
 use mathlib.Core.List.{List, [], _∷_}
 use native.Mathlib.Nat.{zero-add}
 use native.Mathlib.Omega.{arith}
@@ -138,63 +138,66 @@ module _ {tags l : List ℕ} {pos : ℕ} {ts m : List ℕ} {at n : ℕ} (w : Sca
 
 -- ---- backward
 
-before-cut : (s : Sort) (n c : ℕ) → tagBefore s (Cut n c) ≡ Cut (suc n) c
-before-cut Opens n c = refl
-before-cut Closes n c = refl
-before-cut (Leaf class) n c = refl
+before-cut : (s : Sort) (n c d : ℕ) → tagBefore s (Cut n c d) ≡ Cut (suc n) c d
+before-cut Opens n c d = refl
+before-cut Closes n c d = refl
+before-cut (Leaf class) n c d = refl
 
-cut-up : (j : ℕ) (ts : List ℕ) (n c : ℕ) → j ≤ length ts → back (drop j ts) ≡ Cut n c → back ts ≡ Cut (j + n) c
+cut-up : (j : ℕ) (ts : List ℕ) (n c d : ℕ) → j ≤ length ts → back (drop j ts) ≡ Cut n c d → back ts ≡ Cut (j + n) c d
 unfolding back
-cut-up zero ts n c h e = e ∙ rw (zero-add n)
-cut-up (suc j) [] n c h e = absurd (omega arith)
-cut-up (suc j) (t ∷ ts) n c h e =
+cut-up zero ts n c d h e = e ∙ rw (zero-add n)
+cut-up (suc j) [] n c d h e = absurd (omega arith)
+cut-up (suc j) (t ∷ ts) n c d h e =
     let s : suc (j + n) ≡ suc j + n = omega arith in
-    ap (tagBefore (sortOf t)) (cut-up j ts n c (omega arith) e) ∙ before-cut (sortOf t) (j + n) c ∙ rw s
+    ap (tagBefore (sortOf t)) (cut-up j ts n c d (omega arith) e) ∙ before-cut (sortOf t) (j + n) c d ∙ rw s
 
--- the tags from j on close every array that they open, and n more; they give c records
-pub record Looking (tags : List ℕ) (j n c : ℕ) : Type 0 where
+-- the tags from j on close every array that they open, and n more; they give c records, whose arrays are nested d deep with those n
+pub record Looking (tags : List ℕ) (j n c d : ℕ) : Type 0 where
   pub inside : j ≤ length tags
   pub few : n + c + j ≤ length tags
-  pub whole : back (drop j tags) ≡ Uncut n c
+  pub whole : back (drop j tags) ≡ Uncut n c d
 
 -- at the end of the tags nothing was looked at
-pub looking-start : (tags : List ℕ) → Looking tags (length tags) 0 0
+pub looking-start : (tags : List ℕ) → Looking tags (length tags) 0 0 0
 unfolding back
 looking-start tags = record { inside = omega arith; few = omega arith; whole = rw (drop-length tags) }
 
-module _ {tags : List ℕ} {j n c : ℕ} (w : Looking tags j n c) (h : 0 < j) where
-  back-turn : {s : Sort} → s ≡ sortOf (getD tags (j - 1) 0) → back (drop (j - 1) tags) ≡ tagBefore s (Uncut n c)
+module _ {tags : List ℕ} {j n c d : ℕ} (w : Looking tags j n c d) (h : 0 < j) where
+  back-turn : {s : Sort} → s ≡ sortOf (getD tags (j - 1) 0) → back (drop (j - 1) tags) ≡ tagBefore s (Uncut n c d)
   unfolding back
   back-turn e =
       let up : j ≡ suc (j - 1) = omega arith in
-      let later : back (drop (suc (j - 1)) tags) ≡ Uncut n c = subst (λ (x : ℕ). back (drop x tags) ≡ Uncut n c) up (w .whole) in
+      let later : back (drop (suc (j - 1)) tags) ≡ Uncut n c d = subst (λ (x : ℕ). back (drop x tags) ≡ Uncut n c d) up (w .whole) in
       rw (drop-cons tags (j - 1) 0 (omega (arith, w .inside)), ← e, later)
 
   -- one tag more was looked at
-  earlier : {s : Sort} (n′ c′ : ℕ) → s ≡ sortOf (getD tags (j - 1) 0) → n′ + c′ ≤ n + c + 1 → tagBefore s (Uncut n c) ≡ Uncut n′ c′
-      → Looking tags (j - 1) n′ c′
-  earlier n′ c′ e k b = record { inside = omega (arith, w .inside); few = omega (arith, w .few); whole = back-turn e ∙ b }
+  earlier : {s : Sort} (n′ c′ d′ : ℕ) → s ≡ sortOf (getD tags (j - 1) 0) → n′ + c′ ≤ n + c + 1
+      → tagBefore s (Uncut n c d) ≡ Uncut n′ c′ d′ → Looking tags (j - 1) n′ c′ d′
+  earlier n′ c′ d′ e k b = record { inside = omega (arith, w .inside); few = omega (arith, w .few); whole = back-turn e ∙ b }
 
-  -- a tag that opens an array which is closed later: one record more
-  pub looking-opens : Opens ≡ sortOf (getD tags (j - 1) 0) → (n ≡ 0 → ⊥) → Looking tags (j - 1) (n - 1) (c + 1)
-  looking-opens e z =
+  -- a tag that opens an array which is closed later: one record more, and as deep as the arrays that are yet to be opened
+  pub looking-opens : {d′ : ℕ} → Opens ≡ sortOf (getD tags (j - 1) 0) → (n ≡ 0 → ⊥) → d′ ≡ max d n
+      → Looking tags (j - 1) (n - 1) (c + 1) d′
+  looking-opens {d′} e z m =
       let some : n ≡ suc (n - 1) = omega arith in
-      earlier (n - 1) (c + 1) e (omega arith) (ap (λ (k : ℕ). tagBefore Opens (Uncut k c)) some ∙ rw (add-one c))
+      earlier (n - 1) (c + 1) d′ e (omega arith)
+      (ap (λ (k : ℕ). tagBefore Opens (Uncut k c d)) some
+      ∙ ap (λ (k : ℕ). Uncut (n - 1) (suc c) (max d k)) (sym some) ∙ rw (add-one c, m))
 
   -- a tag that closes: one array more
-  pub looking-closes : Closes ≡ sortOf (getD tags (j - 1) 0) → Looking tags (j - 1) (n + 1) c
-  looking-closes e = earlier (n + 1) c e (omega arith) (rw (add-one n))
+  pub looking-closes : Closes ≡ sortOf (getD tags (j - 1) 0) → Looking tags (j - 1) (n + 1) c d
+  looking-closes e = earlier (n + 1) c d e (omega arith) (rw (add-one n))
 
   -- any other tag: one record more
-  pub looking-leaf : {class : Class} → Leaf class ≡ sortOf (getD tags (j - 1) 0) → Looking tags (j - 1) n (c + 1)
-  looking-leaf e = earlier n (c + 1) e (omega arith) (rw (add-one c))
+  pub looking-leaf : {class : Class} → Leaf class ≡ sortOf (getD tags (j - 1) 0) → Looking tags (j - 1) n (c + 1) d
+  looking-leaf e = earlier n (c + 1) d e (omega arith) (rw (add-one c))
 
   -- a tag that opens an array which stays open: the tags are cut after it
-  pub looking-cut : Opens ≡ sortOf (getD tags (j - 1) 0) → n ≡ 0 → Cut (j - 1 + 1) c ≡ back tags
-  looking-cut e z = sym (cut-up (j - 1) tags 1 c (omega (arith, w .inside)) (back-turn e ∙ rw z))
+  pub looking-cut : Opens ≡ sortOf (getD tags (j - 1) 0) → n ≡ 0 → Cut (j - 1 + 1) c d ≡ back tags
+  looking-cut e z = sym (cut-up (j - 1) tags 1 c d (omega (arith, w .inside)) (back-turn e ∙ rw z))
 
 -- where all tags were looked at, they are not cut
-pub looking-end : {tags : List ℕ} {j n c : ℕ} → Looking tags j n c → j ≤ 0 → Uncut n c ≡ back tags
-looking-end {tags} {j} {n} {c} w h =
+pub looking-end : {tags : List ℕ} {j n c d : ℕ} → Looking tags j n c d → j ≤ 0 → Uncut n c d ≡ back tags
+looking-end {tags} {j} {n} {c} {d} w h =
     let z : j ≡ 0 = omega arith in
     sym (rw z at (w .whole))

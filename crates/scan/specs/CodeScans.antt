@@ -2,7 +2,7 @@
 -- `measured-kept`, `measured-refused` and `cut-at` of the crate `arguments` show that they answer as `readArgs` does.
 use mathlib.Core.Bool.{Bool, false, _||_}
 use mathlib.Core.List.{List, [], _∷_}
-use Prim.Native.Nat.{ℕ, zero, suc, _+_}
+use Prim.Native.Nat.{ℕ, zero, suc, _+_, max}
 use lib.ListN.{drop}
 use Rattle.refusal.specs.declared.Fault.the-variants.{NotOpen}
 use Rattle.node.specs.Tags.{arrayKind, among, sortOf}
@@ -47,26 +47,26 @@ scan (tag ∷ tags) l p n = turn (sortOf tag) (λ m q k. scan tags m q k) tag l 
 
 -- ---- backward, tags only: which tags are kept
 
--- a tag stands before those that were looked at
+-- a tag stands before those that were looked at; a '[' that they close, n others around it, stands at level suc n
 abbrev pub tagBefore : Sort → Back → Back
-tagBefore Opens (Cut n c) = Cut (suc n) c
-tagBefore Opens (Uncut zero c) = Cut 1 c
-tagBefore Opens (Uncut (suc n) c) = Uncut n (suc c)
-tagBefore Closes (Cut n c) = Cut (suc n) c
-tagBefore Closes (Uncut n c) = Uncut (suc n) c
-tagBefore (Leaf class) (Cut n c) = Cut (suc n) c
-tagBefore (Leaf class) (Uncut n c) = Uncut n (suc c)
+tagBefore Opens (Cut n c d) = Cut (suc n) c d
+tagBefore Opens (Uncut zero c d) = Cut 1 c d
+tagBefore Opens (Uncut (suc n) c d) = Uncut n (suc c) (max d (suc n))
+tagBefore Closes (Cut n c d) = Cut (suc n) c d
+tagBefore Closes (Uncut n c d) = Uncut (suc n) c d
+tagBefore (Leaf class) (Cut n c d) = Cut (suc n) c d
+tagBefore (Leaf class) (Uncut n c d) = Uncut n (suc c) d
 
 -- what the tags keep, from the last to the first: `Uncut` where they close every array that they open, else `Cut` after the last '['
--- that stays open
+-- that stays open; how many records that are, and how deep their arrays are nested
 unfoldable pub back : List ℕ → Back
-back [] = Uncut 0 0
+back [] = Uncut 0 0 0
 back (tag ∷ tags) = tagBefore (sortOf tag) (back tags)
 
 -- every array that the tags open is closed by them
 abbrev pub AllClosed : Back → Type 0
-AllClosed (Uncut n c) = Unit {0}
-AllClosed (Cut n c) = ⊥
+AllClosed (Uncut n c d) = Unit {0}
+AllClosed (Cut n c d) = ⊥
 
 -- a tag that opens or closes an array (rule 3)
 abbrev pub bracket : ℕ → Bool

@@ -7,7 +7,7 @@ use node::tags::Sort;
 use node::tags::sort_of;
 use refusal::Fault;
 ghost use mathlib.Core.Path.{_≡_};
-ghost use Prim.Native.Nat.{_+_, _≤_};
+ghost use Prim.Native.Nat.{_+_, _≤_, max};
 ghost use lib.ListN.{length};
 ghost use Rattle.wire.specs.Limits.{longest};
 ghost use Rattle.node.specs.declared.record.Item.{Item};
@@ -22,10 +22,20 @@ pub enum Scanned {
 
 // What the tags from some place on keep.
 pub enum Back {
-    // They close every array that they open, and `closed` more; they give `count` records.
-    Uncut { closed: usize, count: usize },
-    // An array that they open stays open. The last such '[' ends the first `first` of them; those after it give `count` records.
-    Cut { first: usize, count: usize },
+    // They close every array that they open, and `closed` more. They give `count` records; with what those `closed` contain yet, arrays
+    // are nested `depth` deep.
+    Uncut {
+        closed: usize,
+        count: usize,
+        depth: usize,
+    },
+    // An array that they open stays open. The last such '[' ends the first `first` of them; those after it give `count` records, in
+    // which arrays are nested `depth` deep.
+    Cut {
+        first: usize,
+        count: usize,
+        depth: usize,
+    },
 }
 
 // `n` bytes, where the data has them.
@@ -113,21 +123,38 @@ fn any_bracket(tags: &[u8]) -> bool
     any
 }
 
-// Backward, tags only: where the last '[' stands that is never closed, and how many records follow.
+// The larger of two numbers.
+fn larger(a: usize, b: usize) -> usize
+    ensures { λ r. ⌜ r ≡ max a b ⌝ }
+{
+    if a < b {
+        return b;
+    }
+    a
+}
+
+// Backward, tags only: where the last '[' stands that is never closed, how many records follow, and how deep their arrays are nested.
+// A '[' that is closed stands as deep as there are arrays yet to be opened.
 fn walk_back(tags: &[u8]) -> Back
     ensures { λ r. ⌜ r ≡ back (now (tags .entry)) ⌝ }
 {
     let mut at = tags.len();
     let mut closed: usize = 0;
     let mut count: usize = 0;
+    let mut depth: usize = 0;
     while 0 < at {
         at -= 1;
         match sort_of(tags[at]) {
             Sort::Opens => {
                 if closed == 0 {
                     let first = at + 1;
-                    return Back::Cut { first, count };
+                    return Back::Cut {
+                        first,
+                        count,
+                        depth,
+                    };
                 }
+                depth = larger(depth, closed);
                 closed -= 1;
                 count += 1;
             }
@@ -135,12 +162,16 @@ fn walk_back(tags: &[u8]) -> Back
             Sort::Leaf(_) => count += 1,
         }
     }
-    Back::Uncut { closed, count }
+    Back::Uncut {
+        closed,
+        count,
+        depth,
+    }
 }
 
 // The same. Where no tag is a bracket, each one is a record, and none is looked at by itself.
 //
-// Ruled out: an array that stays open answered as closed; flat tags that close an array.
+// Ruled out: an array that stays open answered as closed; arrays that stand side by side answered as nested.
 pub fn look_back(tags: &[u8]) -> Back
     ensures { λ r. ⌜ r ≡ back (now (tags .entry)) ⌝ }
 {
@@ -150,5 +181,6 @@ pub fn look_back(tags: &[u8]) -> Back
     Back::Uncut {
         closed: 0,
         count: tags.len(),
+        depth: 0,
     }
 }

@@ -1,5 +1,6 @@
 -- Examples, computed, that meet the hypotheses of this crate's theorems, and the packets and tables that those of other crates share:
--- document 01's P3; and a bundle in a bundle, with a message that has a text, a blob, a character and a double that is no number.
+-- document 01's P3; a bundle in a bundle, with a message that has a text, a blob, a character and a double that is no number; and a
+-- bundle with arrays.
 use mathlib.Core.Path.{_≡_, refl, sym}
 use mathlib.Core.Bool.{Bool, true, false, true≢false, _&&_}
 use mathlib.Core.List.{List, [], _∷_, _++_, append-nil}
@@ -10,8 +11,8 @@ use denote.Floats.{is-true}
 use lib.Dec.{T, leb, leb→le, ltb, ltb→lt}
 use lib.ListN.{getD, take}
 use Rattle.wire.specs.Number.{number, bytes}
-use Rattle.node.specs.Forest.{Forest, nil, node, size}
-use Rattle.node.specs.Tags.{messageKind, bundleKind, sortOf, classOf}
+use Rattle.node.specs.Forest.{Forest, nil, node, size, depth}
+use Rattle.node.specs.Tags.{messageKind, bundleKind, arrayKind, sortOf, classOf}
 use Rattle.node.specs.declared.record.Item.{Item}
 use Rattle.node.specs.Records.{mostRecords, recordOf, recordsOf, kindAt, fieldAt, itemAt}
 use Rattle.node.specs.Rules.{ownRules}
@@ -197,3 +198,24 @@ its-tree = formed-tree nested-table 7 nested nested-formed
 nested-bytes : take 140 nested-table ≡ recordsOf 0 (node (once 0) (within 0) nil)
 unfolding nested-table bytes size recordOf recordsOf
 nested-bytes = tree-bytes (small-bytes nested-table tt) nested-tree
+
+-- ---- arrays in a bundle
+
+-- an array's own numbers
+abbrev array : Item
+array = record { kind = arrayKind; a = 0; b = 0; start = 8 }
+
+-- P3's message with two arrays in place of its integer: an array is in the first, and the integer in the second
+abbrev arrays : Forest
+arrays = node message (node array (node array nil nil) (node array five nil)) nil
+
+-- a bundle with that message is a tree's
+arrays-tree : IsTree (recordsOf 0 (node (once 0) arrays nil)) 6 packet (once 0) arrays
+unfolding size ownRules rangeOk allowed sortOf classOf
+arrays-tree = by-tests packet (once 0) arrays tt tt (omega arith)
+
+-- a bundle, an array and the array in it are one path, and 3 deep; the message adds none, nor does the second array, which stands beside
+arrays-deep : (x y : Bool) → ((F : Forest) → Spans (recordsOf 0 (node (once 0) arrays nil)) 0 6 F → x ≡ ltb 3 (depth F))
+    → ((F : Forest) → Spans (recordsOf 0 (node (once 0) arrays nil)) 0 6 F → y ≡ ltb 2 (depth F)) → (x ≡ false) × (y ≡ true)
+unfolding depth
+arrays-deep x y d e = (d (node (once 0) arrays nil) (arrays-tree .spans), e (node (once 0) arrays nil) (arrays-tree .spans))

@@ -13,14 +13,16 @@ use node::tags::ARRAY;
 use node::tags::BUNDLE;
 use node::tags::MESSAGE;
 use utf8::is_utf8;
+use wire::DEEPEST;
 use wire::lies_in;
 use wire::range;
 ghost use mathlib.Core.Path.{_≡_};
 ghost use Prim.Native.Nat.{_*_, _≤_, _<_};
 ghost use lib.Dec.{ltb};
 ghost use lib.ListN.{length};
+ghost use Rattle.wire.specs.Limits.{deepest};
 ghost use Rattle.utf8.specs.Utf8.{Decides};
-ghost use Rattle.node.specs.Forest.{Forest, depth};
+ghost use Rattle.node.specs.Forest.{Forest, isLevel, depth};
 ghost use Rattle.node.specs.Records.{recordSize};
 ghost use Rattle.table.specs.Formed.{textOk, rangeOk, allowed, Tiles, NodeOk, WellFormed};
 ghost use Rattle.table.specs.Tree.{Spans, Row};
@@ -133,33 +135,40 @@ pub fn is_well_formed(table: &[u8], count: usize, source: &[u8]) -> bool
     true
 }
 
-// Whether bundles among the records `lo` to `hi` are nested deeper than a limit. It calls itself at most `limit` levels down.
-fn deeper(table: &[u8], lo: usize, hi: usize, limit: usize) -> bool
-    requires { ⌜ Row (now table) lo hi ⌝ }
-    ensures { λ r. ⌜ ((F : Forest) → Spans (now (table .entry)) lo hi F → r ≡ ltb limit (depth F)) ⌝ }
+// Whether a record of a kind is one level of depth: a bundle or an array.
+fn is_level(kind: u8) -> bool
+    ensures { λ r. ⌜ r ≡ isLevel kind ⌝ }
 {
-    let mut at = lo;
-    while at < hi {
-        let end = field_at(table, at, END) as usize;
-        if kind_at(table, at) == BUNDLE {
-            if limit == 0 {
-                return true;
-            }
-            if deeper(table, at + 1, end, limit - 1) {
-                return true;
-            }
-        }
-        at = end;
+    match kind {
+        BUNDLE | ARRAY => true,
+        _ => false,
     }
-    false
 }
 
-// Whether the bundles of a table of `count` records are nested deeper than a limit; a bundle that is no element has depth 1.
+// Whether the bundles and arrays of a table of `count` records are nested deeper than a limit along any path; a message adds none.
+// One walk over the records in order that keeps the ends of the open levels: no recursion. The table itself is level 0.
 //
-// Ruled out: true for bundles nested exactly as deep as the limit; false where only a later element is too deep.
+// Ruled out: true for bundles and arrays nested exactly as deep as the limit; false where only a later element is too deep.
 pub fn deeper_than(table: &[u8], count: usize, limit: usize) -> bool
-    requires { ⌜ Row (now table) 0 count ⌝ }
+    requires { ⌜ Row (now table) 0 count × (limit ≤ deepest) ⌝ }
     ensures { λ r. ⌜ ((F : Forest) → Spans (now (table .entry)) 0 count F → r ≡ ltb limit (depth F)) ⌝ }
 {
-    deeper(table, 0, count, limit)
+    let mut ends = [count; DEEPEST + 1];
+    let mut levels = 0;
+    let mut at = 0;
+    while at < count {
+        if ends[levels] <= at {
+            levels -= 1;
+        } else {
+            if is_level(kind_at(table, at)) {
+                if levels == limit {
+                    return true;
+                }
+                levels += 1;
+                ends[levels] = field_at(table, at, END) as usize;
+            }
+            at += 1;
+        }
+    }
+    false
 }

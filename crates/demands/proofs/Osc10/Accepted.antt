@@ -15,7 +15,7 @@ use Rattle.packet.specs.declared.Prefix.the-variants as prefix
 use Rattle.decoder.specs.Framing.{Whole, trees, udp, readFrame, tcp}
 use Rattle.decoder.specs.Limits.{decoded}
 use Rattle.decoder.specs.declared.Decoded.the-variants as decoder
-use Rattle.demands.specs.Osc10.{Packet, deep, oscInt32, StandsFor}
+use Rattle.demands.specs.Osc10.{Packet, Allowed, deep, oscInt32, StandsFor}
 use Rattle.demands.specs.Standards.{oscFrame, AcceptedAs, Osc10Accepted, FrameAccepted}
 use Rattle.wire.proofs.Numbers.{length-bytes, read-written}
 use Rattle.packet.proofs.Heads.{prefix-ready}
@@ -30,17 +30,17 @@ module _ (rule : List ℕ → Whole) (s : List ℕ) where
   unfolding decoded
   decode-whole room F e n d c = rw (le-leb (length s) longest n, e, le-leb (depth F) deepest d, le-leb (size F) room c)
 
-  accept : (P : Packet) (item : Item) (inside : Forest) → length s ≤ longest → deep P ≤ deepest → StandsFor s P item inside
+  accept : (P : Packet) (item : Item) (inside : Forest) → Allowed P → length s ≤ longest → deep P ≤ deepest → StandsFor s P item inside
       → rule s ≡ trees (node item inside nil) 0
       → AcceptedAs rule P s
   unfolding depth
-  accept P item inside n d w e =
+  accept P item inside h n d w e =
       record {
         item = item;
         inside = inside;
         stands = w;
         read = e;
-        decodes = λ room c. decode-whole room (node item inside nil) e n (omega (arith, tree-deep P w)) c;
+        decodes = λ room c. decode-whole room (node item inside nil) e n (omega (arith, tree-deep P h w)) c;
       }
 
 whole : (l : List ℕ) {item : Item} {f : Forest} → readPacket 0 l 0 ≡ one item f (length l) → udp l ≡ trees (node item f nil) 0
@@ -51,7 +51,7 @@ whole l e = let z : length l - length l ≡ 0 = omega arith in rw (e, z)
 pub osc10-accepted : Osc10Accepted
 osc10-accepted P l h w n d =
     let r = packet-read l 0 P w h 0 refl (at-all l) (omega arith) in
-    accept udp l P (r .item) (r .inside) n d (r .stands) (whole l (r .read))
+    accept udp l P (r .item) (r .inside) h n d (r .stands) (whole l (r .read))
 
 -- ---- in a frame
 
@@ -80,4 +80,4 @@ pub frame-accepted : FrameAccepted
 frame-accepted P l h w n d =
     let m : length (oscFrame l) ≡ 4 + length l = simp (length-append, length-bytes) in
     let r = packet-read (oscFrame l) 0 P w h 4 refl (frame-at l (omega arith)) (omega arith) in
-    accept tcp (oscFrame l) P (r .item) (r .inside) n d (r .stands) (frame-whole l (omega arith) (r .read))
+    accept tcp (oscFrame l) P (r .item) (r .inside) h n d (r .stands) (frame-whole l (omega arith) (r .read))

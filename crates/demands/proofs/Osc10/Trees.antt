@@ -15,7 +15,8 @@ use Rattle.demands.proofs.Starts.Forests as begun
 use Rattle.demands.specs.Words.{rangedKind, SameItem, Same, both}
 use Rattle.demands.specs.Words as words
 use Rattle.demands.specs.Osc10.{Atom, word, long, bare, string, blob, char, OscArguments, end, atom, array, Packet, message, bundle}
-use Rattle.demands.specs.Osc10.{Packets, none, also, AtomAllowed, ArgumentsAllowed, Allowed, AllAllowed, deep, deepAll, RangeHolds}
+use Rattle.demands.specs.Osc10.{Packets, none, also, AtomAllowed, ArgumentsAllowed, Allowed, AllAllowed, argumentsDeep, deep, deepAll}
+use Rattle.demands.specs.Osc10.{RangeHolds}
 use Rattle.demands.specs.Osc10.{AtomIs, ArgumentsAre, no-node, leaf, branch, StandsFor, is-message, is-bundle}
 use Rattle.demands.specs.Osc10.{StandFor, no-packet, packet}
 use Rattle.demands.specs.Osc10 as osc
@@ -139,14 +140,31 @@ module _ {s : List ℕ} (low : length s < 256 ^ 4) where
 
 -- ---- a packet's depth is its tree's
 
+-- an argument that is no array is no level
+atom-level : {s : List ℕ} (v : Atom) {item : Item} → AtomAllowed v → AtomIs s v item → level (item .kind) 0 ≡ 0
+atom-level (word tag x) h w = rw (w .kind) (of-among (λ k. level k 0 ≡ 0) tag osc.words (refl, (refl, (refl, (refl, tt)))) (h .0))
+atom-level (long tag x y) h w = rw (w .kind) (of-among (λ k. level k 0 ≡ 0) tag osc.longs (refl, (refl, (refl, tt))) (h .0))
+atom-level (bare tag) h w = rw (w .kind) (of-among (λ k. level k 0 ≡ 0) tag osc.bares (refl, (refl, (refl, (refl, tt)))) h)
+atom-level (string text) h w = rw (w .kind)
+atom-level (blob content) h w = rw (w .kind)
+atom-level (char x) h w = rw (w .kind)
+
+arguments-deep : {s : List ℕ} (A : OscArguments) {F : Forest} → ArgumentsAllowed A → ArgumentsAre s A F → depth F ≡ argumentsDeep A
+unfolding ArgumentsAllowed argumentsDeep depth
+arguments-deep end h no-node = refl
+arguments-deep (atom v rest) h (leaf x r) = omega (arith, atom-level v (h .0) x, arguments-deep rest (h .1) r)
+arguments-deep (array within rest) h (branch w x r) =
+    rw (w .kind, arguments-deep within (h .0) x, arguments-deep rest (h .1) r)
+
 mutual
-  unfolding deep deepAll depth
+  unfolding Allowed AllAllowed deep deepAll depth
 
   -- the depth of a tree that stands for a packet is the packet's
-  pub tree-deep : {s : List ℕ} (P : Packet) {item : Item} {f : Forest} → StandsFor s P item f → level (item .kind) (depth f) ≡ deep P
-  tree-deep (message address A) (is-message m x) = rw (m .kind)
-  tree-deep (bundle seconds fractional Ps) (is-bundle b x) = rw (b .kind) (ap (λ (n : ℕ). n + 1) (forest-deep Ps x))
+  pub tree-deep : {s : List ℕ} (P : Packet) {item : Item} {f : Forest} → Allowed P → StandsFor s P item f
+      → level (item .kind) (depth f) ≡ deep P
+  tree-deep (message address A) h (is-message m x) = rw (m .kind) (arguments-deep A (h .2) x)
+  tree-deep (bundle seconds fractional Ps) h (is-bundle b x) = rw (b .kind) (ap (λ (n : ℕ). n + 1) (forest-deep Ps (h .2) x))
 
-  forest-deep : {s : List ℕ} (Ps : Packets) {F : Forest} → StandFor s Ps F → depth F ≡ deepAll Ps
-  forest-deep none no-packet = refl
-  forest-deep (also P Ps) (packet x r) = rw (tree-deep P x, forest-deep Ps r)
+  forest-deep : {s : List ℕ} (Ps : Packets) {F : Forest} → AllAllowed Ps → StandFor s Ps F → depth F ≡ deepAll Ps
+  forest-deep none h no-packet = refl
+  forest-deep (also P Ps) h (packet x r) = rw (tree-deep P (h .0) x, forest-deep Ps (h .1) r)

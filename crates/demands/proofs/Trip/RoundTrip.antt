@@ -60,7 +60,7 @@ round-trip t count source item inside w out room r e table enough =
     let S = packet-is source (w .sourced) item inside (w .formed .obeys) (w .clean)
     (spans-fit t (w .bytes) 0 count F (w .formed .spans)) in
     let A = osc10-accepted (S .packet) bs (S .allowed) (S .spells) (w .fits)
-    (omega (arith, w .shallow, tree-deep (S .packet) (S .stands))) in
+    (omega (arith, w .shallow, tree-deep (S .packet) (S .allowed) (S .stands))) in
     let B = read-back (w .formed) bs table (w .fits) enough S A in
     let written = written-all source out item inside (w .shallow) (w .fits) room in
     let held : take (length bs) (treeOutcome unframed source out item inside .out) ≡ bs

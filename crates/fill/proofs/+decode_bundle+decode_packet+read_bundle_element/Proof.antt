@@ -226,7 +226,8 @@ pub +decode-bundle+decode-packet+read-bundle-element-spec : {M : Type 1} → sta
     ))
     (λ c. let p2 = c .before .before in let p6 = p2 .before .before .before .before in let p8 = p6 .before .before in
     let p10 = p8 .before .before in let p13 = p10 .before .before .before in
-    let s = filling-step (p13 .args .base) (p13 .args .start) (p13 .args .input .now) (p13 .args .pos) (p13 .args .index) (p13 .args .table .now)
+    let s = filling-step (p13 .args .base) (p13 .args .start) (p13 .args .input .now) (p13 .args .pos)
+    (p13 .args .index) (p13 .args .table .now)
     (p8 .loop .table) (p8 .loop .rest .now) (p8 .loop .at) (p8 .loop .count) (p8 .loop .inv .2)
     (contents-room (p13 .args .base) (p13 .args .start) (p13 .args .input .now) (p13 .args .pos) (p10 .if1 .left) (p13 .pre .1 .1 .0))
     (p6 .read-bundle-element .ensures) (p2 .n .given .1) in (
@@ -254,7 +255,8 @@ pub +decode-bundle+decode-packet+read-bundle-element-spec : {M : Type 1} → sta
       arith,
       filling-fits (p13 .args .base) (p13 .args .start) (p13 .args .input .now) (p13 .args .pos) (p13 .args .index) (p13 .args .table .now)
           (p8 .loop .table) (p8 .loop .rest .now) (p8 .loop .at) (p8 .loop .count) (p8 .loop .inv .2)
-          (contents-room (p13 .args .base) (p13 .args .start) (p13 .args .input .now) (p13 .args .pos) (p10 .if1 .left) (p13 .pre .1 .1 .0)),
+          (contents-room (p13 .args .base) (p13 .args .start) (p13 .args .input .now) (p13 .args .pos)
+          (p10 .if1 .left) (p13 .pre .1 .1 .0)),
     ))
     (λ c κs. let p5 = c .before .before .before .before .before in let p8 = p5 .before .before .before in
     let p10 = p8 .before .before in let p13 = p10 .before .before .before in
@@ -262,7 +264,8 @@ pub +decode-bundle+decode-packet+read-bundle-element-spec : {M : Type 1} → sta
       arith,
       filling-fits (p13 .args .base) (p13 .args .start) (p13 .args .input .now) (p13 .args .pos) (p13 .args .index) (p13 .args .table .now)
           (p8 .loop .table) (p8 .loop .rest .now) (p8 .loop .at) (p8 .loop .count) (p8 .loop .inv .2)
-          (contents-room (p13 .args .base) (p13 .args .start) (p13 .args .input .now) (p13 .args .pos) (p10 .if1 .left) (p13 .pre .1 .1 .0)),
+          (contents-room (p13 .args .base) (p13 .args .start) (p13 .args .input .now) (p13 .args .pos)
+          (p10 .if1 .left) (p13 .pre .1 .1 .0)),
       (p8 .loop .inv .2 .some),
       (p5 .table .given),
     ))
@@ -270,9 +273,11 @@ pub +decode-bundle+decode-packet+read-bundle-element-spec : {M : Type 1} → sta
     (λ c. let p2 = c .before .before in let p3 = p2 .before in let p5 = p3 .before .before in
     let p9 = p5 .before .before .before .before in let p11 = p9 .before .before in let p13 = p11 .before .before in
     let p16 = p13 .before .before .before in
-    filling-done (p16 .args .base) (p16 .args .start) (p16 .args .input .now) (p16 .args .pos) (p16 .args .index) (p16 .args .table .now) (p11 .loop .table)
+    filling-done (p16 .args .base) (p16 .args .start) (p16 .args .input .now) (p16 .args .pos)
+    (p16 .args .index) (p16 .args .table .now) (p11 .loop .table)
     (p11 .loop .rest .now) (p11 .loop .at) (p11 .loop .count) (p11 .loop .inv .2)
-    (contents-room (p16 .args .base) (p16 .args .start) (p16 .args .input .now) (p16 .args .pos) (p13 .if1 .left) (p16 .pre .1 .1 .0)) (p13 .if1 .left)
+    (contents-room (p16 .args .base) (p16 .args .start) (p16 .args .input .now) (p16 .args .pos)
+    (p13 .if1 .left) (p16 .pre .1 .1 .0)) (p13 .if1 .left)
     (p9 .read-bundle-element .ensures) (p5 .enum-told .given .1) (p3 .bundle-item .ensures) (p2 .put-record .ensures)))
     (λ t. decode-packet-lts.spec (
       read-start-reads.Asked,

@@ -273,7 +273,7 @@ pub +measure-bundle+measure-element+measure-packet-spec : {M : Type 1} → state
     (λ c. search needs)
     (λ c. let p3 = c .before .before .before in let p5 = p3 .before .before in let p7 = p5 .before .before in
     λ base. packet-by-message base _ (p7 .args .input .now) _ _ (sym (p3 .used .given .1) ∙ (p5 .read-start .ensures))
-    (tail (p7 .args .input .now) (p3 .used .given .0 .1 .0)) (c .measure-message .ensures base _ _ _))
+    (tail (p7 .args .input .now) (p3 .used .given .0 .1 .0)) (c .measure-message .ensures base _ _))
     (λ c. let p3 = c .before .before .before in let p5 = p3 .before .before in let p7 = p5 .before .before in
     λ base. packet-by-bundle base _ (p7 .args .input .now) _ _ (sym (p3 .used2 .given .1) ∙ (p5 .read-start .ensures))
     (tail (p7 .args .input .now) (p3 .used2 .given .0 .0)) (c .measure-bundle .ensures base (base + p7 .args .pos)))

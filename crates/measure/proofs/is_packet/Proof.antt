@@ -44,7 +44,7 @@ returns-2 c =
     let p7 = p5 .before .before in
     let p9 = p7 .before .before in
     λ base. is-message base _ _ _ (sym (p5 .used .given .1) ∙ (p7 .read-start .ensures))
-    (tail (p9 .args .input .now) (p5 .used .given .0 .1 .0)) (sym (c .enum-told .given .1) ∙ (p2 .measure-message .ensures) base _ _ 0)
+    (tail (p9 .args .input .now) (p5 .used .given .0 .1 .0)) (sym (c .enum-told .given .1) ∙ (p2 .measure-message .ensures) base _ _)
 
 returns-3 : tie.Need-returns-3
 returns-3 c =
@@ -53,7 +53,7 @@ returns-3 c =
     let p7 = p5 .before .before in
     let p9 = p7 .before .before in
     λ base. is-message base _ _ _ (sym (p5 .used .given .1) ∙ (p7 .read-start .ensures))
-    (tail (p9 .args .input .now) (p5 .used .given .0 .1 .0)) (sym (c .enum-told2 .given .1) ∙ (p2 .measure-message .ensures) base _ _ 0)
+    (tail (p9 .args .input .now) (p5 .used .given .0 .1 .0)) (sym (c .enum-told2 .given .1) ∙ (p2 .measure-message .ensures) base _ _)
 
 returns-4 : tie.Need-returns-4
 returns-4 c =
@@ -62,7 +62,7 @@ returns-4 c =
     let p7 = p5 .before .before in
     let p9 = p7 .before .before in
     λ base. is-message base _ _ _ (sym (p5 .used .given .1) ∙ (p7 .read-start .ensures))
-    (tail (p9 .args .input .now) (p5 .used .given .0 .1 .0)) (sym (c .enum-told3 .given .1) ∙ (p2 .measure-message .ensures) base _ _ 0)
+    (tail (p9 .args .input .now) (p5 .used .given .0 .1 .0)) (sym (c .enum-told3 .given .1) ∙ (p2 .measure-message .ensures) base _ _)
 
 returns-5 : tie.Need-returns-5
 returns-5 c =

@@ -58,8 +58,8 @@ measure-osc-args-requires c κs =
     rw (tail (p8 .args .input .now) (p4 .length .given .0 .1 .0))
     (omega (arith, length-drop (p4 .length .given .0 .1 .0) (p8 .args .input .now)))
 
-add-t22 : tie.Need-add-t22
-add-t22 c =
+add-fit : tie.Need-add-fit
+add-fit c =
     let p3 = c .before .before .before in
     let p5 = p3 .before .before in
     let p8 = p5 .before .before .before in
@@ -73,8 +73,8 @@ add-t22 c =
           (p12 .args .input .now) (p8 .length .given .0 .0) (p8 .length .given .0 .1 .0) (p5 .tags-in .ensures),
     )
 
-add-t23 : tie.Need-add-t23
-add-t23 c =
+add-fit-2 : tie.Need-add-fit-2
+add-fit-2 c =
     let p3 = c .before .before .before in
     let p5 = p3 .before .before in
     let p8 = p5 .before .before .before in
@@ -88,8 +88,8 @@ add-t23 c =
           (p12 .args .input .now) (p8 .length .given .0 .0) (p8 .length .given .0 .1 .0) (p5 .tags-in .ensures),
     )
 
-add-t24 : tie.Need-add-t24
-add-t24 c =
+add-fit-3 : tie.Need-add-fit-3
+add-fit-3 c =
     let p3 = c .before .before .before in
     let p5 = p3 .before .before in
     let p8 = p5 .before .before .before in
@@ -105,14 +105,16 @@ add-t24 c =
 
 returns : tie.Need-returns
 returns c =
-    let p3 = c .before .before .before in
-    let p5 = p3 .before .before in
-    let p8 = p5 .before .before .before in
-    let p10 = p8 .before .before in
-    let p12 = p10 .before .before in
-    λ base offset n room. message-exit base offset n room _ _ (sym (p8 .length .given .1) ∙ (p10 .read-osc-string .ensures))
-    (types-tags (p12 .args .input .now) (p8 .length .given .0 .0) (p5 .tags-in .ensures))
-    (tail (p12 .args .input .now) (p8 .length .given .0 .1 .0)) (sym (c .before .count .given .1) ∙ (p3 .measure-osc-args .ensures) base)
+    let p2 = c .before .before in
+    let p4 = p2 .before .before in
+    let p6 = p4 .before .before in
+    let p9 = p6 .before .before .before in
+    let p11 = p9 .before .before in
+    let p13 = p11 .before .before in
+    λ base offset n. c .fit .ensures
+    ∙ message-exit base offset n _ _ _ (sym (p9 .length .given .1) ∙ (p11 .read-osc-string .ensures))
+    (types-tags (p13 .args .input .now) (p9 .length .given .0 .0) (p6 .tags-in .ensures))
+    (tail (p13 .args .input .now) (p9 .length .given .0 .1 .0)) (sym (p2 .count .given .1) ∙ (p4 .measure-osc-args .ensures) base)
 
 returns-2 : tie.Need-returns-2
 returns-2 c =
@@ -121,7 +123,7 @@ returns-2 c =
     let p8 = p5 .before .before .before in
     let p10 = p8 .before .before in
     let p12 = p10 .before .before in
-    λ base offset n room. message-exit base offset n room _ _ (sym (p8 .length .given .1) ∙ (p10 .read-osc-string .ensures))
+    λ base offset n. message-exit base offset n _ _ _ (sym (p8 .length .given .1) ∙ (p10 .read-osc-string .ensures))
     (types-tags (p12 .args .input .now) (p8 .length .given .0 .0) (p5 .tags-in .ensures))
     (tail (p12 .args .input .now) (p8 .length .given .0 .1 .0)) (sym (c .before .fault .given .1) ∙ (p3 .measure-osc-args .ensures) base)
 
@@ -129,8 +131,8 @@ returns-3 : tie.Need-returns-3
 returns-3 c =
     let p2 = c .before .before in
     let p4 = p2 .before .before in
-    λ base offset n room. ap Refused (c .fault-of .ensures)
-    ∙ refused-is room _ (types-lack base (messageItem offset n) _ _ (sym (p2 .lack .given .1) ∙ (p4 .read-osc-string .ensures)))
+    λ base offset n. ap Refused (c .fault-of .ensures)
+    ∙ refused-is _ _ (types-lack base (messageItem offset n) _ _ (sym (p2 .lack .given .1) ∙ (p4 .read-osc-string .ensures)))
 
 pub measure-message-spec : {M : Type 1} → statement M
 measure-message-spec =
@@ -148,9 +150,10 @@ measure-message-spec =
     add-measure-osc-args
     measure-osc-args-requires
     (λ c. search needs)
-    add-t22
-    add-t23
-    add-t24
+    add-fit
+    add-fit-2
+    add-fit-3
+    (λ c κs. search needs)
     (λ c. search needs)
     (λ c. search needs)
     (λ c κs. search needs)

@@ -6,10 +6,10 @@ use Rattle.scan.proofs.walk_back.Statement.{statement}
 use Rattle.scan.proofs.walk_back.Tie as tie
 
 abbrev Inv-loop : tie.InvT-loop
-Inv-loop tags at₀ closed₀ count₀ at closed count = Looking tags at closed count
+Inv-loop tags at₀ closed₀ count₀ depth₀ at closed count depth = Looking tags at closed count depth
 
 abbrev μ-loop : tie.MeasureT-loop
-μ-loop tags at₀ closed₀ count₀ at closed count = at
+μ-loop tags at₀ closed₀ count₀ depth₀ at closed count depth = at
 
 loop-holds : tie.Need-loop-holds Inv-loop μ-loop
 loop-holds c = looking-start _
@@ -24,11 +24,12 @@ returns c =
 
 loop-again : tie.Need-loop-again Inv-loop μ-loop
 loop-again c =
-    let p3 = c .before .before .before in
-    let p5 = p3 .before .before in
-    let p6 = p5 .before in
-    let e = sym (c .before .enum-told .given .1) ∙ p3 .sort-of .ensures in
-    looking-opens (p6 .loop .inv) (p5 .loop-test .taken) e (c .if1 .left)
+    let p1 = c .before in
+    let p4 = p1 .before .before .before in
+    let p6 = p4 .before .before in
+    let p7 = p6 .before in
+    let e = sym (p1 .before .enum-told .given .1) ∙ p4 .sort-of .ensures in
+    looking-opens (p7 .loop .inv) (p6 .loop-test .taken) e (p1 .if1 .left) (c .larger .ensures)
 
 loop-again-2 : tie.Need-loop-again-2 Inv-loop μ-loop
 loop-again-2 c =
@@ -62,6 +63,7 @@ walk-back-spec =
     (λ c. search needs)
     (λ c. search needs)
     returns
+    (λ c κs. search needs)
     (λ c. search needs)
     (λ c. search needs)
     (λ c. search needs)
