@@ -14,7 +14,8 @@ enum { GUARD = 65536, TURNS = 20, UNTOUCHED = 0xA5 };
 
 static uint8_t msg[65536], out[65536];
 static uint8_t table[OSC_RECORD * 65536];
-static const uint8_t source[] = "/a";
+/* Texts are not ASCII, so that every byte is looked at. */
+static const uint8_t source[] = "/\303\251";
 
 /* ---- a call, on a stack of its own */
 
@@ -39,8 +40,8 @@ static uint64_t once(enum call call, uint64_t n) {
     case UDP: return osc_decode_udp(msg, n, table, sizeof table, 64);
     case TCP: return osc_decode_tcp(msg, n, table, sizeof table, 64);
     case TCP_VEC: return osc_decode_tcp_vec(msg, n, table, sizeof table, 64);
-    case ENCODE: return osc_encode(table, sizeof table, n, source, 2, out, sizeof out);
-    case ENCODE_TCP: return osc_encode_tcp(table, sizeof table, n, source, 2, out, sizeof out);
+    case ENCODE: return osc_encode(table, sizeof table, n, source, 3, out, sizeof out);
+    case ENCODE_TCP: return osc_encode_tcp(table, sizeof table, n, source, 3, out, sizeof out);
     case STRING: return osc_encode_string(msg, n, out, sizeof out);
     case LOOK: return osc_look(table, sizeof table, n);
     case START: return osc_start(table, sizeof table, n);
@@ -112,7 +113,7 @@ static size_t arrays(size_t at, unsigned n, unsigned closed) {
     at += closed;
     do msg[at++] = 0;
     while (at % 4 != 0);
-    return put(at, "text\0\0\0\0\0\0\0\3\1\2\3\0", 16);
+    return put(at, "t\303\251t\0\0\0\0\0\0\0\3\1\2\3\0", 16);
 }
 
 /* Nested arrays in nested bundles. */
@@ -147,6 +148,7 @@ static void decode(enum call call) {
     run("63 nested arrays in a bundle", call, both(from, 1, 63), 0);
     run("32 nested arrays in 32 bundles", call, both(from, 32, 32), 0);
     run("an array in 63 nested bundles", call, both(from, 63, 1), 0);
+    run("a message in 64 nested bundles", call, both(from, 64, 0), 0);
     run("an array in 64 nested bundles", call, both(from, 64, 1), OSC_TOO_DEEP);
     run("900 nested arrays", call, arrays(from, 900, 900), OSC_TOO_DEEP);
     run("32,000 nested arrays", call, arrays(from, 32000, 32000), OSC_TOO_DEEP);
@@ -172,9 +174,9 @@ static void record(size_t i, uint8_t kind, size_t end, uint32_t a, uint32_t b) {
 static size_t nested(size_t around, size_t n) {
     size_t count = around + 1 + n + 2, i = 0;
     while (i < around) record(i++, '#', count, 0, 1);
-    record(i++, '/', count, 0, 2);
+    record(i++, '/', count, 0, 3);
     while (i < around + 1 + n) record(i++, '[', count, 0, 0);
-    record(i, 's', i + 1, 0, 2);
+    record(i, 's', i + 1, 0, 3);
     record(i + 1, 'b', i + 2, 0, 1);
     return count;
 }

@@ -1,7 +1,7 @@
 /* Sennorbai: Open Sound Control packets and node tables. C99 and C++17. Link with libosc.a (rt staticlib osc).
  *
  * No function allocates, keeps a pointer or has a state. Every pointer may be to any bytes, and a length may be 0;
- * slices that a call may write must not overlap the others. A refusal changes no byte. Each call ends within @@STACK@@ bytes
+ * slices that a call may write must not overlap the others. A refusal changes no byte. Each call ends within 33,488 bytes
  * of stack, whatever it is given (measured by c/stack.c on x86-64).
  *
  * A node table has records of OSC_RECORD bytes, big-endian: kind (1), three zero bytes, end (4), a (4), b (4), start (4).
@@ -12,7 +12,7 @@
 #define SENNORBAI_OSC_H
 
 /* The version of the library and of this header. */
-#define SENNORBAI_VERSION "0.5.0"
+#define SENNORBAI_VERSION "0.6.0"
 
 #include <stddef.h>
 #include <stdint.h>

@@ -133,7 +133,15 @@ refuses 5 'first string is neither /-led nor exactly #bundle' 'a\0\0\0'
 refuses 6 '] with no array open' '/a\0\0,]\0\0'
 refuses 7 'unknown type tag' '/a\0\0,x\0\0'
 refuses 8 'c is not a scalar number' '/a\0\0,c\0\0\0\0\330\0'
-expect 1 'refused 9: bundles nested deeper than the limit' '' decode udp "$examples/bundle.osc" refused.bin --depth 0
+too_deep='refused 9: bundles and arrays nested deeper than the limit'
+expect 1 "$too_deep" '' decode udp "$examples/bundle.osc" refused.bin --depth 0
+# An array in one that is not closed, and an array in a bundle.
+printf '/a\0\0,[[T]\0\0\0' >open.osc
+expect 1 "$too_deep" '' decode udp open.osc refused.bin --depth 0
+expect 0 'packets: 1, records: 3, bytes left: 0' '' decode udp open.osc kept.bin --depth 1
+printf '#bundle\0\0\0\0\0\0\0\0\001\0\0\0\010/a\0\0,[]\0' >array.osc
+expect 1 "$too_deep" '' decode udp array.osc refused.bin --depth 1
+expect 0 'packets: 1, records: 3, bytes left: 0' '' decode udp array.osc kept.bin --depth 2
 expect 1 'refused 10: the result has more records than the capacity' '' \
     decode udp "$examples/bundle.osc" refused.bin --depth 1 --records 6
 expect 0 'packets: 1, records: 7, bytes left: 0' '' decode udp "$examples/bundle.osc" kept.bin --records 7 --depth 1

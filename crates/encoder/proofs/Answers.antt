@@ -133,7 +133,8 @@ module _ {t : List ℕ} {count : ℕ} {source : List ℕ} {n : ℕ} (w : Surveys
   -- where the survey is not sure, no packet of the table is short enough
   pub survey-no : longestElement < n → Unsure t count source
   survey-no h inside x =
-      ⊎-elim (λ l. l) (λ l. absurd (omega (arith, w .exact .only inside x (omega arith)))) (lt-or-le longest (length (packetAt source t 0 inside)))
+      ⊎-elim (λ l. l) (λ l. absurd (omega (arith, w .exact .only inside x (omega arith))))
+      (lt-or-le longest (length (packetAt source t 0 inside)))
 
   -- where it is sure, its length counts the four bytes of a size
   pub survey-some : n ≤ longestElement → 4 ≤ n
@@ -241,7 +242,8 @@ pub record Planned (t : List ℕ) (count : ℕ) (source : List ℕ) (n : ℕ) : 
 pub planned : (t : List ℕ) (count : ℕ) (source : List ℕ) {r : Prepared} {n : ℕ} → Prepares t count source r → r ≡ Length n
     → Planned t count source n
 planned t count source {r} {n} (prepare.no x a e) q = let y : _≡_ {A = ℕ} 0 1 = cc in absurd (omega arith)
-planned t count source {r} {n} (prepare.ready inside w m e z) q = let y : m ≡ n = cc in record { inside = inside; fine = w; sized = rw y at z }
+planned t count source {r} {n} (prepare.ready inside w m e z) q =
+    let y : m ≡ n = cc in record { inside = inside; fine = w; sized = rw y at z }
 
 module _ {t : List ℕ} {count : ℕ} {source : List ℕ} {n : ℕ} (out : List ℕ) (w : Planned t count source n) where
   inside-spans : Spans t 1 (endAt t 0) (w .inside)

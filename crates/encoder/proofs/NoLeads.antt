@@ -3,7 +3,7 @@ use mathlib.Core.Path.{_≡_, refl, sym, _∙_}
 use mathlib.Core.Bool.{true}
 use mathlib.Core.Logic.{⊎-elim}
 use mathlib.Core.List.{List, [], _∷_}
-use Prim.Native.Nat.{ℕ, _≤_, _<_}
+use Prim.Native.Nat.{ℕ, _<_}
 use Rattle.refusal.specs.Refusal.{numberOf}
 use Rattle.refusal.specs.declared.Refusal.{Refusal}
 use Rattle.refusal.specs.declared.Refusal.the-variants.{TooLong, TooDeep, BadTable}
@@ -12,7 +12,6 @@ use Rattle.wire.proofs.Choices.{lt-or-le}
 use Rattle.node.specs.Forest.{Forest, nil, node, depth}
 use Rattle.node.specs.Tags.{among}
 use Rattle.node.specs.Records.{itemAt}
-use Rattle.node.specs.declared.record.Item.{Item}
 use Rattle.table.specs.Tree.{Spans, IsTree}
 use Rattle.writers.specs.CodeWriters.{longestElement}
 use Rattle.survey.specs.CodeSurvey.{ShallowTree, Surveys}
@@ -28,8 +27,8 @@ no-number (prepare.malformed n e) = rw e
 no-number (prepare.deep inside tree h e) = rw e
 no-number (prepare.long inside w h e) = rw e
 
-module _ (frame : ℕ → List ℕ → List ℕ) (k : Keeps frame) {t : List ℕ} {count : ℕ} {source out : List ℕ} {n : ℕ} (w : Surveys t count source n)
-    (h : longestElement < n) where
+module _ (frame : ℕ → List ℕ → List ℕ) (k : Keeps frame) {t : List ℕ} {count : ℕ} {source out : List ℕ} {n : ℕ}
+    (w : Surveys t count source n) (h : longestElement < n) where
   tree-no : (inside : Forest) → IsTree t count source (itemAt t 0) inside → {r : Outcome}
       → r ≡ treeOutcome frame source out (itemAt t 0) inside → NoOutcome t count source out r
   tree-no inside tree e =

@@ -30,7 +30,7 @@ pub fn version() {
 // What the commands are.
 const HELP: [u8; 521] = *b"\
 osc decode udp|tcp|tcp-vec INPUT TABLE [--depth N] [--records N]
-    reads INPUT and writes its records, 16 bytes each, to TABLE
+    reads INPUT and writes its records, 20 bytes each, to TABLE
 osc encode udp|tcp TABLE SOURCE OUTPUT
     writes the packet of TABLE, whose texts stand in SOURCE, to OUTPUT
 osc look TABLE INDEX

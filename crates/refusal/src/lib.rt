@@ -26,7 +26,7 @@ pub enum Refusal {
     TooLong,
     // The bytes are not a packet.
     Unreadable(Fault),
-    // Bundles are nested deeper than the limit.
+    // Bundles and arrays are nested deeper than the limit.
     TooDeep,
     // The result has more records than the table's capacity.
     TableFull,

@@ -1,40 +1,29 @@
 -- What the survey answers of one argument and of the arguments of a row.
 use mathlib.Core.Path.{_≡_, refl, sym, ap, _∙_}
 use mathlib.Core.Bool.{Bool, true, false, cond, true≢false, false≢true}
-use mathlib.Core.List.{List, [], _∷_}
+use mathlib.Core.List.{List}
 use Prim.Native.Nat.{ℕ, _+_, _-_, _*_, _≤_, _<_}
 use native.Mathlib.Omega.{arith}
 use lib.ListN.{length, length-append}
-use borrow.Author.Tests.{leb-true, ne-eqb, eqb-true}
-use Rattle.wire.specs.Limits.{deepest}
-use Rattle.wire.specs.Part.{part, inside}
-use Rattle.wire.proofs.Choices.{then-only}
-use Rattle.wire.proofs.Numbers.{length-bytes}
-use Rattle.wire.proofs.Parts.{length-part}
+use borrow.Author.Tests.{ne-eqb}
 use Rattle.node.specs.Forest.{Forest, nil, node, level, depth}
-use Rattle.node.specs.Tags.{sortOf, among, messageKind, bundleKind, arrayKind}
-use Rattle.node.specs.Rules.{ownRules, isPacket}
-use Rattle.node.specs.Records.{recordSize, mostRecords, kindAt, zerosAt, endAt, itemAt}
+use Rattle.node.specs.Tags.{sortOf, messageKind, bundleKind, arrayKind}
+use Rattle.node.specs.Rules.{ownRules}
+use Rattle.node.specs.Records.{kindAt, endAt, itemAt}
 use Rattle.node.specs.declared.record.Item.{Item}
 use Rattle.node.specs.declared.tags.Class.{Class}
 use Rattle.node.specs.declared.tags.Sort.{Sort}
 use Rattle.node.specs.declared.tags.Sort.the-variants.{Opens, Closes, Leaf}
-use Rattle.table.specs.Formed.{textOk, rangeOk, allowed, WellFormed}
+use Rattle.table.specs.Formed.{rangeOk, allowed}
 use Rattle.table.specs.Tree.{Spans, Obeys}
 use Rattle.table.proofs.Spanned.{no-more, spans-unique}
-use Rattle.table.proofs.Theorem.{tree-formed}
-use Rattle.strings.specs.Atomic.{oscString}
-use Rattle.strings.specs.CodeStrings.{stringLength}
-use Rattle.strings.proofs.Lengths.{length-string}
-use Rattle.writers.specs.Osc.{writeTags, writeData, writeMessage, writeElements}
-use Rattle.writers.specs.CodeWriters.{bundleHead, longestElement, packetAt}
-use Rattle.writers.proofs.Lengths.{length-message, length-bundle}
-use Rattle.writers.proofs.Classed.{opens, opens-only, tags-none, data-none, elements-none, tags-is, tags-array, data-is}
-use Rattle.writers.proofs.Classed.{elements-is, message-is, bundle-is}
-use Rattle.survey.specs.CodeSurvey.{placed, leafOk, leafContent, unsure, argumentLength, InTable, SurveyedRow, Exactly}
-use Rattle.survey.specs.CodeSurvey.{SurveysArguments, SurveysPackets, ShallowTree, Surveys}
+use Rattle.writers.specs.Osc.{writeTags, writeData}
+use Rattle.writers.specs.CodeWriters.{longestElement}
+use Rattle.writers.proofs.Classed.{opens, opens-only, tags-none, data-none, tags-is, tags-array, data-is}
+use Rattle.survey.specs.CodeSurvey.{placed, leafOk, leafContent, unsure, argumentLength, InTable, SurveyedRow}
+use Rattle.survey.specs.CodeSurvey.{SurveysArguments}
 use Rattle.survey.specs.declared.Tally.{Tally}
-use Rattle.survey.proofs.Leaf.{no-packet, leaf-empty, LeafRules, leaf-sound, leaf-complete, leaf-data, leaf-tag}
+use Rattle.survey.proofs.Leaf.{no-packet, other-kind, leaf-empty, leaf-sound, leaf-complete, leaf-data, leaf-tag}
 use Rattle.survey.proofs.Exact.{no-length, exact-around}
 use Rattle.survey.proofs.Rows.{Placed, SurveyedNode, row-only, only-node, node-row, row-node, carries-inside, row-none}
 use Rattle.survey.proofs.Rows.{Adds, Counts, counts-more, Passed, passed-none, passed-all, not-placed, passed-long}
@@ -42,7 +31,7 @@ use Rattle.survey.proofs.Rows.{next, passed-more}
 
 -- ---- what is written of a node and of the rest
 
--- tags, data and elements are those of the first node, and then those of the rest
+-- tags and data are those of the first node, and then those of the rest
 tags-add : Adds writeTags
 tags-add item inside rest =
     omega (
@@ -61,6 +50,18 @@ data-add source item inside rest =
       ap length (data-none source),
     )
 
+-- ---- where the reading is not sure
+
+-- what is answered then
+abbrev pub noTally : Tally
+noTally = record { tags = 0; content = unsure }
+
+-- where no right arguments are short enough, that is exact
+no-arguments : {t source : List ℕ} {lo hi levels : ℕ}
+    → ((F : Forest) → SurveyedRow t source messageKind lo hi levels F → length (writeData source F) ≤ longestElement → ⊥)
+    → SurveysArguments t source lo hi levels noTally
+no-arguments n = record { exact = no-length (omega arith) n; tagged = λ h. absurd (omega (arith, h)) }
+
 -- ---- one argument
 
 -- arguments may stand in an array as in a message
@@ -75,32 +76,28 @@ unfolding allowed
 array-message k = refl
 
 -- what was read of a record, and its sort
-module _ {t : List ℕ} (source : List ℕ) {at : ℕ} (levels : ℕ) (p : InTable t at) {e : ℕ} {item : Item} {sort : Sort} (ie : item ≡ itemAt t at)
-    (ee : e ≡ endAt t at) (se : sort ≡ sortOf (item .kind)) where
+module _ {t : List ℕ} (source : List ℕ) {at : ℕ} (levels : ℕ) (p : InTable t at) {e : ℕ} {item : Item} {sort : Sort}
+    (ie : item ≡ itemAt t at) (ee : e ≡ endAt t at) (se : sort ≡ sortOf (item .kind)) where
   sort-is : {x : Sort} → sort ≡ x → sortOf (kindAt t at) ≡ x
   sort-is q = sym (se ∙ ap (λ (i : Item). sortOf (i .kind)) ie) ∙ q
 
   -- a record that is no argument
   not-argument : ((inside : Forest) → SurveyedNode t source messageKind at levels inside → ⊥)
-      → SurveysArguments t source at (endAt t at) levels (record { tags = 0; content = unsure })
-  not-argument n =
-      record {
-        exact = no-length (omega arith) (λ F w h. let y = row-node (p .zeros) (p .on) F w in n (y .0) (y .2));
-        tagged = λ h. absurd (omega (arith, h));
-      }
+      → SurveysArguments t source at (endAt t at) levels noTally
+  not-argument n = no-arguments (λ F w h. let y = row-node (p .zeros) (p .on) F w in n (y .0) (y .2))
 
   -- an array where no level is left
-  pub array-too-deep : sort ≡ Opens → levels ≡ 0 → SurveysArguments t source at (endAt t at) levels (record { tags = 0; content = unsure })
+  pub array-too-deep : sort ≡ Opens → levels ≡ 0 → SurveysArguments t source at (endAt t at) levels noTally
   array-too-deep q z =
       let k = opens-only (kindAt t at) (sort-is q) in
       not-argument (λ inside s. let d : level arrayKind (depth inside) ≤ levels = rw k at (s .deep) in omega (arith, d, z))
 
   -- an array against its own rules
-  pub array-wrong : ownRules item ≡ false → SurveysArguments t source at (endAt t at) levels (record { tags = 0; content = unsure })
+  pub array-wrong : ownRules item ≡ false → SurveysArguments t source at (endAt t at) levels noTally
   array-wrong n = not-argument (λ inside s. true≢false (sym (s .rules) ∙ rw ie at n))
 
   -- the tag that closes an array is no kind
-  pub closes-wrong : sort ≡ Closes → SurveysArguments t source at (endAt t at) levels (record { tags = 0; content = unsure })
+  pub closes-wrong : sort ≡ Closes → SurveysArguments t source at (endAt t at) levels noTally
   unfolding ownRules
   closes-wrong q =
       not-argument (λ inside s. false≢true (rw (no-packet (kindAt t at) (s .may), sort-is q) at (s .rules)))
@@ -110,7 +107,7 @@ module _ {t : List ℕ} (source : List ℕ) {at : ℕ} (levels : ℕ) (p : InTab
 
   -- an argument that is no array and does not end after itself
   pub leaf-long : {class : Class} → sort ≡ Leaf class → (e ≡ at + 1 → ⊥)
-      → SurveysArguments t source at (endAt t at) levels (record { tags = 0; content = unsure })
+      → SurveysArguments t source at (endAt t at) levels noTally
   unfolding Spans
   leaf-long q n =
       not-argument (λ inside s.
@@ -120,8 +117,8 @@ module _ {t : List ℕ} (source : List ℕ) {at : ℕ} (levels : ℕ) (p : InTab
 
   -- an argument that is no array
   module _ {class : Class} (q : sort ≡ Leaf class) (l : e ≡ at + 1) {n : ℕ} (ne : n ≡ leafContent source class item) where
-    s : sortOf (kindAt t at) ≡ Leaf class
-    s = sort-is q
+    leaf-sort : sortOf (kindAt t at) ≡ Leaf class
+    leaf-sort = sort-is q
 
     passes : n ≤ longestElement → leafOk source class (itemAt t at) ≡ true
     passes h = rw ie at (go (leafOk source class item) ne)
@@ -133,9 +130,8 @@ module _ {t : List ℕ} (source : List ℕ) {at : ℕ} (levels : ℕ) (p : InTab
     stands : leafOk source class (itemAt t at) ≡ true → SurveyedNode t source messageKind at levels nil
     unfolding Spans Obeys depth
     stands o =
-        let r = leaf-sound source (itemAt t at) class s o in
-        let k = no-packet (kindAt t at) (r .may) in
-        let b : kindAt t at ≡ bundleKind → ⊥ = λ y. true≢false (sym (ap isPacket y) ∙ k) in
+        let r = leaf-sound source (itemAt t at) class leaf-sort o in
+        let b = other-kind (kindAt t at) bundleKind refl (no-packet (kindAt t at) (r .may)) in
         record {
           rules = r .rules;
           range = r .range;
@@ -159,50 +155,50 @@ module _ {t : List ℕ} (source : List ℕ) {at : ℕ} (levels : ℕ) (p : InTab
                 record {
                   forest = node (itemAt t at) nil nil;
                   right = node-row (p .zeros) (p .on) nil x;
-                  sized = leaf-data source (itemAt t at) class s (x .range) ∙ sym (ne ∙ rw (ie, o));
+                  sized = leaf-data source (itemAt t at) class leaf-sort (x .range) ∙ sym (ne ∙ rw (ie, o));
                 };
             only = λ F w h.
                 let y = row-node (p .zeros) (p .on) F w in
                 let x = y .2 in
-                let o = leaf-complete source (itemAt t at) class s (record { rules = x .rules; range = x .range; may = x .may }) in
+                let o = leaf-complete source (itemAt t at) class leaf-sort (record { rules = x .rules; range = x .range; may = x .may }) in
                 let i : F ≡ node (itemAt t at) nil nil = y .1 ∙ rw (only-nil (y .0) (x .spans)) in
-                let d = ap (λ (G : Forest). length (writeData source G)) i ∙ leaf-data source (itemAt t at) class s (x .range) in
+                let d = ap (λ (G : Forest). length (writeData source G)) i ∙ leaf-data source (itemAt t at) class leaf-sort (x .range) in
                 let m : n ≡ argumentLength class (itemAt t at .b) = ne ∙ rw (ie, o) in
                 omega (arith, m, d, h);
           };
           tagged = λ h F w.
               let y = only-node t at F (p .on) w in
               let i : F ≡ node (itemAt t at) nil nil = y .1 ∙ rw (only-nil (y .0) (y .2)) in
-              ap (λ (G : Forest). length (writeTags G)) i ∙ leaf-tag source (itemAt t at) class s;
+              ap (λ (G : Forest). length (writeTags G)) i ∙ leaf-tag source (itemAt t at) class leaf-sort;
         }
 
   -- an array of arguments, which have one level less
   module _ (q : sort ≡ Opens) (z : levels ≡ 0 → ⊥) (o : ownRules item ≡ true) {inner : Tally}
       (w : SurveysArguments t source (at + 1) e (levels - 1) inner) where
-    k : kindAt t at ≡ arrayKind
-    k = opens-only (kindAt t at) (sort-is q)
+    array-kind : kindAt t at ≡ arrayKind
+    array-kind = opens-only (kindAt t at) (sort-is q)
 
-    into : (G : Forest) → SurveyedRow t source messageKind (at + 1) (endAt t at) (levels - 1) G
+    array-into : (G : Forest) → SurveyedRow t source messageKind (at + 1) (endAt t at) (levels - 1) G
         → SurveyedNode t source messageKind at levels G
     unfolding rangeOk allowed
-    into G x =
+    array-into G x =
         record {
           rules = rw ie at o;
-          range = rw k;
-          may = rw k;
+          range = rw array-kind;
+          may = rw array-kind;
           spans = x .spans;
-          obeys = rw k (same-container source messageKind arrayKind (λ i. sym (array-message i)) G (x .obeys));
+          obeys = rw array-kind (same-container source messageKind arrayKind (λ i. sym (array-message i)) G (x .obeys));
           zeros = x .zeros;
-          deep = rw k (omega (arith, x .shallow));
+          deep = rw array-kind (omega (arith, x .shallow));
         }
 
-    from : (G : Forest) → SurveyedNode t source messageKind at levels G
+    array-from : (G : Forest) → SurveyedNode t source messageKind at levels G
         → SurveyedRow t source messageKind (at + 1) (endAt t at) (levels - 1) G
-    from G x =
-        let d : level arrayKind (depth G) ≤ levels = rw k at (x .deep) in
+    array-from G x =
+        let d : level arrayKind (depth G) ≤ levels = rw array-kind at (x .deep) in
         record {
           spans = x .spans;
-          obeys = same-container source arrayKind messageKind array-message G (rw k at (x .obeys));
+          obeys = same-container source arrayKind messageKind array-message G (rw array-kind at (x .obeys));
           zeros = x .zeros;
           shallow = omega (arith, d);
         }
@@ -216,13 +212,13 @@ module _ {t : List ℕ} (source : List ℕ) {at : ℕ} (levels : ℕ) (p : InTab
         )
 
     tags-inside : (G : Forest) → length (writeTags (node (itemAt t at) G nil)) ≡ 2 + length (writeTags G)
-    tags-inside G = omega (arith, simp length-append at (ap length (tags-array (itemAt t at) G nil k)), ap length tags-none)
+    tags-inside G = omega (arith, simp length-append at (ap length (tags-array (itemAt t at) G nil array-kind)), ap length tags-none)
 
     pub argument-array : SurveysArguments t source at (endAt t at) levels (record { tags = 2 + inner .tags; content = inner .content })
     argument-array =
         let v : SurveysArguments t source (at + 1) (endAt t at) (levels - 1) inner = rw ee at w in
         record {
-          exact = exact-around (carries-inside (p .zeros) (p .on) into from) row-only (v .exact) 0 (omega arith)
+          exact = exact-around (carries-inside (p .zeros) (p .on) array-into array-from) row-only (v .exact) 0 (omega arith)
               (λ G x. omega (arith, data-inside G)) (λ h G x. data-inside G);
           tagged = λ h F x.
               let y = only-node t at F (p .on) x in
@@ -245,37 +241,26 @@ behind-none t source levels lo hi h = record { join = λ G. G; passed = passed-n
 
 module _ {t source : List ℕ} {levels lo hi at n m : ℕ} (b : Behind t source levels lo hi at n m) where
   -- a record that is not placed ends the walk
-  pub arguments-unplaced : at < hi → placed t at hi ≡ false → SurveysArguments t source lo hi levels (record { tags = 0; content = unsure })
-  arguments-unplaced h e =
-      record {
-        exact = no-length (omega arith) (λ F w l. not-placed (data-add source) (b .passed) h e F w);
-        tagged = λ l. absurd (omega (arith, l));
-      }
+  pub arguments-unplaced : at < hi → placed t at hi ≡ false → SurveysArguments t source lo hi levels noTally
+  arguments-unplaced h e = no-arguments (λ F w l. not-placed (data-add source) (b .passed) h e F w)
 
   -- where no record is left, the arguments are surveyed
   pub arguments-all : hi ≤ at → SurveysArguments t source lo hi levels (record { tags = n; content = m })
   arguments-all q =
-      let x = passed-all (data-add source) (b .passed) (ap length (data-none source)) q in
+      let e : at ≡ hi = omega (arith, b .passed .within) in
       record {
-        exact = x;
+        exact = passed-all (data-add source) (b .passed) (ap length (data-none source)) q;
         tagged = λ h F w.
-            let y = b .passed .carries .there nil (rw (e q) row-none) in
+            let y = b .passed .carries .there nil (rw e row-none) in
             let s = ap (λ (G : Forest). length (writeTags G)) (spans-unique t lo hi F _ w (y .spans)) in
             omega (arith, s, b .tagged nil, ap length tags-none);
       }
-    where
-      e : hi ≤ at → at ≡ hi
-      e q = omega (arith, b .passed .within)
 
   module _ {x : Tally} (a : SurveysArguments t source at (endAt t at) levels x) where
     -- a sum over the limit ends the walk
     pub arguments-long : at < hi → longestElement < m + x .content
-        → SurveysArguments t source lo hi levels (record { tags = 0; content = unsure })
-    arguments-long h o =
-        record {
-          exact = no-length (omega arith) (λ F w l. passed-long (data-add source) (b .passed) (a .exact) h o F w l);
-          tagged = λ l. absurd (omega (arith, l));
-        }
+        → SurveysArguments t source lo hi levels noTally
+    arguments-long h o = no-arguments (λ F w l. passed-long (data-add source) (b .passed) (a .exact) h o F w l)
 
     -- an argument is passed with its tags and its data
     pub behind-more : Placed t at hi → x .tags ≤ 2 * (endAt t at - at) → m + x .content ≤ longestElement

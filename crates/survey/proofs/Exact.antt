@@ -1,5 +1,5 @@
 -- Readings that are exact: where one is not sure, and where the reading of a part makes that of a whole.
-use mathlib.Core.Path.{_≡_, refl, sym, ap, _∙_}
+use mathlib.Core.Path.{_≡_, refl, ap, _∙_}
 use Prim.Native.Nat.{ℕ, _+_, _≤_, _<_}
 use native.Mathlib.Omega.{arith}
 use Rattle.node.specs.Forest.{Forest}

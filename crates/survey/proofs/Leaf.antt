@@ -13,7 +13,7 @@ use Rattle.wire.proofs.Numbers.{length-bytes}
 use Rattle.wire.proofs.Parts.{length-part}
 use Rattle.node.specs.Forest.{Forest, nil, node}
 use Rattle.node.specs.Tags.{sortOf, classOf, among, messageKind, bundleKind, arrayKind}
-use Rattle.node.specs.Rules.{leafRules, ownRules, isPacket}
+use Rattle.node.specs.Rules.{ownRules, isPacket}
 use Rattle.node.specs.declared.record.Item.{Item}
 use Rattle.node.specs.declared.tags.Class.{Class}
 use Rattle.node.specs.declared.tags.Class.the-variants.{Four, Eight, Bare, Text, Blob, Scalar, Unknown}
@@ -36,7 +36,7 @@ unfolding allowed
 no-packet k a = not-true (isPacket k) a
 
 -- a kind that is not a packet's is neither of them
-other-kind : (k p : ℕ) → isPacket p ≡ true → isPacket k ≡ false → k ≡ p → ⊥
+pub other-kind : (k p : ℕ) → isPacket p ≡ true → isPacket k ≡ false → k ≡ p → ⊥
 other-kind k p y n e = true≢false (sym y ∙ sym (ap isPacket e) ∙ n)
 
 -- a node that is neither a packet nor an array contains nothing
@@ -88,6 +88,12 @@ range-is source item n =
     (is-or (item .kind) 98))
     (is-or (item .kind) 115)
 
+-- a record obeys its own rules and its range's, and may stand in a message
+pub record LeafRules (source : List ℕ) (item : Item) : Type 0 where
+  pub rules : ownRules item ≡ true
+  pub range : rangeOk source item ≡ true
+  pub may : allowed messageKind (item .kind) ≡ true
+
 module _ (source : List ℕ) (item : Item) (class : Class) (s : sortOf (item .kind) ≡ Leaf class) where
   -- what is no packet passes exactly where its own rules and its range's hold
   ok-is : isPacket (item .kind) ≡ false → leafOk source class item ≡ cond (ownRules item) (rangeOk source item) false
@@ -107,13 +113,8 @@ module _ (source : List ℕ) (item : Item) (class : Class) (s : sortOf (item .ki
   known o =
       rw (ne-eqb (item .kind) bundleKind (not-unknown o bundleKind refl), ne-eqb (item .kind) messageKind (not-unknown o messageKind refl))
 
-  -- what passes obeys its own rules and its range's, and may stand in a message
-  pub record LeafRules : Type 0 where
-    pub rules : ownRules item ≡ true
-    pub range : rangeOk source item ≡ true
-    pub may : allowed messageKind (item .kind) ≡ true
-
-  pub leaf-sound : leafOk source class item ≡ true → LeafRules
+  -- what passes obeys them, and may stand in a message
+  pub leaf-sound : leafOk source class item ≡ true → LeafRules source item
   unfolding allowed
   leaf-sound o =
       let n = known o in
@@ -122,7 +123,7 @@ module _ (source : List ℕ) (item : Item) (class : Class) (s : sortOf (item .ki
       record { rules = r; range = rw r at e; may = rw n }
 
   -- and only that passes
-  pub leaf-complete : LeafRules → leafOk source class item ≡ true
+  pub leaf-complete : LeafRules source item → leafOk source class item ≡ true
   leaf-complete w = ok-is (no-packet (item .kind) (w .may)) ∙ rw (w .rules, w .range)
 
 -- ---- its length

@@ -4,3 +4,4 @@ pub mod Rows
 pub mod Arguments
 pub mod Packets
 pub mod Only
+pub mod Examples

@@ -1,44 +1,38 @@
 -- What the survey answers of one packet, of the packets of a row and of a table.
 use mathlib.Core.Path.{_≡_, refl, sym, ap, _∙_}
-use mathlib.Core.Bool.{Bool, true, false, cond, true≢false, false≢true}
-use mathlib.Core.List.{List, [], _∷_}
+use mathlib.Core.Bool.{true, false, true≢false, false≢true}
+use mathlib.Core.List.{List}
 use Prim.Native.Nat.{ℕ, _+_, _-_, _*_, _≤_, _<_}
 use native.Mathlib.Omega.{arith}
 use lib.ListN.{length, length-append}
-use borrow.Author.Tests.{leb-true, ne-eqb, eqb-true}
+use borrow.Author.Tests.{leb-true}
 use Rattle.wire.specs.Limits.{deepest}
 use Rattle.wire.specs.Part.{part, inside}
 use Rattle.wire.proofs.Choices.{then-only}
 use Rattle.wire.proofs.Numbers.{length-bytes}
 use Rattle.wire.proofs.Parts.{length-part}
 use Rattle.node.specs.Forest.{Forest, nil, node, level, depth}
-use Rattle.node.specs.Tags.{sortOf, among, messageKind, bundleKind, arrayKind}
+use Rattle.node.specs.Tags.{messageKind, bundleKind}
 use Rattle.node.specs.Rules.{ownRules, isPacket}
-use Rattle.node.specs.Records.{recordSize, mostRecords, kindAt, zerosAt, endAt, itemAt}
+use Rattle.node.specs.Records.{recordSize, mostRecords, kindAt, endAt, itemAt}
 use Rattle.node.specs.declared.record.Item.{Item}
-use Rattle.node.specs.declared.tags.Class.{Class}
-use Rattle.node.specs.declared.tags.Sort.{Sort}
-use Rattle.node.specs.declared.tags.Sort.the-variants.{Opens, Closes, Leaf}
 use Rattle.table.specs.Formed.{textOk, rangeOk, allowed, WellFormed}
-use Rattle.table.specs.Tree.{Spans, Obeys}
-use Rattle.table.proofs.Spanned.{no-more, spans-unique}
 use Rattle.table.proofs.Theorem.{tree-formed}
 use Rattle.strings.specs.Atomic.{oscString}
 use Rattle.strings.specs.CodeStrings.{stringLength}
 use Rattle.strings.proofs.Lengths.{length-string}
-use Rattle.writers.specs.Osc.{writeTags, writeData, writeMessage, writePacket, writeElements}
-use Rattle.writers.specs.CodeWriters.{bundleHead, longestElement, packetAt}
+use Rattle.writers.specs.Osc.{writeTags, writeData, writePacket, writeElements}
+use Rattle.writers.specs.CodeWriters.{bundleHead, longestElement}
 use Rattle.writers.proofs.Lengths.{length-message, length-bundle}
-use Rattle.writers.proofs.Classed.{opens, opens-only, tags-none, data-none, elements-none, tags-is, tags-array, data-is}
+use Rattle.writers.proofs.Classed.{elements-none}
 use Rattle.writers.proofs.Classed.{elements-is, message-is, bundle-is}
-use Rattle.survey.specs.CodeSurvey.{placed, leafOk, leafContent, unsure, argumentLength, InTable, SurveyedRow, Exactly}
-use Rattle.survey.specs.CodeSurvey.{SurveysArguments, SurveysPackets, ShallowTree, Surveys}
+use Rattle.survey.specs.CodeSurvey.{placed, unsure, InTable, SurveyedRow}
+use Rattle.survey.specs.CodeSurvey.{SurveysArguments, SurveysPackets, Surveys}
 use Rattle.survey.specs.declared.Tally.{Tally}
-use Rattle.survey.proofs.Leaf.{no-packet, leaf-empty, LeafRules, leaf-sound, leaf-complete, leaf-data, leaf-tag}
 use Rattle.survey.proofs.Exact.{no-length, exact-around}
-use Rattle.survey.proofs.Rows.{Placed, SurveyedNode, row-only, only-node, node-row, row-node, carries-inside, row-none}
-use Rattle.survey.proofs.Rows.{Adds, Counts, counts-more, Passed, passed-none, passed-all, not-placed, passed-long}
-use Rattle.survey.proofs.Rows.{next, passed-more}
+use Rattle.survey.proofs.Rows.{Placed, SurveyedNode, row-only, only-node, row-node, carries-inside}
+use Rattle.survey.proofs.Rows.{Adds, Passed, passed-none, passed-all, not-placed, passed-long}
+use Rattle.survey.proofs.Rows.{passed-more}
 
 -- ---- what is written of a packet and of the rest
 
@@ -65,7 +59,8 @@ element source item inside =
 -- ---- one packet
 
 -- what was read of a message's record
-module _ {t source : List ℕ} {at levels : ℕ} (k : kindAt t at ≡ messageKind) (p : InTable t at) {item : Item} (ie : item ≡ itemAt t at) where
+module _ {t source : List ℕ} {at levels : ℕ} (k : kindAt t at ≡ messageKind) (p : InTable t at) {item : Item}
+    (ie : item ≡ itemAt t at) where
   -- a message whose address is wrong
   pub address-wrong : textOk source (item .a) (item .b) ≡ false → SurveysPackets t source at (endAt t at) levels unsure
   unfolding rangeOk
@@ -82,7 +77,8 @@ module _ {t source : List ℕ} {at levels : ℕ} (k : kindAt t at ≡ messageKin
     range : textOk source (itemAt t at .a) (itemAt t at .b) ≡ true
     range = rw ie at r
 
-    message-into : (G : Forest) → SurveyedRow t source messageKind (at + 1) (endAt t at) levels G → SurveyedNode t source bundleKind at levels G
+    message-into : (G : Forest) → SurveyedRow t source messageKind (at + 1) (endAt t at) levels G
+        → SurveyedNode t source bundleKind at levels G
     unfolding ownRules rangeOk allowed
     message-into G v =
         record {
@@ -95,7 +91,8 @@ module _ {t source : List ℕ} {at levels : ℕ} (k : kindAt t at ≡ messageKin
           deep = rw k (v .shallow);
         }
 
-    message-from : (G : Forest) → SurveyedNode t source bundleKind at levels G → SurveyedRow t source messageKind (at + 1) (endAt t at) levels G
+    message-from : (G : Forest) → SurveyedNode t source bundleKind at levels G
+        → SurveyedRow t source messageKind (at + 1) (endAt t at) levels G
     message-from G s = record { spans = s .spans; obeys = rw k at (s .obeys); zeros = s .zeros; shallow = rw k at (s .deep) }
 
     message-whole : (G : Forest) → length (writeElements source (node (itemAt t at) G nil))
@@ -106,18 +103,15 @@ module _ {t source : List ℕ} {at levels : ℕ} (k : kindAt t at ≡ messageKin
         let l : length (oscString (part source (itemAt t at .a) (itemAt t at .b))) ≡ x
         = length-string _ ∙ rw (length-part source (itemAt t at .a) (itemAt t at .b) (leb-true _ _ i), xe, ie) in
         let m = ap length (message-is source (itemAt t at) G k) ∙ length-message source (itemAt t at) G in
-        omega (
-          arith,
-          element source (itemAt t at) G,
-          rw l at m,
-        )
+        omega (arith, element source (itemAt t at) G, rw l at m)
 
     pub message-found : SurveysPackets t source at (endAt t at) levels (4 + x + y + inner .content)
     message-found =
         let v : SurveysArguments t source (at + 1) (endAt t at) levels inner = rw ee at w in
         exact-around (carries-inside (p .zeros) (p .on) message-into message-from) row-only (v .exact) (4 + x + y) refl
         (λ G s. omega (arith, message-whole G))
-        (λ h G s. let d : stringLength (1 + length (writeTags G)) ≡ y = rw (v .tagged h G (s .spans)) (sym ye) in omega (arith, message-whole G, d))
+        (λ h G s. let d : stringLength (1 + length (writeTags G)) ≡ y = rw (v .tagged h G (s .spans)) (sym ye) in
+        omega (arith, message-whole G, d))
 
 -- what is neither a message nor a bundle is no packet
 pub not-packet : {t source : List ℕ} {at levels : ℕ} (p : InTable t at) {kind : ℕ} → kind ≡ kindAt t at → isPacket kind ≡ false
@@ -157,7 +151,8 @@ module _ {t source : List ℕ} {at levels : ℕ} (k : kindAt t at ≡ bundleKind
         let d : level bundleKind (depth G) ≤ levels = rw k at (s .deep) in
         record { spans = s .spans; obeys = rw k at (s .obeys); zeros = s .zeros; shallow = omega (arith, d) }
 
-    bundle-whole : (G : Forest) → length (writeElements source (node (itemAt t at) G nil)) ≡ 4 + bundleHead + length (writeElements source G)
+    bundle-whole : (G : Forest)
+        → length (writeElements source (node (itemAt t at) G nil)) ≡ 4 + bundleHead + length (writeElements source G)
     bundle-whole G =
         let m : kindAt t at ≡ messageKind → ⊥ = λ q. omega (arith, q, k) in
         omega (

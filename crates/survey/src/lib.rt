@@ -223,7 +223,7 @@ fn survey_packets(table: &[u8], lo: usize, hi: usize, source: &[u8], levels: usi
 
 // The length of the packet of a table as an element, its size counted, or UNSURE where no such packet can be written.
 //
-// Ruled out: a length for a table whose first record ends before its last; UNSURE for a table that has a packet of 65,535 bytes.
+// Ruled out: a length for a table whose first record ends before its last; UNSURE for a message with 17 arrays in each other.
 pub fn survey(table: &[u8], count: usize, source: &[u8]) -> usize
     ensures { λ r. ⌜ Surveys (now (table .entry)) count (now (source .entry)) r ⌝ }
 {

@@ -11,13 +11,14 @@ use Rattle.encoder.specs.declared.Encoded.{Encoded}
 use Rattle.encoder.specs.declared.Encoded.the-variants as encoded
 use Rattle.telling.specs.Forms.{line}
 
--- the words of document 01's "Refusal numbers", each at the place of its number; none has the number 0
+-- the words of document 01's "Refusal numbers", each at the place of its number (those of 9 are Ticket 4's); none has the number 0
 abbrev pub refusedForms : List String
 refusedForms =
     "\n" ∷ "refused %: decode input over 65,535 bytes, or encoded result (prefix included) over it\n" ∷ "refused %: a packet of no bytes\n"
     ∷ "refused %: a field, NUL, padding or TCP prefix runs past the bytes there\n" ∷ "refused %: text is not UTF-8\n"
     ∷ "refused %: first string is neither /-led nor exactly #bundle\n" ∷ "refused %: ] with no array open\n"
-    ∷ "refused %: unknown type tag\n" ∷ "refused %: c is not a scalar number\n" ∷ "refused %: bundles nested deeper than the limit\n"
+    ∷ "refused %: unknown type tag\n" ∷ "refused %: c is not a scalar number\n"
+    ∷ "refused %: bundles and arrays nested deeper than the limit\n"
     ∷ "refused %: the result has more records than the capacity\n"
     ∷ "refused %: table not well formed, or a record asked for does not exist\n" ∷ "refused %: output slice shorter than the result\n"
     ∷ "refused %: depth limit over 64\n" ∷ "refused %: pad of a position over 2^64 - 4\n" ∷ []

@@ -17,7 +17,7 @@ pub struct Line {
 }
 
 // The forms, a line to each: those of the refusals stand at their numbers, and line 0 is empty.
-const FORMS: [u8; 1735] = *b"
+const FORMS: [u8; 1746] = *b"
 refused %: decode input over 65,535 bytes, or encoded result (prefix included) over it
 refused %: a packet of no bytes
 refused %: a field, NUL, padding or TCP prefix runs past the bytes there
@@ -26,7 +26,7 @@ refused %: first string is neither /-led nor exactly #bundle
 refused %: ] with no array open
 refused %: unknown type tag
 refused %: c is not a scalar number
-refused %: bundles nested deeper than the limit
+refused %: bundles and arrays nested deeper than the limit
 refused %: the result has more records than the capacity
 refused %: table not well formed, or a record asked for does not exist
 refused %: output slice shorter than the result

@@ -21,7 +21,8 @@ pub struct Table<'a> {
 }
 
 impl<'a> Table<'a> {
-    /// The records of a table from anywhere, or [`Refusal::BadTable`].
+    /// The records of a table from anywhere, or [`Refusal::BadTable`]. How deep a table is does not matter here; an encoder refuses
+    /// one that is deeper than [`DEEPEST`](crate::DEEPEST).
     ///
     /// ```
     /// use sennorbai::{Refusal, Table, Value};

@@ -157,6 +157,7 @@ fn encoded(bundles: usize, arrays: usize) -> Result<Vec<u8>, Refusal> {
         builder.close().unwrap();
     }
     let table = builder.finish().unwrap();
+    assert!(table.check().is_ok(), "a table may be well formed and too deep");
     let bytes = encode(table, &mut out).map(<[u8]>::to_vec);
     let framed = encode_tcp(table, &mut out).map(<[u8]>::len);
     let prefix = if bundles == 0 { 4 } else { 0 };

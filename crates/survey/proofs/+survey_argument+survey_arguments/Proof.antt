@@ -64,7 +64,8 @@ survey-arguments-below t =
     survey-arguments.Pre
 
 abbrev survey-arguments-Inv-loop : survey-arguments-lts.InvT-loop
-survey-arguments-Inv-loop table lo hi source levels unsure tags₀ content₀ at₀ tags content at = Behind table source levels lo hi at tags content
+survey-arguments-Inv-loop table lo hi source levels unsure tags₀ content₀ at₀ tags content at =
+    Behind table source levels lo hi at tags content
 
 abbrev survey-arguments-μ-loop : survey-arguments-lts.MeasureT-loop
 survey-arguments-μ-loop table lo hi source levels unsure tags₀ content₀ at₀ tags content at = hi - at
@@ -155,8 +156,8 @@ pub +survey-argument+survey-arguments-spec : {M : Type 1} → statement M
     let f = s .before .before in
     let q = f .before .before .before .pre .1 in (
       argument-array _ _ q (s .before .item-at .ensures) (f .field-at .ensures) (s .sort-of .ensures)
-          (o .before .before .enum-told .given .1) (o .before .if1 .left) (sym (o .own-rules .ensures) ∙ not-false _ (c .before .before .if2 .left))
-          (c .before .survey-arguments .ensures .0),
+          (o .before .before .enum-told .given .1) (o .before .if1 .left)
+          (sym (o .own-rules .ensures) ∙ not-false _ (c .before .before .if2 .left)) (c .before .survey-arguments .ensures .0),
       (
         omega (arith, c .before .survey-arguments .ensures .1, f .field-at .ensures, q .on),
         omega (arith, c .before .survey-arguments .ensures .1),

@@ -182,6 +182,7 @@ pub +survey-packet+survey-packets-spec : {M : Type 1} → statement M
     let i = c .before .before .before in
     let p = placed-is _ _ _ (sym (i .before .is-placed .ensures) ∙ not-false _ (i .if1 .left)) in
     rw (← c .field-at .ensures) at
-    (ahead-more (i .before .before .before .loop .inv) (c .before .before .survey-packet .ensures .0) p (omega (arith, c .before .if2 .left))))
+    (ahead-more (i .before .before .before .loop .inv) (c .before .before .survey-packet .ensures .0) p
+    (omega (arith, c .before .if2 .left))))
     -- returns-3
     (λ c. (packets-all (c .before .loop .inv) (c .loop-test .left), omega (arith, c .before .loop .inv .passed .short)))

@@ -1,5 +1,4 @@
 -- `survey::survey` meets its contract: the first record is the whole table's.
-use mathlib.Core.Path.{sym, _∙_}
 use native.Mathlib.Omega.{arith}
 use Rattle.survey.proofs.Packets.{no-tree, tree-surveyed}
 use borrow.Author.Needs.{needs}
@@ -16,14 +15,14 @@ returns-3 : tie.Need-returns-3
 returns-3 c = no-tree (λ w. omega (arith, w .fits, c .if3 .taken, c .before .capacity-of .ensures))
 
 returns-4 : tie.Need-returns-4
-returns-4 c = no-tree (λ w. c .if4 .taken (c .before .field-at .ensures ∙ w .whole))
+returns-4 c = no-tree (λ w. omega (arith, w .whole, c .if4 .taken, c .before .field-at .ensures))
 
 returns-5 : tie.Need-returns-5
 returns-5 c =
     let f = c .before .before in
     let k = f .before in
     tree-surveyed (omega (arith, k .before .before .before .if1 .left)) (omega (arith, k .before .before .if2 .left))
-    (omega (arith, k .if3 .left, k .before .capacity-of .ensures)) (sym (f .field-at .ensures) ∙ c .before .if4 .left)
+    (omega (arith, k .if3 .left, k .before .capacity-of .ensures)) (omega (arith, f .field-at .ensures, c .before .if4 .left))
     (c .survey-packets .ensures .0) (c .survey-packets .ensures .1)
 
 pub survey-spec : {M : Type 1} → statement M

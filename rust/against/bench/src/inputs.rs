@@ -93,6 +93,7 @@ fn hostile() -> Vec<Input> {
     vec![
         of("bundles 3,276 deep", deep_bundles(3_276)),
         of("bundles 64 deep, messages", [deep_bundles(64), SMALL.repeat(5_350)].concat()),
+        of("511 arrays 64 deep", typed(("[".repeat(64) + &"]".repeat(64)).repeat(511))),
         of("arrays 65,526 deep, open", typed("[".repeat(many))),
         of("arrays 32,763 deep, closed", typed("[".repeat(many / 2) + &"]".repeat(many / 2))),
         of("arrays 32,763 deep, bad end", typed("[".repeat(many / 2) + &"]".repeat(many / 2 - 1) + "?")),

@@ -33,8 +33,8 @@ tree for each decode and a vector for each encode, liblo a message for each deco
 Decode reads every argument: its number, or the length and the last byte of its text; all sides sum these up alike.
 Encode starts from what a program holds: the port's from a table, rosc's and liblo's from built packets, oscpack's from values.
 The port checks UTF-8 in both directions, rosc when it decodes, liblo and oscpack never.
-* not rosc's answer: the port refuses bundles over 64 deep; liblo has neither arrays nor colours; liblo and oscpack refuse
-  bytes left over and elements that fail, so all hostile inputs, oscpack at once by their length.
+* not rosc's answer: the port refuses bundles and arrays over 64 deep; liblo has neither arrays nor colours; liblo and oscpack
+  refuse bytes left over and elements that fail, so all hostile inputs, oscpack at once by their length.
 - nothing to encode, or an argument that the library lacks.";
 
 const COUNT_NOTES: &str = "\
