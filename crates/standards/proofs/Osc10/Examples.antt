@@ -95,34 +95,34 @@ held-accepted = osc10-accepted held held-bytes held-allowed held-spelled (omega 
 -- ---- arrays
 
 -- /a with an array in an array that holds the integer 5
-abbrev arrays : Packet
-arrays = message (0x2F ∷ 0x61 ∷ []) (array (array (atom (word 105 5) end) end) end)
+abbrev bracketed : Packet
+bracketed = message (0x2F ∷ 0x61 ∷ []) (array (array (atom (word 105 5) end) end) end)
 
 -- 2F610000 2C5B5B69 5D5D0000 00000005
-abbrev arrays-bytes : List ℕ
-arrays-bytes =
+abbrev bracketed-bytes : List ℕ
+bracketed-bytes =
     0x2F ∷ 0x61 ∷ 0 ∷ 0 ∷ 0x2C ∷ 0x5B ∷ 0x5B ∷ 0x69 ∷ 0x5D ∷ 0x5D ∷ 0 ∷ 0 ∷ 0 ∷ 0 ∷ 0 ∷ 5 ∷ []
 
 -- it is two levels deep
-arrays-deep : deep arrays ≡ 2
+bracketed-deep : deep bracketed ≡ 2
 unfolding deep argumentsDeep
-arrays-deep = refl
+bracketed-deep = refl
 
-arrays-allowed : Allowed arrays
+bracketed-allowed : Allowed bracketed
 unfolding Allowed ArgumentsAllowed
-arrays-allowed = (p3-allowed .0, p3-allowed .1, ((p3-allowed .2, tt), tt))
+bracketed-allowed = (p3-allowed .0, p3-allowed .1, ((p3-allowed .2, tt), tt))
 
-arrays-spelled : Spells arrays arrays-bytes
+bracketed-spelled : Spells bracketed bracketed-bytes
 unfolding bytes tagsOf
-arrays-spelled =
+bracketed-spelled =
     as-message
     (record { additional = 1; few = omega arith; spelled = refl; multiple = refl })
     (record { additional = 1; few = omega arith; spelled = refl; multiple = refl })
     (one-array (one-array (one-atom as-word no-argument) no-argument) no-argument)
 
 -- it is accepted
-pub arrays-accepted : AcceptedAs udp arrays arrays-bytes
-arrays-accepted = osc10-accepted arrays arrays-bytes arrays-allowed arrays-spelled (omega arith) (omega (arith, arrays-deep))
+pub bracketed-accepted : AcceptedAs udp bracketed bracketed-bytes
+bracketed-accepted = osc10-accepted bracketed bracketed-bytes bracketed-allowed bracketed-spelled (omega arith) (omega (arith, bracketed-deep))
 
 -- ---- a message of OSC 1.0 itself
 
