@@ -122,7 +122,8 @@ bracketed-spelled =
 
 -- it is accepted
 pub bracketed-accepted : AcceptedAs udp bracketed bracketed-bytes
-bracketed-accepted = osc10-accepted bracketed bracketed-bytes bracketed-allowed bracketed-spelled (omega arith) (omega (arith, bracketed-deep))
+bracketed-accepted =
+    osc10-accepted bracketed bracketed-bytes bracketed-allowed bracketed-spelled (omega arith) (omega (arith, bracketed-deep))
 
 -- ---- a message of OSC 1.0 itself
 
