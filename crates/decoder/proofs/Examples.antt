@@ -14,7 +14,7 @@ use Rattle.text.specs.Text.{readText}
 use Rattle.argument.specs.Argument.{readArg}
 use Rattle.arguments.specs.Arguments.{readTags}
 use Rattle.packet.specs.Packet.{readMessage, bundleBy, packetBy, elementBy, elementsBy, packetAt, readPacket}
-use Rattle.packet.specs.Heads.{startOf, sizeOf, prefixOf}
+use Rattle.heads.specs.Heads.{startOf, sizeOf, prefixOf}
 use Rattle.decoder.specs.Framing.{Whole, ruleOf, udp, readFrame, tcp, framesAt, readFrames, tcpVec}
 use Rattle.decoder.specs.Limits.{decoded, forestOf, tabled, Decodes}
 use Rattle.decoder.specs.declared.Framing.{Framing}

@@ -14,9 +14,9 @@ use Rattle.refusal.specs.declared.Fault.the-variants as faults
 use Rattle.wire.proofs.Choices.{by-test, by-le, by-both}
 use Rattle.node.specs.Forest.{Forest, nil, node, size, depth, level}
 use Rattle.node.specs.declared.record.Item.{Item}
-use Rattle.packet.specs.Heads.{prefixOf}
+use Rattle.heads.specs.Heads.{prefixOf}
 use Rattle.packet.specs.Packet.{fault, one, readPacket}
-use Rattle.packet.specs.declared.Prefix.the-variants as prefix
+use Rattle.heads.specs.declared.Prefix.the-variants as prefix
 use Rattle.measure.specs.CodeMeasure.{extent}
 use Rattle.measure.specs.declared.Extent.{Extent}
 use Rattle.measure.specs.declared.Extent.the-variants.{Tree, Deep, Refused}

@@ -16,10 +16,10 @@ use Rattle.packet.specs.Packet.{fault, one, after, readPacket}
 use Rattle.decoder.specs.Framing.{Whole, trees, waiting, refusal, Frame, wait, read, frameWith, readFrame, before, framesAt}
 use Rattle.decoder.specs.Framing.{readFrames, tcpVec}
 use Rattle.decoder.specs.Limits.{forestOf}
-use Rattle.packet.specs.Heads.{prefixOf}
+use Rattle.heads.specs.Heads.{prefixOf}
 use Rattle.fill.specs.CodeFill.{treeOf, reread, Fills}
 use Rattle.decoder.specs.CodeFrames.{framePacket, Accepted}
-use Rattle.packet.specs.declared.Prefix.the-variants as prefix
+use Rattle.heads.specs.declared.Prefix.the-variants as prefix
 use Rattle.fill.specs.declared.Reread.{Reread}
 use Rattle.fill.specs.declared.Reread.the-variants.{Wrote, Nothing}
 use Rattle.fill.proofs.Fills.{room-after, fills-after}

@@ -8,11 +8,11 @@ use native.Mathlib.Omega.{arith}
 use lib.Dec.{leb}
 use lib.ListN.{length, drop, length-drop}
 use Rattle.node.specs.Forest.{nil, node, size}
-use Rattle.packet.specs.Heads.{prefixOf}
+use Rattle.heads.specs.Heads.{prefixOf}
 use Rattle.packet.specs.Packet.{Out, fault, one, after, readPacket}
-use Rattle.packet.specs.declared.Prefix.{Prefix}
-use Rattle.packet.specs.declared.Prefix.the-variants as prefix
-use Rattle.packet.proofs.Heads.{PrefixIn, prefix-within}
+use Rattle.heads.specs.declared.Prefix.{Prefix}
+use Rattle.heads.specs.declared.Prefix.the-variants as prefix
+use Rattle.heads.proofs.Heads.{PrefixIn, prefix-within}
 use Rattle.packet.proofs.Within.{Within, packet-in}
 use Rattle.decoder.specs.Framing.{Whole, trees, Frame, wait, read, frameWith, readFrame, before, afterFrame, framesAt, readFrames}
 

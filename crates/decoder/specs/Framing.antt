@@ -8,10 +8,10 @@ use Rattle.refusal.specs.declared.Fault.{Fault}
 use Rattle.refusal.specs.declared.Fault.the-variants.{RunsOut}
 use Rattle.node.specs.Forest.{Forest, nil, node}
 use Rattle.node.specs.declared.record.Item.{Item}
-use Rattle.packet.specs.Heads.{prefixOf}
+use Rattle.heads.specs.Heads.{prefixOf}
 use Rattle.packet.specs.Packet.{Out, fault, one, after, readPacket}
-use Rattle.packet.specs.declared.Prefix.{Prefix}
-use Rattle.packet.specs.declared.Prefix.the-variants as prefix
+use Rattle.heads.specs.declared.Prefix.{Prefix}
+use Rattle.heads.specs.declared.Prefix.the-variants as prefix
 use Rattle.decoder.specs.declared.Framing.{Framing}
 use Rattle.decoder.specs.declared.Framing.the-variants.{Udp, Tcp, TcpVec}
 

@@ -2,9 +2,9 @@
 use crate::Decoded;
 use crate::Framing;
 use fill::Reread;
+use heads::Prefix;
 use measure::Extent;
 use node::record;
-use packet::Prefix;
 use refusal::Fault;
 use refusal::Refusal;
 ghost use mathlib.Core.Path.{_≡_};
@@ -148,7 +148,7 @@ fn measure_frame(input: &[u8], depth: usize) -> FrameExtent
     requires { ⌜ length (now input) ≤ longest ⌝ }
     ensures { λ r. ⌜ ((base : ℕ) → r ≡ frameExtent depth (readFrame base (now (input .entry)))) ⌝ }
 {
-    match packet::read_prefix(input) {
+    match heads::read_prefix(input) {
         Prefix::Ready => FrameExtent::Packet(measure::measure_packet(&input[4..], 4, depth)),
         Prefix::Waiting => FrameExtent::Waiting,
         Prefix::RunsOut => FrameExtent::Packet(Extent::Refused(Fault::RunsOut)),
@@ -175,7 +175,7 @@ fn decode_frame(input: &[u8], base: usize, table: &mut [u8], index: usize) -> Re
     requires { ⌜ TableRoom (treeOf (framePacket (readFrame base (now input)))) index (now table) ⌝ }
     ensures { λ r. ⌜ Fills (framePacket (readFrame base (now (input .entry)))) 0 index (now (table .entry)) r (now (table .exit)) ⌝ }
 {
-    match packet::read_prefix(input) {
+    match heads::read_prefix(input) {
         Prefix::Ready => fill::decode_packet(&input[4..], base, 4, table, index),
         Prefix::Waiting => Reread::Nothing,
         Prefix::RunsOut => Reread::Nothing,

@@ -1,4 +1,3 @@
-pub mod Heads
 pub mod Knot
 pub mod Within
 pub mod Bundles

@@ -1,6 +1,6 @@
 -- `decoder::frames::measure_frame` meets its contract. The extent of the packet after the prefix, whose position is 4.
 use Rattle.decoder.proofs.FrameExtents.{frame-ready, frame-waits, frame-runs-out}
-use Rattle.packet.proofs.Heads.{prefix-in}
+use Rattle.heads.proofs.Heads.{prefix-in}
 use Rattle.wire.proofs.Parts.{tail}
 use native.Mathlib.Omega.{arith}
 use mathlib.Core.Path.{sym, _∙_}

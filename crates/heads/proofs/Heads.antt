@@ -24,14 +24,13 @@ use Rattle.text.specs.declared.Text.{Text}
 use Rattle.text.specs.declared.Text.the-variants.{Found, Lacks}
 use Rattle.text.specs.declared.Lack.{Lack}
 use Rattle.text.proofs.Within.{found-in}
-use Rattle.packet.specs.Heads.{bundleWord, sameBytes, startBy, startOf, tagsIn, sizeOf, prefixOf}
-use Rattle.packet.specs.Packet.{bundleItem}
-use Rattle.packet.specs.declared.Start.{Start}
-use Rattle.packet.specs.declared.Start.the-variants.{Message, Bundle, Refused}
-use Rattle.packet.specs.declared.ElementSize.{ElementSize}
-use Rattle.packet.specs.declared.ElementSize.the-variants.{Holds, RunsOut}
-use Rattle.packet.specs.declared.Prefix.{Prefix}
-use Rattle.packet.specs.declared.Prefix.the-variants as prefix
+use Rattle.heads.specs.Heads.{bundleWord, sameBytes, startBy, startOf, tagsIn, sizeOf, prefixOf, bundleItem}
+use Rattle.heads.specs.declared.Start.{Start}
+use Rattle.heads.specs.declared.Start.the-variants.{Message, Bundle, Refused}
+use Rattle.heads.specs.declared.ElementSize.{ElementSize}
+use Rattle.heads.specs.declared.ElementSize.the-variants.{Holds, RunsOut}
+use Rattle.heads.specs.declared.Prefix.{Prefix}
+use Rattle.heads.specs.declared.Prefix.the-variants as prefix
 
 -- ---- what a packet starts with
 

@@ -9,15 +9,16 @@ use Rattle.refusal.specs.declared.Fault.the-variants as fault
 use Rattle.wire.specs.Number.{number}
 use Rattle.utf8.specs.Lead.{leadOf}
 use Rattle.node.specs.Tags.{messageKind, bundleKind}
+use Rattle.node.specs.declared.record.Item.{Item}
 use Rattle.text.specs.Text.{readText, faultOf}
 use Rattle.text.specs.declared.Text.{Text}
 use Rattle.text.specs.declared.Text.the-variants.{Found, Lacks}
-use Rattle.packet.specs.declared.Start.{Start}
-use Rattle.packet.specs.declared.Start.the-variants.{Message, Bundle, Refused}
-use Rattle.packet.specs.declared.ElementSize.{ElementSize}
-use Rattle.packet.specs.declared.ElementSize.the-variants.{Holds, RunsOut}
-use Rattle.packet.specs.declared.Prefix.{Prefix}
-use Rattle.packet.specs.declared.Prefix.the-variants as prefix
+use Rattle.heads.specs.declared.Start.{Start}
+use Rattle.heads.specs.declared.Start.the-variants.{Message, Bundle, Refused}
+use Rattle.heads.specs.declared.ElementSize.{ElementSize}
+use Rattle.heads.specs.declared.ElementSize.the-variants.{Holds, RunsOut}
+use Rattle.heads.specs.declared.Prefix.{Prefix}
+use Rattle.heads.specs.declared.Prefix.the-variants as prefix
 
 -- "#bundle": its first character is also the kind of a bundle
 abbrev pub bundleWord : List ℕ
@@ -53,3 +54,12 @@ sizeOf l = cond (leb 4 (length l)) (cond (leb (number 4 l) (length l - 4)) (Hold
 -- the prefix of a frame (rule 6): 4 bytes; a length greater than the whole input, prefix included, waits
 unfoldable pub prefixOf : List ℕ → Prefix
 prefixOf l = cond (leb 4 (length l)) (cond (leb (number 4 l) (length l)) prefix.Ready prefix.Waiting) prefix.RunsOut
+
+-- the own numbers of a message whose address of n bytes stands at `offset`, where the message begins (Ticket 10)
+abbrev pub messageItem : ℕ → ℕ → Item
+messageItem offset n = record { kind = messageKind; a = offset; b = n; start = offset }
+
+-- the own numbers of a bundle whose "#bundle" stands at offset `start` (Ticket 10) and whose time tag stands at the front of l: seconds
+-- and fractional
+abbrev pub bundleItem : ℕ → List ℕ → Item
+bundleItem start l = record { kind = bundleKind; a = number 4 l; b = number 4 (drop 4 l); start = start }

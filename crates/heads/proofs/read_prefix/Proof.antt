@@ -1,8 +1,8 @@
--- `packet::read_prefix` meets its contract. Each answer is a case of `prefixOf`.
-use Rattle.packet.proofs.Heads.{prefix-short, prefix-waits, prefix-ready}
+-- `heads::read_prefix` meets its contract. Each answer is a case of `prefixOf`.
+use Rattle.heads.proofs.Heads.{prefix-short, prefix-waits, prefix-ready}
 use borrow.Author.Needs.{needs}
-use Rattle.packet.proofs.read_prefix.Statement.{statement}
-use Rattle.packet.proofs.read_prefix.Tie as tie
+use Rattle.heads.proofs.read_prefix.Statement.{statement}
+use Rattle.heads.proofs.read_prefix.Tie as tie
 
 returns : tie.Need-returns
 returns c = prefix-short _ (c .if1 .taken)

@@ -1,8 +1,8 @@
--- `packet::tags_in` meets its contract. The first character of a text lies within it.
-use Rattle.packet.proofs.Heads.{no-types, first-in, first-skipped}
+-- `heads::tags_in` meets its contract. The first character of a text lies within it.
+use Rattle.heads.proofs.Heads.{no-types, first-in, first-skipped}
 use borrow.Author.Needs.{needs}
-use Rattle.packet.proofs.tags_in.Statement.{statement}
-use Rattle.packet.proofs.tags_in.Tie as tie
+use Rattle.heads.proofs.tags_in.Statement.{statement}
+use Rattle.heads.proofs.tags_in.Tie as tie
 
 returns : tie.Need-returns
 returns c = no-types (c .before .before .args .types .now) (c .if1 .taken)

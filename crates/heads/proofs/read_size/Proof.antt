@@ -1,8 +1,8 @@
--- `packet::read_size` meets its contract. Each answer is a case of `sizeOf`.
-use Rattle.packet.proofs.Heads.{size-short, size-past, size-holds}
+-- `heads::read_size` meets its contract. Each answer is a case of `sizeOf`.
+use Rattle.heads.proofs.Heads.{size-short, size-past, size-holds}
 use borrow.Author.Needs.{needs}
-use Rattle.packet.proofs.read_size.Statement.{statement}
-use Rattle.packet.proofs.read_size.Tie as tie
+use Rattle.heads.proofs.read_size.Statement.{statement}
+use Rattle.heads.proofs.read_size.Tie as tie
 
 returns : tie.Need-returns
 returns c = size-short _ (c .if1 .taken)

@@ -1,8 +1,8 @@
--- `packet::bundle_item` meets its contract, number by number.
+-- `heads::bundle_item` meets its contract, number by number.
 use borrow.Author.Needs.{needs}
-use Rattle.packet.proofs.Heads.{time-tag}
-use Rattle.packet.proofs.bundle_item.Statement.{statement}
-use Rattle.packet.proofs.bundle_item.Tie as tie
+use Rattle.heads.proofs.Heads.{time-tag}
+use Rattle.heads.proofs.bundle_item.Statement.{statement}
+use Rattle.heads.proofs.bundle_item.Tie as tie
 
 returns : tie.Need-returns
 returns c = time-tag _ (c .before .before .before .args .input .now) (c .before .be-u32 .ensures) (c .be-u322 .ensures)
