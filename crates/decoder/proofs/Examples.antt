@@ -14,7 +14,8 @@ use Rattle.text.specs.Text.{readText}
 use Rattle.argument.specs.Argument.{readArg}
 use Rattle.arguments.specs.Arguments.{readTags}
 use Rattle.packet.specs.Packet.{readMessage, bundleBy, packetBy, elementBy, elementsBy, packetAt, readPacket}
-use Rattle.heads.specs.Heads.{startOf, sizeOf, prefixOf}
+use Rattle.heads.specs.Heads.{sizeOf, prefixOf}
+use Rattle.packet.specs.FirstText.{startOf}
 use Rattle.totals.specs.Framing.{Whole, ruleOf, udp, readFrame, tcp, framesAt, readFrames, tcpVec}
 use Rattle.answering.specs.Limits.{decoded, forestOf, tabled, Decodes}
 use Rattle.totals.specs.declared.Framing.{Framing}

@@ -1,9 +1,9 @@
 // The second reading of a packet: its records are written to the front of a table that has room for them.
 use arguments::Measured;
 use heads::ElementSize;
-use heads::Start;
 use node::record;
 use node::record::Item;
+use packet::Start;
 use text::Text;
 ghost use mathlib.Core.Path.{_≡_};
 ghost use Prim.Native.Nat.{_+_, _≤_};
@@ -36,7 +36,7 @@ pub fn decode_packet(
     requires { ⌜ TableRoom (treeOf (readPacket base (now input) pos)) index (now table) ⌝ }
     ensures { λ r. ⌜ Fills (readPacket base (now (input .entry)) pos) pos index (now (table .entry)) r (now (table .exit)) ⌝ }
 {
-    match heads::read_start(input, pos) {
+    match packet::read_start(input, pos) {
         Start::Message { length, used } => {
             let item = heads::message_item(base + pos, length);
             decode_message(&input[used..], base, pos + used, item, table, index)
@@ -169,7 +169,7 @@ pub fn write_packet(
     requires { ⌜ Known (readPacket base (now input) pos) count ⌝ }
     ensures { λ _. ⌜ now (table .exit) ≡ stored index (treeOf (readPacket base (now (input .entry)) pos)) (now (table .entry)) ⌝ }
 {
-    match heads::read_start(input, pos) {
+    match packet::read_start(input, pos) {
         Start::Message { length, used } => {
             let item = heads::message_item(base + pos, length);
             write_message(&input[used..], base, pos + used, item, table, index, count);

@@ -1,7 +1,7 @@
 // The first reading of a packet: it writes nothing, and goes no deeper than the limit on nested bundles and arrays.
 use arguments::Measured;
 use heads::ElementSize;
-use heads::Start;
+use packet::Start;
 use refusal::Fault;
 use text::Text;
 ghost use mathlib.Core.Path.{_≡_};
@@ -35,7 +35,7 @@ pub fn measure_packet(input: &[u8], pos: usize, room: usize) -> Extent
     requires { ⌜ pos + length (now input) ≤ longest ⌝ }
     ensures { λ r. ⌜ ((base : ℕ) → r ≡ extent room pos (readPacket base (now (input .entry)) pos)) ⌝ }
 {
-    match heads::read_start(input, pos) {
+    match packet::read_start(input, pos) {
         Start::Message { length: _, used } => measure_message(&input[used..], pos + used, room),
         Start::Bundle { used } => measure_bundle(&input[used..], pos + used, room),
         Start::Refused(fault) => Extent::Refused(fault),
@@ -168,7 +168,7 @@ fn is_packet(input: &[u8], pos: usize) -> bool
     requires { ⌜ pos + length (now input) ≤ longest ⌝ }
     ensures { λ r. ⌜ ((base : ℕ) → r ≡ accepted (readPacket base (now (input .entry)) pos)) ⌝ }
 {
-    match heads::read_start(input, pos) {
+    match packet::read_start(input, pos) {
         Start::Message { length: _, used } => {
             match measure_message(&input[used..], pos + used, 0) {
                 Extent::Tree { count: _, next: _ } => true,

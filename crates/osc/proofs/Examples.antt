@@ -19,7 +19,8 @@ use Rattle.text.specs.Text.{readText}
 use Rattle.argument.specs.Argument.{readArg}
 use Rattle.arguments.specs.Arguments.{readTags}
 use Rattle.packet.specs.Packet.{readMessage, bundleBy, elementBy, elementsBy, packetBy, packetAt, readPacket}
-use Rattle.heads.specs.Heads.{startOf, sizeOf, prefixOf}
+use Rattle.heads.specs.Heads.{sizeOf, prefixOf}
+use Rattle.packet.specs.FirstText.{startOf}
 use Rattle.totals.specs.Framing.{udp, readFrame, tcp, framesAt, readFrames, tcpVec}
 use Rattle.answering.specs.Limits.{decoded}
 use Rattle.totals.specs.declared.Framing.the-variants.{Udp, Tcp, TcpVec}

@@ -1,3 +1,4 @@
+pub mod FirstText
 pub mod Knot
 pub mod Within
 pub mod Bundles

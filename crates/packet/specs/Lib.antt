@@ -1,1 +1,2 @@
+pub mod FirstText
 pub mod Packet

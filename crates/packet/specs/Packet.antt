@@ -1,4 +1,4 @@
--- Packets, messages, bundles and elements: document 01, "How bytes are read", rules 2 and 5; what stands at their fronts is in crate heads.
+-- Packets, messages, bundles and elements: document 01, "How bytes are read", rules 2 and 5. What a packet starts with: FirstText.antt.
 -- A rule reads at the front of l, which stands at position p of its frame; `base` is added to a position to give an offset.
 -- A rule that reads contained packets is given the rule for them; the knot is tied once, at the end, by the number of bytes.
 use mathlib.Core.Bool.{cond}
@@ -14,9 +14,10 @@ use Rattle.text.specs.Text.{readText, faultOf}
 use Rattle.text.specs.declared.Text.{Text}
 use Rattle.text.specs.declared.Text.the-variants.{Found, Lacks}
 use Rattle.arguments.specs.Arguments.{Args, refused, args, readArgs}
-use Rattle.heads.specs.Heads.{startOf, tagsIn, sizeOf, messageItem, bundleItem}
-use Rattle.heads.specs.declared.Start.{Start}
-use Rattle.heads.specs.declared.Start.the-variants as start
+use Rattle.heads.specs.Heads.{tagsIn, sizeOf, messageItem, bundleItem}
+use Rattle.packet.specs.FirstText.{startOf}
+use Rattle.packet.specs.declared.Start.{Start}
+use Rattle.packet.specs.declared.Start.the-variants as start
 use Rattle.heads.specs.declared.ElementSize.{ElementSize}
 use Rattle.heads.specs.declared.ElementSize.the-variants as size
 

@@ -1,12 +1,12 @@
--- `heads::same` meets its contract. The invariant: from `i` on the two agree as they do from the start.
-use Rattle.heads.proofs.Heads.{other-length, same-on, same-not, same-end}
-use Rattle.heads.specs.Heads.{sameBytes}
+-- `packet::same` meets its contract. The invariant: from `i` on the two agree as they do from the start.
+use Rattle.packet.proofs.FirstText.{other-length, same-on, same-not, same-end}
+use Rattle.packet.specs.FirstText.{sameBytes}
 use mathlib.Core.Path.{_≡_, refl, sym, _∙_}
 use lib.ListN.{length, drop}
 use Prim.Native.Nat.{_≤_, _-_}
 use borrow.Author.Needs.{needs}
-use Rattle.heads.proofs.same.Statement.{statement}
-use Rattle.heads.proofs.same.Tie as tie
+use Rattle.packet.proofs.same.Statement.{statement}
+use Rattle.packet.proofs.same.Tie as tie
 
 abbrev Inv-loop : tie.InvT-loop
 Inv-loop a b i₀ i = (i ≤ length a) × (length a ≡ length b) × (sameBytes a b ≡ sameBytes (drop i a) (drop i b))

@@ -1,12 +1,12 @@
--- `heads::read_start` meets its contract. Each answer is a case of `startOf`.
-use Rattle.heads.proofs.Heads.{start-empty, start-message, start-bundle, start-other, start-lacks, is-word}
+-- `packet::read_start` meets its contract. Each answer is a case of `startOf`.
+use Rattle.packet.proofs.FirstText.{start-empty, start-message, start-bundle, start-other, start-lacks, is-word}
 use Rattle.text.proofs.Within.{found-in}
-use Rattle.heads.specs.declared.Start.the-variants.{Refused}
+use Rattle.packet.specs.declared.Start.the-variants.{Refused}
 use native.Mathlib.Omega.{arith}
 use mathlib.Core.Path.{ap, sym, _∙_}
 use borrow.Author.Needs.{needs}
-use Rattle.heads.proofs.read_start.Statement.{statement}
-use Rattle.heads.proofs.read_start.Tie as tie
+use Rattle.packet.proofs.read_start.Statement.{statement}
+use Rattle.packet.proofs.read_start.Tie as tie
 
 returns : tie.Need-returns
 returns c = start-empty _ _ (c .if1 .taken)
