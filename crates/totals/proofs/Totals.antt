@@ -14,7 +14,7 @@ use Rattle.packet.proofs.Within.{Within, packet-in}
 use Rattle.measure.specs.CodeMeasure.{extent}
 use Rattle.measure.specs.declared.Extent.{Extent}
 use Rattle.measure.specs.declared.Extent.the-variants.{Tree}
-use Rattle.totals.specs.Framing.{Whole, single, udp, Frame, wait, read, readFrame, first, tcp, ruleOf}
+use Rattle.totals.specs.Framing.{single, udp, Frame, wait, read, readFrame, first, tcp, ruleOf}
 use Rattle.totals.specs.CodeTotals.{frameExtent, totalOf, EndsIn, totalOfOne}
 use Rattle.totals.specs.declared.Framing.{Framing}
 use Rattle.totals.specs.declared.FrameExtent.{FrameExtent}
