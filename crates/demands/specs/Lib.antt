@@ -1,9 +1,1 @@
-pub mod Calls
-pub mod Words
-pub mod Demands
-pub mod Osc10
-pub mod Strict
-pub mod Seen
-pub mod Standards
 pub mod There
-pub mod Starts

@@ -1,13 +1,14 @@
-// Each public call once more, with what demand 1's theorems speak of as its contract: `Meets` (specs/Calls.antt). So the theorems are about
-// the calls and not about a copy of their contracts: where a call's own contract no longer gives `Meets`, the function over it is refused.
+// Each public call once more, with what demand 1's theorems speak of as its contract: `Meets` (crates/answers/specs/Calls.antt). So the
+// theorems are about the calls and not about a copy of their contracts: where a call's own contract no longer gives `Meets`, the function
+// over it is refused.
 use decoder::Decoded;
 use encoder::Encoded;
 use values::look::Looked;
 use values::look::Started;
 use values::value::OscType;
 use wire::Padded;
-ghost use Rattle.decoder.specs.declared.Framing.the-variants.{Udp, Tcp, TcpVec};
-ghost use Rattle.demands.specs.Calls.{Meets, decode, encode, encode-tcp, encode-string, pad, look, start-of, text-of};
+ghost use Rattle.totals.specs.declared.Framing.the-variants.{Udp, Tcp, TcpVec};
+ghost use Rattle.answers.specs.Calls.{Meets, decode, encode, encode-tcp, encode-string, pad, look, start-of, text-of};
 
 fn decode_udp(msg: &[u8], table: &mut [u8], depth: usize) -> Decoded
     ensures { λ r. ⌜ Meets (decode Udp (now (msg .entry)) (now (table .entry)) depth) (record { answer = r; lent = now (table .exit) }) ⌝ }

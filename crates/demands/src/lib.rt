@@ -1,4 +1,5 @@
-// The order's demands as theorems (specs/ and proofs/), and a function that shows the round trip on lent buffers.
+// The order's demands, of the code itself: functions over the public calls, whose contracts are what the theorems speak of. The theorems are
+// in crates/answers (demands 1 and 3), crates/standards (demand 2) and crates/given (what the decoders give).
 mod entry_points; // entry_points.rt: each public call meets what the theorems of demand 1 speak of
 
 use decoder::Decoded;

@@ -1,7 +1,7 @@
 -- `demands::there_and_back` meets its contract, by the round trip; the other answers are not given where it speaks.
 use native.Mathlib.Nat.{sub-zero}
 use borrow.Author.Needs.{needs}
-use Rattle.demands.proofs.Trip.There.{not-refused, within-output, comes-back}
+use Rattle.demands.proofs.There.{not-refused, within-output, comes-back}
 use Rattle.demands.proofs.there_and_back.Statement.{statement}
 use Rattle.demands.proofs.there_and_back.Tie as tie
 

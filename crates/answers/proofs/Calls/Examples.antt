@@ -1,0 +1,111 @@
+-- Examples, computed: endings that meet the contracts, with refusals, Waiting and results, and so the hypotheses of `listed`, `settled`
+-- and `nothing-changed`.
+use mathlib.Core.Path.{_≡_, refl, sym, ap}
+use mathlib.Core.Bool.{true}
+use mathlib.Core.List.{List, [], _∷_, _++_}
+use Prim.Native.Nat.{ℕ}
+use native.Mathlib.Omega.{arith}
+use lib.Ieee.{nan, ofBits}
+use lib.ListN.{replicate}
+use Rattle.refusal.specs.declared.Fault.the-variants.{Empty}
+use Rattle.refusal.specs.declared.Refusal.the-variants.{Unreadable, BadTable, OutputShort, PadOverflow}
+use Rattle.wire.specs.Number.{number, bytes}
+use Rattle.wire.specs.declared.Padded.the-variants as padded
+use Rattle.node.specs.Forest.{size, depth}
+use Rattle.node.specs.Records.{recordOf, recordsOf, kindAt, zerosAt, fieldAt}
+use Rattle.node.specs.Rules.{ownRules}
+use Rattle.node.specs.Tags.{among, classOf, sortOf}
+use Rattle.values.specs.Value.{valueBy}
+use Rattle.values.specs.Look.{lookAt}
+use Rattle.values.specs.declared.value.OscType.the-variants.{Blob, Double}
+use Rattle.values.specs.declared.look.Looked.the-variants as looked
+use Rattle.heads.specs.Heads.{prefixOf}
+use Rattle.packet.specs.Packet.{packetAt, readPacket}
+use Rattle.totals.specs.Framing.{udp, readFrame, tcp, tcpVec}
+use Rattle.totals.specs.declared.Framing.the-variants.{Udp, Tcp, TcpVec}
+use Rattle.answering.specs.Limits.{decodeOrder, decoded, forestOf, tabled}
+use Rattle.answering.specs.declared.Decoded.{Decoded}
+use Rattle.answering.specs.declared.Decoded.the-variants as decodes
+use Rattle.strings.specs.Atomic.{oscString, oscBlob}
+use Rattle.writers.specs.Osc as osc
+use Rattle.encoder.specs.Outcome.{bytesOutcome, treeOutcome, malformed, formed}
+use Rattle.encoder.specs.declared.Encoded.the-variants as encodes
+use Rattle.answers.specs.Calls.{Meets, Ending, decode, encode, pad, look, text-of, refuses, byEncoded}
+use Rattle.answers.specs.Demands.{tableAfter}
+use Rattle.table.proofs.Examples as p3
+use Rattle.answers.proofs.Calls.Listed.{listed}
+use Rattle.answers.proofs.Calls.Settled.{settled, nothing-changed}
+use Rattle.answers.proofs.Room.Examples.{blank, two-answer}
+
+-- P1: no bytes are refused with 2, and any table is as it was
+p1 : (table : List ℕ) → Meets (decode Udp [] table 64) (record { answer = decodes.Refused (Unreadable Empty); lent = table })
+unfolding packetAt readPacket udp decoded
+p1 table = record { answered = refl; left = refl }
+
+-- P14: 00000009 2F610000 is not all there
+p14 : (table : List ℕ)
+    → Meets (decode Tcp (0 ∷ 0 ∷ 0 ∷ 9 ∷ 0x2F ∷ 0x61 ∷ 0 ∷ 0 ∷ []) table 64) (record { answer = decodes.Waiting; lent = table })
+unfolding number prefixOf readFrame tcp decoded
+p14 table = record { answered = refl; left = refl }
+
+-- a table with a wrong end is refused with 11, whatever the output
+wrong-end : (out : List ℕ) → Meets (encode (p3.table 2 3) 2 p3.packet out) (record { answer = encodes.Refused BadTable; lent = out })
+wrong-end out = malformed p3.wrong-end refl
+
+-- P3's table encodes to P3's packet; one byte less is refused with 12
+eleven : List ℕ
+eleven = 1 ∷ 2 ∷ 3 ∷ 4 ∷ 5 ∷ 6 ∷ 7 ∷ 8 ∷ 9 ∷ 10 ∷ 11 ∷ []
+
+short : Meets (encode (p3.table 2 2) 2 p3.packet eleven) (record { answer = encodes.Refused OutputShort; lent = eleven })
+unfolding eleven bytes depth classOf sortOf oscString osc.writeData osc.writeTags osc.writeMessage osc.writePacket bytesOutcome treeOutcome
+short = formed p3.message p3.five p3.p3-tree refl
+
+written : Meets (encode (p3.table 2 2) 2 p3.packet (eleven ++ (12 ∷ 13 ∷ [])))
+    (record { answer = encodes.Written 12; lent = p3.packet ++ (13 ∷ []) })
+unfolding eleven bytes depth classOf sortOf oscString osc.writeData osc.writeTags osc.writeMessage osc.writePacket bytesOutcome treeOutcome
+written = formed p3.message p3.five p3.p3-tree refl
+
+-- 2^64 - 1 has no next multiple of 4
+last : Meets (pad 0xffff_ffff_ffff_ffff) (record { answer = padded.Refused PadOverflow; lent = tt })
+last = refl
+
+-- ---- the kinds that need care, over the packets and tables of crates/table/proofs/Examples.antt
+
+-- a bundle in a bundle is written as its own bytes
+nested : Meets (encode p3.nested-table 7 p3.nested (replicate 77 9)) (record { answer = encodes.Written 76; lent = p3.nested ++ (9 ∷ []) })
+unfolding bytes depth classOf sortOf oscString oscBlob osc.writeData osc.writeTags osc.writeMessage osc.writeBundle osc.writeElements
+    osc.writePacket bytesOutcome treeOutcome
+nested = formed (p3.once 0) (p3.within 0) p3.nested-tree refl
+
+-- a list of two frames
+list : Meets (decode TcpVec p3.two (blank 12) 2)
+    (record { answer = decodes.Packets 12 0; lent = tableAfter tcpVec 2 p3.two (blank 12) })
+list = record { answered = sym two-answer; left = ap (λ (r : Decoded). tabled r (forestOf (tcpVec p3.two)) (blank 12)) two-answer }
+
+-- a double that is no number, and the byte of a blob
+double : Meets (look p3.nested-table 6) (record { answer = looked.Value (Double 0x7FF8_0000_0000_0000 nan); lent = tt })
+unfolding p3.nested-table number bytes size recordOf recordsOf kindAt zerosAt fieldAt ownRules classOf sortOf valueBy lookAt ofBits
+double = refl
+
+blob : (label : List ℕ) → Meets (text-of (Blob 60 1) p3.nested label) (record { answer = 0xFF ∷ []; lent = tt })
+blob label = refl
+
+-- ---- the hypotheses of `listed`, `settled` and `nothing-changed`
+
+-- P1's refusal is one of the numbers of a decoder
+p1-listed : (table : List ℕ) → among 2 decodeOrder ≡ true
+p1-listed table = listed (decode Udp [] table 64) _ (p1 table)
+
+-- the bundle's call has no other ending
+nested-only : (e : Ending (encode p3.nested-table 7 p3.nested (replicate 77 9)))
+    → Meets (encode p3.nested-table 7 p3.nested (replicate 77 9)) e
+    → e ≡ record { answer = encodes.Written 76; lent = p3.nested ++ (9 ∷ []) }
+nested-only e m = settled _ e _ m nested
+
+-- a refusal with 12 leaves the output as it was
+short-unchanged : (e : Ending (encode (p3.table 2 2) 2 p3.packet eleven)) → Meets (encode (p3.table 2 2) 2 p3.packet eleven) e
+    → e .lent ≡ eleven
+short-unchanged e m =
+    let c = encode (p3.table 2 2) 2 p3.packet eleven in
+    let q : byEncoded (e .answer) ≡ refuses OutputShort = ap (λ (x : Ending c). byEncoded (x .answer)) (settled c e _ m short) in
+    nothing-changed _ e m (λ r. let z : _≡_ {A = ℕ} 0 1 = cc in omega arith)

@@ -1,0 +1,9 @@
+-- The order's demands 1 and 3, proved. A folder to each, and what they and the crates above cite.
+--     Answered    what an answer with packets shows of the input and of the table
+--     Calls       demand 1: every call ends as document 01 lists it, and its contract settles all that it leaves
+--     Room        demand 3: more room; n records hold what n bytes decode to
+--     Longer      demand 3: more bytes
+pub mod Answered
+pub mod Calls
+pub mod Room
+pub mod Longer

@@ -1,0 +1,178 @@
+-- Demand 1's public entry points: what each is handed, what it answers and what its contract says, by the definitions that the contract
+-- cites. crates/demands/src/entry_points.rt shows that each call meets what stands here.
+use mathlib.Core.Path.{_≡_}
+use mathlib.Core.Bool.{Bool, true, false}
+use mathlib.Core.List.{List, [], _∷_}
+use Prim.Native.Nat.{ℕ}
+use Rattle.refusal.specs.Refusal.{numberOf}
+use Rattle.refusal.specs.declared.Refusal.{Refusal}
+use Rattle.wire.specs.Pad.{padOf}
+use Rattle.wire.specs.declared.Padded.{Padded}
+use Rattle.wire.specs.declared.Padded.the-variants as padded
+use Rattle.node.specs.Tags.{among}
+use Rattle.values.specs.Look.{lookAt, startedAt, textNamed}
+use Rattle.values.specs.declared.value.OscType.{OscType}
+use Rattle.values.specs.declared.look.Looked.{Looked}
+use Rattle.values.specs.declared.look.Looked.the-variants as looked
+use Rattle.values.specs.declared.look.Started.{Started}
+use Rattle.values.specs.declared.look.Started.the-variants as started
+use Rattle.totals.specs.Framing.{ruleOf}
+use Rattle.totals.specs.declared.Framing.{Framing}
+use Rattle.totals.specs.declared.Framing.the-variants.{Udp, Tcp, TcpVec}
+use Rattle.answering.specs.Limits.{decodeOrder, Decodes}
+use Rattle.answering.specs.declared.Decoded.{Decoded}
+use Rattle.answering.specs.declared.Decoded.the-variants as decodes
+use Rattle.encoder.specs.Outcome.{encodeOrder, stringOrder, Encodes, unframed, prefixed, EncodesString}
+use Rattle.encoder.specs.declared.Encoded.{Encoded}
+use Rattle.encoder.specs.declared.Encoded.the-variants as encodes
+
+-- a call of a public entry point and what it is handed: any bytes, any table, any limits; the three decoders by their framing
+pub data Call : Type 0 where
+  decode : (framing : Framing) (msg table : List ℕ) (depth : ℕ) → Call
+  encode : (table : List ℕ) (count : ℕ) (source out : List ℕ) → Call
+  encode-tcp : (table : List ℕ) (count : ℕ) (source out : List ℕ) → Call
+  encode-string : (text out : List ℕ) → Call
+  pad : (pos : ℕ) → Call
+  look : (table : List ℕ) (index : ℕ) → Call
+  start-of : (table : List ℕ) (index : ℕ) → Call
+  text-of : (value : OscType) (packet label : List ℕ) → Call
+
+-- the type of its answer
+abbrev pub Answer : Call → Type 0
+Answer (decode framing msg table depth) = Decoded
+Answer (encode table count source out) = Encoded
+Answer (encode-tcp table count source out) = Encoded
+Answer (encode-string text out) = Encoded
+Answer (pad pos) = Padded
+Answer (look table index) = Looked
+Answer (start-of table index) = Started
+Answer (text-of value packet label) = List ℕ
+
+-- the bytes that it is lent by `&mut`: at most one buffer; what is lent by `&` cannot change
+abbrev pub Lent : Call → Type 0
+Lent (decode framing msg table depth) = List ℕ
+Lent (encode table count source out) = List ℕ
+Lent (encode-tcp table count source out) = List ℕ
+Lent (encode-string text out) = List ℕ
+Lent (pad pos) = Unit {0}
+Lent (look table index) = Unit {0}
+Lent (start-of table index) = Unit {0}
+Lent (text-of value packet label) = Unit {0}
+
+-- those bytes before the call
+abbrev pub lentTo : (c : Call) → Lent c
+lentTo (decode framing msg table depth) = table
+lentTo (encode table count source out) = out
+lentTo (encode-tcp table count source out) = out
+lentTo (encode-string text out) = out
+lentTo (pad pos) = tt
+lentTo (look table index) = tt
+lentTo (start-of table index) = tt
+lentTo (text-of value packet label) = tt
+
+-- how a call ends: its answer, and the lent bytes afterwards
+pub record Ending (c : Call) : Type 0 where
+  pub answer : Answer c
+  pub lent : Lent c
+
+-- the contract of the entry point
+abbrev pub Meets : (c : Call) → Ending c → Type 0
+Meets (decode framing msg table depth) e = Decodes (ruleOf framing) msg table depth (e .answer) (e .lent)
+Meets (encode table count source out) e = Encodes unframed table count source out (record { answer = e .answer; out = e .lent })
+Meets (encode-tcp table count source out) e = Encodes prefixed table count source out (record { answer = e .answer; out = e .lent })
+Meets (encode-string text out) e = EncodesString text out (record { answer = e .answer; out = e .lent })
+Meets (pad pos) e = e .answer ≡ padOf pos
+Meets (look table index) e = e .answer ≡ lookAt table index
+Meets (start-of table index) e = e .answer ≡ startedAt table index
+Meets (text-of value packet label) e = e .answer ≡ textNamed value packet label
+
+-- what an answer gives: a result; Waiting; or a refusal, which has its number and nothing else (refusal's `numberOf`)
+pub data Given : Type 0 where
+  result : Given
+  waits : Given
+  refuses : Refusal → Given
+
+-- of a decoder
+abbrev pub byDecoded : Decoded → Given
+byDecoded (decodes.Packets count left) = result
+byDecoded decodes.Waiting = waits
+byDecoded (decodes.Refused r) = refuses r
+
+-- of an encoder
+abbrev pub byEncoded : Encoded → Given
+byEncoded (encodes.Written n) = result
+byEncoded (encodes.Refused r) = refuses r
+
+-- of `pad`
+abbrev pub byPadded : Padded → Given
+byPadded (padded.At pos) = result
+byPadded (padded.Refused r) = refuses r
+
+-- of `look`
+abbrev pub byLooked : Looked → Given
+byLooked (looked.Value v) = result
+byLooked (looked.Refused r) = refuses r
+
+-- of `start_of`
+abbrev pub byStarted : Started → Given
+byStarted (started.At start) = result
+byStarted (started.Refused r) = refuses r
+
+-- of any call
+abbrev pub given : (c : Call) → Answer c → Given
+given (decode framing msg table depth) r = byDecoded r
+given (encode table count source out) r = byEncoded r
+given (encode-tcp table count source out) r = byEncoded r
+given (encode-string text out) r = byEncoded r
+given (pad pos) r = byPadded r
+given (look table index) r = byLooked r
+given (start-of table index) r = byStarted r
+given (text-of value packet label) r = result
+
+-- the refusals that document 01 has for a call, by their numbers
+abbrev pub numbersOf : Call → List ℕ
+numbersOf (decode framing msg table depth) = decodeOrder
+numbersOf (encode table count source out) = encodeOrder
+numbersOf (encode-tcp table count source out) = encodeOrder
+numbersOf (encode-string text out) = stringOrder
+numbersOf (pad pos) = 14 ∷ []
+numbersOf (look table index) = 11 ∷ []
+numbersOf (start-of table index) = 11 ∷ []
+numbersOf (text-of value packet label) = []
+
+-- "`decode_tcp` may also answer Waiting"
+abbrev pub mayWait : Call → Bool
+mayWait (decode Udp msg table depth) = false
+mayWait (decode Tcp msg table depth) = true
+mayWait (decode TcpVec msg table depth) = false
+mayWait (encode table count source out) = false
+mayWait (encode-tcp table count source out) = false
+mayWait (encode-string text out) = false
+mayWait (pad pos) = false
+mayWait (look table index) = false
+mayWait (start-of table index) = false
+mayWait (text-of value packet label) = false
+
+-- a result, Waiting where it may be, or one of these numbers
+abbrev pub Listed : List ℕ → Bool → Given → Type 0
+Listed numbers wait result = Unit {0}
+Listed numbers wait waits = wait ≡ true
+Listed numbers wait (refuses r) = among (numberOf r) numbers ≡ true
+
+-- ---- demand 1
+
+-- a contract settles the answer and every lent byte: no second ending meets it
+abbrev pub Settled : Type 0
+Settled = (c : Call) (e e' : Ending c) → Meets c e → Meets c e' → e ≡ e'
+
+-- and it can be met: no call is without an ending (said by two negations, since whether a table is well formed is decided by code)
+abbrev pub Met : Type 0
+Met = (c : Call) → ((e : Ending c) → Meets c e → ⊥) → ⊥
+
+-- "each call ends in an answer from document 01 or one of its numbered refusals"
+abbrev pub AnswersListed : Type 0
+AnswersListed = (c : Call) (e : Ending c) → Meets c e → Listed (numbersOf c) (mayWait c) (given c (e .answer))
+
+-- "a refusal changes no byte of any lent buffer"; nor does Waiting
+abbrev pub NothingChanged : Type 0
+NothingChanged = (c : Call) (e : Ending c) → Meets c e → (given c (e .answer) ≡ result → ⊥) → e .lent ≡ lentTo c

@@ -1,0 +1,70 @@
+-- The order's demand 3, over the definitions that the contracts cite.
+use mathlib.Core.Path.{_≡_}
+use mathlib.Core.List.{List, _++_}
+use Prim.Native.Nat.{ℕ, _-_, _*_, _≤_}
+use lib.ListN.{length, take, drop}
+use Rattle.refusal.specs.declared.Refusal.the-variants.{TableFull}
+use Rattle.wire.specs.Limits.{deepest}
+use Rattle.node.specs.Forest.{size}
+use Rattle.node.specs.Tags.{messageKind}
+use Rattle.node.specs.Records.{recordSize, kindAt, itemAt, capacity}
+use Rattle.totals.specs.Framing.{Whole}
+use Rattle.answering.specs.Limits.{decoded, forestOf, tabled}
+use Rattle.answering.specs.declared.Decoded.{Decoded}
+use Rattle.answering.specs.declared.Decoded.the-variants.{Packets, Refused}
+use Rattle.answers.specs.Words.{Continues, NotFull, Unlimited}
+
+-- the table after a decoder's call, by its rule, limit and message
+abbrev pub tableAfter : (List ℕ → Whole) → ℕ → List ℕ → List ℕ → List ℕ
+tableAfter rule limit msg table = tabled (decoded rule (capacity table) limit msg) (forestOf (rule msg)) table
+
+-- the answer of a decoder's call
+abbrev pub answerTo : (List ℕ → Whole) → ℕ → List ℕ → List ℕ → Decoded
+answerTo rule limit msg table = decoded rule (capacity table) limit msg
+
+-- ---- demand 3: more room
+
+-- with another depth limit and another table, a call's answer is the same, and so are the table's records
+pub record Unchanged (rule : List ℕ → Whole) (msg : List ℕ) (limit limit' : ℕ) (table table' : List ℕ) : Type 0 where
+  pub answers : answerTo rule limit' msg table' ≡ answerTo rule limit msg table
+  pub records : (count left : ℕ) → answerTo rule limit msg table ≡ Packets count left
+      → take (recordSize * count) (tableAfter rule limit' msg table') ≡ take (recordSize * count) (tableAfter rule limit msg table)
+
+-- no answer but 9 and 10 is taken back, for any rule, so for each of the three calls; a limit of at most 64 stays so, since above it
+-- the answer is 13
+abbrev pub MoreRoom : Type 0
+MoreRoom =
+    (rule : List ℕ → Whole) (msg : List ℕ) (limit limit' : ℕ) (table table' : List ℕ)
+    → limit ≤ limit' → (limit ≤ deepest → limit' ≤ deepest) → capacity table ≤ capacity table'
+    → NotFull (answerTo rule limit msg table) → Unchanged rule msg limit limit' table table'
+
+-- ---- demand 3: more bytes
+
+-- on the table: record 0 keeps its kind and numbers, and the records after it begin with the same ones
+pub record TableContinues (t t' : List ℕ) (count : ℕ) : Type 0 where
+  pub item : itemAt t' 0 ≡ itemAt t 0
+  pub rest : take (recordSize * count - recordSize) (drop recordSize t') ≡ take (recordSize * count - recordSize) (drop recordSize t)
+
+-- a packet that was given goes on: on the tree and on the table; a message's whole table is the same
+pub record GoesOn (rule : List ℕ → Whole) (msg more : List ℕ) (limit limit' : ℕ) (table table' : List ℕ) (count : ℕ) : Type 0 where
+  pub tree : Continues (forestOf (rule msg)) (forestOf (rule (msg ++ more)))
+  pub left : ℕ
+  pub answers : answerTo rule limit' (msg ++ more) table' ≡ Packets (size (forestOf (rule (msg ++ more)))) left
+  pub continues : TableContinues (tableAfter rule limit msg table) (tableAfter rule limit' (msg ++ more) table') count
+  pub message : kindAt (tableAfter rule limit msg table) 0 ≡ messageKind
+      → take (recordSize * count) (tableAfter rule limit' (msg ++ more) table') ≡ take (recordSize * count)
+      (tableAfter rule limit msg table)
+
+-- a single-packet call that accepts some bytes, with bytes appended and limits no lower, unless 1, 9, 10 or 13 is given
+abbrev pub MoreBytes : (List ℕ → Whole) → Type 0
+MoreBytes rule =
+    (msg more : List ℕ) (limit limit' : ℕ) (table table' : List ℕ) (count left : ℕ)
+    → limit ≤ limit' → capacity table ≤ capacity table'
+    → answerTo rule limit msg table ≡ Packets count left
+    → Unlimited (answerTo rule limit' (msg ++ more) table')
+    → GoesOn rule msg more limit limit' table table' count
+
+-- ---- demand 3: n records always hold what n bytes decode to
+abbrev pub RecordsHold : (List ℕ → Whole) → Type 0
+RecordsHold rule =
+    (msg : List ℕ) (limit room : ℕ) → length msg ≤ room → decoded rule room limit msg ≡ Refused TableFull → ⊥

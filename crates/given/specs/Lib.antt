@@ -1,0 +1,2 @@
+pub mod Encodable
+pub mod Starts

@@ -1,0 +1,3 @@
+pub mod Words
+pub mod Osc10
+pub mod Strict
