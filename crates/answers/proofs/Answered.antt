@@ -7,10 +7,10 @@ use lib.ListN.{length, take, drop, length-append}
 use lib.Seq.{take-at}
 use Rattle.node.specs.Forest.{Forest, size}
 use Rattle.node.specs.Records.{recordSize, recordsOf, stored}
-use Rattle.decoder.specs.Framing.{Whole, trees, waiting, refusal}
-use Rattle.decoder.specs.Limits.{limited, decoded, forestOf, tabled}
-use Rattle.decoder.specs.declared.Decoded.{Decoded}
-use Rattle.decoder.specs.declared.Decoded.the-variants.{Packets}
+use Rattle.totals.specs.Framing.{Whole, trees, waiting, refusal}
+use Rattle.answering.specs.Limits.{limited, decoded, forestOf, tabled}
+use Rattle.answering.specs.declared.Decoded.{Decoded}
+use Rattle.answering.specs.declared.Decoded.the-variants.{Packets}
 use Rattle.table.specs.Tree.{FieldsFit}
 use Rattle.answers.specs.Demands.{answerTo, tableAfter}
 use Rattle.node.proofs.Recorded.{length-records}

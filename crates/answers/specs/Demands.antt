@@ -8,10 +8,10 @@ use Rattle.wire.specs.Limits.{deepest}
 use Rattle.node.specs.Forest.{size}
 use Rattle.node.specs.Tags.{messageKind}
 use Rattle.node.specs.Records.{recordSize, kindAt, itemAt, capacity}
-use Rattle.decoder.specs.Framing.{Whole}
-use Rattle.decoder.specs.Limits.{decoded, forestOf, tabled}
-use Rattle.decoder.specs.declared.Decoded.{Decoded}
-use Rattle.decoder.specs.declared.Decoded.the-variants.{Packets, Refused}
+use Rattle.totals.specs.Framing.{Whole}
+use Rattle.answering.specs.Limits.{decoded, forestOf, tabled}
+use Rattle.answering.specs.declared.Decoded.{Decoded}
+use Rattle.answering.specs.declared.Decoded.the-variants.{Packets, Refused}
 use Rattle.answers.specs.Words.{Continues, NotFull, Unlimited}
 
 -- the table after a decoder's call, by its rule, limit and message

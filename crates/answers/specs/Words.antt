@@ -4,8 +4,8 @@ use Rattle.refusal.specs.declared.Refusal.the-variants.{TooLong, TooDeep, Table
 use Rattle.node.specs.Forest.{Forest, nil, node}
 use Rattle.node.specs.Tags.{messageKind, bundleKind}
 use Rattle.node.specs.declared.record.Item.{Item}
-use Rattle.decoder.specs.declared.Decoded.{Decoded}
-use Rattle.decoder.specs.declared.Decoded.the-variants.{Refused}
+use Rattle.answering.specs.declared.Decoded.{Decoded}
+use Rattle.answering.specs.declared.Decoded.the-variants.{Refused}
 
 -- a forest begins with the nodes of another
 pub data BeginsSame : Forest → Forest → Type 0 where

@@ -40,9 +40,13 @@ pub fn measure_osc_args(tags: &[u8], input: &[u8], pos: usize) -> Measured
             } => Measured::Kept { count, depth, used },
             Back::Cut {
                 first: _,
-                count,
+                count: after,
                 depth,
-            } => Measured::Kept { count, depth, used },
+            } => Measured::Kept {
+                count: after,
+                depth,
+                used,
+            },
         },
         Scanned::Refused(fault) => Measured::Refused(fault),
     }

@@ -5,8 +5,8 @@ use Prim.Native.Nat.{ℕ}
 use lib.Dec.{eqb}
 use Rattle.words.specs.declared.numeral.Numeral.{Numeral}
 use Rattle.words.specs.declared.numeral.Numeral.the-variants as numeral
-use Rattle.decoder.specs.declared.Framing.{Framing}
-use Rattle.decoder.specs.declared.Framing.the-variants.{Udp, Tcp, TcpVec}
+use Rattle.totals.specs.declared.Framing.{Framing}
+use Rattle.totals.specs.declared.Framing.the-variants.{Udp, Tcp, TcpVec}
 use Rattle.telling.specs.declared.troubles.Trouble.the-variants.{DecodeWords, EncodeWords, LookWords, NoFraming, OnePacket, NoNumber}
 use Rattle.commands.specs.Words.{framingOf, numberOfWord}
 use Rattle.commands.specs.Options.{noOptions, chosenBy}

@@ -7,7 +7,7 @@ use lib.Dec.{eqb, ltb}
 use Rattle.words.specs.Numeral.{numeralOf}
 use Rattle.words.specs.declared.numeral.Numeral.{Numeral}
 use Rattle.words.specs.declared.numeral.Numeral.the-variants as numeral
-use Rattle.decoder.specs.declared.Framing.the-variants.{Udp, Tcp, TcpVec}
+use Rattle.totals.specs.declared.Framing.the-variants.{Udp, Tcp, TcpVec}
 use Rattle.telling.specs.Ascii.{ascii}
 use Rattle.commands.specs.declared.Command.{Command}
 use Rattle.commands.specs.declared.Command.the-variants as command

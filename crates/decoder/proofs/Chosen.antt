@@ -6,10 +6,10 @@ use Rattle.refusal.specs.declared.Refusal.the-variants.{TooLong, TooDeep, Table
 use Rattle.wire.specs.Limits.{longest, deepest}
 use Rattle.node.specs.Forest.{Forest, size, depth}
 use Rattle.wire.proofs.Choices.{by-le}
-use Rattle.decoder.specs.Framing.{Whole, trees}
-use Rattle.decoder.specs.Limits.{limited, decoded}
-use Rattle.decoder.specs.declared.Decoded.{Decoded}
-use Rattle.decoder.specs.declared.Decoded.the-variants.{Packets, Refused}
+use Rattle.totals.specs.Framing.{Whole, trees}
+use Rattle.answering.specs.Limits.{limited, decoded}
+use Rattle.answering.specs.declared.Decoded.{Decoded}
+use Rattle.answering.specs.declared.Decoded.the-variants.{Packets, Refused}
 
 module _ (P : Decoded → Type 0) where
   -- 13, then 1, then what the rule gives

@@ -14,13 +14,14 @@ use Rattle.text.specs.Text.{readText}
 use Rattle.argument.specs.Argument.{readArg}
 use Rattle.arguments.specs.Arguments.{readTags}
 use Rattle.packet.specs.Packet.{readMessage, bundleBy, packetBy, elementBy, elementsBy, packetAt, readPacket}
-use Rattle.packet.specs.Heads.{startOf, sizeOf, prefixOf}
-use Rattle.decoder.specs.Framing.{Whole, ruleOf, udp, readFrame, tcp, framesAt, readFrames, tcpVec}
-use Rattle.decoder.specs.Limits.{decoded, forestOf, tabled, Decodes}
-use Rattle.decoder.specs.declared.Framing.{Framing}
-use Rattle.decoder.specs.declared.Framing.the-variants.{Udp, Tcp, TcpVec}
-use Rattle.decoder.specs.declared.Decoded.{Decoded}
-use Rattle.decoder.specs.declared.Decoded.the-variants as decodes
+use Rattle.heads.specs.Heads.{sizeOf, prefixOf}
+use Rattle.packet.specs.FirstText.{startOf}
+use Rattle.totals.specs.Framing.{Whole, ruleOf, udp, readFrame, tcp, framesAt, readFrames, tcpVec}
+use Rattle.answering.specs.Limits.{decoded, forestOf, tabled, Decodes}
+use Rattle.totals.specs.declared.Framing.{Framing}
+use Rattle.totals.specs.declared.Framing.the-variants.{Udp, Tcp, TcpVec}
+use Rattle.answering.specs.declared.Decoded.{Decoded}
+use Rattle.answering.specs.declared.Decoded.the-variants as decodes
 use Rattle.decoder.proofs.Only.{decodes-only, decodes-met}
 
 -- bytes, four to a number, as document 01 writes them

@@ -13,18 +13,18 @@ use Rattle.node.specs.Forest.{Forest, nil, node, size}
 use Rattle.node.specs.declared.record.Item.{Item}
 use Rattle.node.specs.Records.{recordSize, mostRecords, stored, TableRoom}
 use Rattle.packet.specs.Packet.{fault, one, after, readPacket}
-use Rattle.decoder.specs.Framing.{Whole, trees, waiting, refusal, Frame, wait, read, frameWith, readFrame, before, framesAt}
-use Rattle.decoder.specs.Framing.{readFrames, tcpVec}
-use Rattle.decoder.specs.Limits.{forestOf}
-use Rattle.packet.specs.Heads.{prefixOf}
+use Rattle.totals.specs.Framing.{Whole, trees, waiting, refusal, Frame, wait, read, frameWith, readFrame, before, framesAt}
+use Rattle.totals.specs.Framing.{readFrames, tcpVec}
+use Rattle.answering.specs.Limits.{forestOf}
+use Rattle.heads.specs.Heads.{prefixOf}
 use Rattle.fill.specs.CodeFill.{treeOf, reread, Fills}
 use Rattle.decoder.specs.CodeFrames.{framePacket, Accepted}
-use Rattle.packet.specs.declared.Prefix.the-variants as prefix
+use Rattle.heads.specs.declared.Prefix.the-variants as prefix
 use Rattle.fill.specs.declared.Reread.{Reread}
 use Rattle.fill.specs.declared.Reread.the-variants.{Wrote, Nothing}
 use Rattle.fill.proofs.Fills.{room-after, fills-after}
-use Rattle.decoder.proofs.FrameKnot.{FrameIn, frame-in}
-use Rattle.decoder.proofs.FrameExtents.{remaining, remaining-list, remaining-none, frames-by, frames-tree}
+use Rattle.totals.proofs.FrameKnot.{FrameIn, frame-in}
+use Rattle.totals.proofs.FrameExtents.{remaining, remaining-list, remaining-none, frames-by, frames-tree}
 use Rattle.node.proofs.Stored.{completed, length-completed, completed-nil, lent-stored, completed-turn}
 
 -- ---- one frame

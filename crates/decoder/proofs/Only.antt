@@ -3,9 +3,9 @@ use mathlib.Core.Path.{_≡_, refl, ap, sym, _∙_}
 use mathlib.Core.List.{List}
 use Prim.Native.Nat.{ℕ}
 use Rattle.node.specs.Records.{capacity}
-use Rattle.decoder.specs.Framing.{Whole}
-use Rattle.decoder.specs.Limits.{decoded, forestOf, tabled, Decodes}
-use Rattle.decoder.specs.declared.Decoded.{Decoded}
+use Rattle.totals.specs.Framing.{Whole}
+use Rattle.answering.specs.Limits.{decoded, forestOf, tabled, Decodes}
+use Rattle.answering.specs.declared.Decoded.{Decoded}
 
 module _ {rule : List ℕ → Whole} {msg table : List ℕ} {limit : ℕ} where
   -- two outcomes are one, by whatever rule: so of `decode`, `decode_udp`, `decode_tcp` and `decode_tcp_vec`

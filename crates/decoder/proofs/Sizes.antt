@@ -7,13 +7,13 @@ use Rattle.node.specs.Forest.{Forest, size}
 use Rattle.node.specs.declared.record.Item.{Item}
 use Rattle.wire.proofs.Choices.{by-le}
 use Rattle.packet.specs.Packet.{Out, fault, one, readPacket}
-use Rattle.decoder.specs.Framing.{Whole, trees, waiting, refusal, single, udp, Frame, wait, read, readFrame, first, tcp, before}
-use Rattle.decoder.specs.Framing.{afterFrame, framesAt, readFrames, tcpVec, ruleOf}
-use Rattle.decoder.specs.declared.Framing.{Framing}
-use Rattle.decoder.specs.declared.Framing.the-variants.{Udp, Tcp, TcpVec}
-use Rattle.decoder.specs.Limits.{forestOf}
+use Rattle.totals.specs.Framing.{Whole, trees, waiting, refusal, single, udp, Frame, wait, read, readFrame, first, tcp, before}
+use Rattle.totals.specs.Framing.{afterFrame, framesAt, readFrames, tcpVec, ruleOf}
+use Rattle.totals.specs.declared.Framing.{Framing}
+use Rattle.totals.specs.declared.Framing.the-variants.{Udp, Tcp, TcpVec}
+use Rattle.answering.specs.Limits.{forestOf}
 use Rattle.packet.proofs.Within.{Within, packet-in}
-use Rattle.decoder.proofs.FrameKnot.{FrameIn, frame-in}
+use Rattle.totals.proofs.FrameKnot.{FrameIn, frame-in}
 
 -- m bytes give no more nodes than they have, less those that are left
 abbrev pub WholeIn : ℕ → Whole → Type 0

@@ -1,3 +1,1 @@
-pub mod Framing
-pub mod Limits
 pub mod CodeFrames

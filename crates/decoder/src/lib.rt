@@ -1,33 +1,15 @@
 // Packets, bundles and whole inputs (decoder.rs). A packet is read twice: first it is measured, and nothing is written;
 // then, where the table has room, its records are written.
-mod frames; // frames.rt: both readings of a whole input
+mod frames; // frames.rt: the second reading of a whole input
 
+pub use answering::Decoded;
 use node::record;
-use refusal::Refusal;
-ghost use Rattle.decoder.specs.Framing.{udp, tcp, tcpVec, ruleOf};
-ghost use Rattle.decoder.specs.Limits.{Decodes};
+pub use totals::Framing;
+ghost use Rattle.totals.specs.Framing.{udp, tcp, tcpVec, ruleOf};
+ghost use Rattle.answering.specs.Limits.{Decodes};
 
 // Common MTU size for ethernet.
 pub const MTU: usize = 1536;
-
-// How packets stand in an input.
-pub enum Framing {
-    // One packet is all of the input.
-    Udp,
-    // The first packet of a TCP stream: a 4-byte length, and a packet from everything after it.
-    Tcp,
-    // The packets of a TCP stream, one after another, until nothing is left or one waits.
-    TcpVec,
-}
-
-// What a decoder answers.
-pub enum Decoded {
-    // Records written and input bytes left over, of one packet or of a list of packets.
-    Packets { count: usize, left: usize },
-    // The first frame is not all there: nothing was read.
-    Waiting,
-    Refused(Refusal),
-}
 
 // Reads `msg` by its framing, and writes the records of its packets to `table`.
 //
@@ -35,7 +17,7 @@ pub enum Decoded {
 pub fn decode(framing: Framing, msg: &[u8], table: &mut [u8], depth: usize) -> Decoded
     ensures { λ r. ⌜ Decodes (ruleOf framing) (now (msg .entry)) (now (table .entry)) depth r (now (table .exit)) ⌝ }
 {
-    let answer = frames::answer(framing, msg, record::capacity_of(table), depth);
+    let answer = answering::answer(framing, msg, record::capacity_of(table), depth);
     match answer {
         Decoded::Packets { count, left: _ } => frames::write(framing, msg, table, count),
         Decoded::Waiting => {}

@@ -8,9 +8,9 @@ use Rattle.refusal.specs.declared.Refusal.{Refusal}
 use Rattle.wire.specs.Limits.{deepest}
 use Rattle.node.specs.Forest.{Forest}
 use Rattle.node.specs.declared.record.Item.{Item}
-use Rattle.decoder.specs.Framing.{udp}
-use Rattle.decoder.specs.Limits.{Decodes}
-use Rattle.decoder.specs.declared.Decoded.{Decoded}
+use Rattle.totals.specs.Framing.{udp}
+use Rattle.answering.specs.Limits.{Decodes}
+use Rattle.answering.specs.declared.Decoded.{Decoded}
 use Rattle.writers.specs.Osc.{writePacket}
 use Rattle.encoder.specs.Outcome.{Outcome, Encodes, unframed}
 use Rattle.encoder.specs.declared.Encoded.{Encoded}

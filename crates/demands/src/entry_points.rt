@@ -7,7 +7,7 @@ use values::look::Looked;
 use values::look::Started;
 use values::value::OscType;
 use wire::Padded;
-ghost use Rattle.decoder.specs.declared.Framing.the-variants.{Udp, Tcp, TcpVec};
+ghost use Rattle.totals.specs.declared.Framing.the-variants.{Udp, Tcp, TcpVec};
 ghost use Rattle.answers.specs.Calls.{Meets, decode, encode, encode-tcp, encode-string, pad, look, start-of, text-of};
 
 fn decode_udp(msg: &[u8], table: &mut [u8], depth: usize) -> Decoded

@@ -19,14 +19,14 @@ use Rattle.text.specs.declared.Text.the-variants.{Found}
 use Rattle.arguments.specs.Arguments.{Args, refused, args, readArgs}
 use Rattle.arguments.specs.CodeReadings.{measured, keptOf, ArgsRoom}
 use Rattle.arguments.specs.declared.Measured.the-variants as measure
-use Rattle.packet.specs.Packet.{Out, fault, one, Elements, upto, after, messageItem, messageWith, readMessage, bundleItem, bundleWith}
+use Rattle.heads.specs.Heads.{tagsIn, sizeOf, messageItem, bundleItem}
+use Rattle.packet.specs.FirstText.{startOf}
+use Rattle.packet.specs.Packet.{Out, fault, one, Elements, upto, after, messageWith, readMessage, bundleWith}
 use Rattle.packet.specs.Packet.{filling}
-use Rattle.packet.specs.Heads.{tagsIn}
 use Rattle.packet.specs.Packet.{readPacket, readElements, readBundle, readElement, usedBy, treesIn}
-use Rattle.packet.specs.Heads.{startOf, sizeOf}
 use Rattle.fill.specs.CodeFill.{treeOf, reread, Fills, Known}
 use Rattle.packet.specs.declared.Start.the-variants as start
-use Rattle.packet.specs.declared.ElementSize.the-variants as sized
+use Rattle.heads.specs.declared.ElementSize.the-variants as sized
 use Rattle.fill.specs.declared.Reread.{Reread}
 use Rattle.fill.specs.declared.Reread.the-variants.{Wrote, Nothing}
 use Rattle.packet.proofs.Knot.{starts-message, starts-bundle, element-holds}

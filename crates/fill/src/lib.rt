@@ -1,8 +1,8 @@
 // The second reading of a packet: its records are written to the front of a table that has room for them.
 use arguments::Measured;
+use heads::ElementSize;
 use node::record;
 use node::record::Item;
-use packet::ElementSize;
 use packet::Start;
 use text::Text;
 ghost use mathlib.Core.Path.{_≡_};
@@ -38,7 +38,7 @@ pub fn decode_packet(
 {
     match packet::read_start(input, pos) {
         Start::Message { length, used } => {
-            let item = packet::message_item(base + pos, length);
+            let item = heads::message_item(base + pos, length);
             decode_message(&input[used..], base, pos + used, item, table, index)
         }
         Start::Bundle { used } => {
@@ -64,7 +64,7 @@ fn decode_message(
 {
     match text::read_osc_string(input, pos) {
         Text::Found { length, used } => {
-            let tags = packet::tags_in(&input[0..length]);
+            let tags = heads::tags_in(&input[0..length]);
             let rest = &input[used..];
             match arguments::measure_osc_args(tags, rest, pos + used) {
                 Measured::Kept {
@@ -120,7 +120,7 @@ fn decode_bundle(
             }
             Reread::Nothing => {
                 let end = index + count;
-                record::put_record(table, packet::bundle_item(start, input), end as u32);
+                record::put_record(table, heads::bundle_item(start, input), end as u32);
                 return Reread::Wrote { count, next: at };
             }
         }
@@ -139,7 +139,7 @@ fn read_bundle_element(
     requires { ⌜ TableRoom (treeOf (readElement base (now input) pos)) index (now table) ⌝ }
     ensures { λ r. ⌜ Fills (readElement base (now (input .entry)) pos) (pos + 4) index (now (table .entry)) r (now (table .exit)) ⌝ }
 {
-    match packet::read_size(input) {
+    match heads::read_size(input) {
         ElementSize::Holds(size) => {
             match decode_packet(&input[4..4 + size], base, pos + 4, table, index) {
                 Reread::Wrote { count, next: _ } => Reread::Wrote {
@@ -171,7 +171,7 @@ pub fn write_packet(
 {
     match packet::read_start(input, pos) {
         Start::Message { length, used } => {
-            let item = packet::message_item(base + pos, length);
+            let item = heads::message_item(base + pos, length);
             write_message(&input[used..], base, pos + used, item, table, index, count);
         }
         Start::Bundle { used } => {
@@ -199,7 +199,7 @@ fn write_message(
 {
     match text::read_osc_string(input, pos) {
         Text::Found { length, used } => {
-            let tags = packet::tags_in(&input[0..length]);
+            let tags = heads::tags_in(&input[0..length]);
             put_message(
                 tags,
                 &input[used..],

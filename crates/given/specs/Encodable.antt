@@ -9,9 +9,9 @@ use Rattle.node.specs.Forest.{Forest, nil, node}
 use Rattle.node.specs.Tags.{messageKind, bundleKind, among, isScalar}
 use Rattle.node.specs.Records.{recordSize, mostRecords, zerosAt, itemAt}
 use Rattle.node.specs.declared.record.Item.{Item}
-use Rattle.decoder.specs.Framing.{Whole, trees}
-use Rattle.decoder.specs.Limits.{forestOf}
-use Rattle.decoder.specs.declared.Decoded.the-variants.{Packets}
+use Rattle.totals.specs.Framing.{Whole, trees}
+use Rattle.answering.specs.Limits.{forestOf}
+use Rattle.answering.specs.declared.Decoded.the-variants.{Packets}
 use Rattle.table.specs.Formed.{WellFormed}
 use Rattle.table.specs.Tree.{Spans, Obeys}
 use Rattle.answers.specs.Demands.{tableAfter, answerTo}

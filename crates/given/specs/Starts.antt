@@ -7,8 +7,8 @@ use lib.ListN.{length}
 use Rattle.node.specs.Tags.{messageKind, among}
 use Rattle.node.specs.Records.{startAt, itemAt}
 use Rattle.node.specs.declared.record.Item.{Item}
-use Rattle.decoder.specs.Framing.{Whole}
-use Rattle.decoder.specs.declared.Decoded.the-variants.{Packets}
+use Rattle.totals.specs.Framing.{Whole}
+use Rattle.answering.specs.declared.Decoded.the-variants.{Packets}
 use Rattle.answers.specs.Demands.{answerTo, tableAfter}
 use Rattle.osc10.specs.Words.{Bytes}
 

@@ -11,13 +11,14 @@ use Rattle.wire.proofs.Choices.{by-test}
 use Rattle.wire.proofs.Parts.{tail}
 use Rattle.node.specs.Forest.{level, depth}
 use Rattle.node.specs.declared.record.Item.{Item}
-use Rattle.packet.specs.Packet.{Out, fault, one, Elements, upto, after, messageItem, readMessage, bundleWith, filling, readPacket}
+use Rattle.heads.specs.Heads.{sizeOf, messageItem}
+use Rattle.packet.specs.FirstText.{startOf}
+use Rattle.packet.specs.Packet.{Out, fault, one, Elements, upto, after, readMessage, bundleWith, filling, readPacket}
 use Rattle.packet.specs.Packet.{readElements}
-use Rattle.packet.specs.Heads.{startOf, sizeOf}
 use Rattle.packet.specs.Packet.{readBundle, readElement, usedBy}
 use Rattle.measure.specs.CodeMeasure.{extent, skimmed, accepted}
 use Rattle.packet.specs.declared.Start.the-variants as start
-use Rattle.packet.specs.declared.ElementSize.the-variants as sized
+use Rattle.heads.specs.declared.ElementSize.the-variants as sized
 use Rattle.measure.specs.declared.Extent.{Extent}
 use Rattle.measure.specs.declared.Extent.the-variants.{Tree, Deep, Refused}
 use Rattle.measure.specs.declared.Skimmed.the-variants.{Takes, Fails}

@@ -1,6 +1,6 @@
 // The first reading of a packet: it writes nothing, and goes no deeper than the limit on nested bundles and arrays.
 use arguments::Measured;
-use packet::ElementSize;
+use heads::ElementSize;
 use packet::Start;
 use refusal::Fault;
 use text::Text;
@@ -8,7 +8,8 @@ ghost use mathlib.Core.Path.{_≡_};
 ghost use Prim.Native.Nat.{ℕ, _+_, _≤_};
 ghost use lib.ListN.{length};
 ghost use Rattle.wire.specs.Limits.{longest};
-ghost use Rattle.packet.specs.Packet.{messageItem, readMessage, readPacket, readElements, readBundle, readElement, usedBy};
+ghost use Rattle.heads.specs.Heads.{messageItem};
+ghost use Rattle.packet.specs.Packet.{readMessage, readPacket, readElements, readBundle, readElement, usedBy};
 ghost use Rattle.measure.specs.CodeMeasure.{fitting, extent, skimmed, accepted};
 
 // What the first reading of a packet answers; `next` is the position after its last byte.
@@ -60,7 +61,7 @@ pub fn measure_message(input: &[u8], pos: usize, room: usize) -> Extent
 {
     match text::read_osc_string(input, pos) {
         Text::Found { length, used } => {
-            let tags = packet::tags_in(&input[0..length]);
+            let tags = heads::tags_in(&input[0..length]);
             match arguments::measure_osc_args(tags, &input[used..], pos + used) {
                 Measured::Kept {
                     count,
@@ -113,7 +114,7 @@ fn measure_element(input: &[u8], pos: usize, room: usize) -> Extent
     requires { ⌜ pos + length (now input) ≤ longest ⌝ }
     ensures { λ r. ⌜ ((base : ℕ) → r ≡ extent room (pos + 4) (readElement base (now (input .entry)) pos)) ⌝ }
 {
-    match packet::read_size(input) {
+    match heads::read_size(input) {
         ElementSize::Holds(size) => match measure_packet(&input[4..4 + size], pos + 4, room) {
             Extent::Tree { count, next: _ } => Extent::Tree {
                 count,
@@ -151,7 +152,7 @@ fn skim_element(input: &[u8], pos: usize) -> Skimmed
     requires { ⌜ pos + length (now input) ≤ longest ⌝ }
     ensures { λ r. ⌜ ((base : ℕ) → r ≡ skimmed (readElement base (now (input .entry)) pos)) ⌝ }
 {
-    match packet::read_size(input) {
+    match heads::read_size(input) {
         ElementSize::Holds(size) => {
             if is_packet(&input[4..4 + size], pos + 4) {
                 return Skimmed::Takes(size);

@@ -26,11 +26,11 @@ use Rattle.values.specs.declared.value.OscType.{OscType}
 use Rattle.values.specs.declared.value.OscType.the-variants as value
 use Rattle.values.specs.declared.look.Looked.{Looked}
 use Rattle.values.specs.declared.look.Started.{Started}
-use Rattle.decoder.specs.Framing.{Whole, trees, waiting, refusal, ruleOf}
-use Rattle.decoder.specs.Limits.{limited, decoded, forestOf, tabled}
-use Rattle.decoder.specs.declared.Framing.{Framing}
-use Rattle.decoder.specs.declared.Decoded.{Decoded}
-use Rattle.decoder.specs.declared.Decoded.the-variants as decodes
+use Rattle.totals.specs.Framing.{Whole, trees, waiting, refusal, ruleOf}
+use Rattle.answering.specs.Limits.{limited, decoded, forestOf, tabled}
+use Rattle.totals.specs.declared.Framing.{Framing}
+use Rattle.answering.specs.declared.Decoded.{Decoded}
+use Rattle.answering.specs.declared.Decoded.the-variants as decodes
 use Rattle.decoder.proofs.Chosen.{by-decoded, by-trees}
 use Rattle.encoder.specs.declared.Encoded.{Encoded}
 use Rattle.encoder.specs.declared.Encoded.the-variants as encodes

@@ -5,10 +5,10 @@ use Prim.Native.Nat.{ℕ, _≤_}
 use native.Mathlib.Omega.{arith}
 use lib.ListN.{length}
 use Rattle.wire.specs.Limits.{longest}
-use Rattle.decoder.specs.Framing.{Whole, trees, waiting, refusal, ruleOf}
-use Rattle.decoder.specs.declared.Framing.{Framing}
-use Rattle.decoder.specs.Limits.{limited, decoded}
-use Rattle.decoder.specs.declared.Decoded.{Decoded}
+use Rattle.totals.specs.Framing.{Whole, trees, waiting, refusal, ruleOf}
+use Rattle.totals.specs.declared.Framing.{Framing}
+use Rattle.answering.specs.Limits.{limited, decoded}
+use Rattle.answering.specs.declared.Decoded.{Decoded}
 use Rattle.decoder.proofs.Chosen.{by-decoded, by-trees}
 use Rattle.decoder.proofs.Sizes.{WholeIn, whole-in}
 use Rattle.osc.specs.Answers.{Fits}

@@ -20,13 +20,13 @@ use Rattle.node.specs.Forest.{Forest, size}
 use Rattle.node.specs.Records.{capacity}
 use Rattle.node.specs.declared.record.Item.{Item}
 use Rattle.packet.specs.Packet.{Out, fault, one, readPacket}
-use Rattle.decoder.specs.Framing.{Whole, trees, waiting, refusal, single, udp, Frame, wait, read, readFrame, first, tcp, before}
-use Rattle.decoder.specs.Framing.{afterFrame, framesAt, readFrames, tcpVec, ruleOf}
-use Rattle.decoder.specs.Limits.{limited, decoded, forestOf, tabled}
-use Rattle.decoder.specs.declared.Framing.{Framing}
-use Rattle.decoder.specs.declared.Framing.the-variants.{Udp, Tcp, TcpVec}
-use Rattle.decoder.specs.declared.Decoded.{Decoded}
-use Rattle.decoder.specs.declared.Decoded.the-variants as decodes
+use Rattle.totals.specs.Framing.{Whole, trees, waiting, refusal, single, udp, Frame, wait, read, readFrame, first, tcp, before}
+use Rattle.totals.specs.Framing.{afterFrame, framesAt, readFrames, tcpVec, ruleOf}
+use Rattle.answering.specs.Limits.{limited, decoded, forestOf, tabled}
+use Rattle.totals.specs.declared.Framing.{Framing}
+use Rattle.totals.specs.declared.Framing.the-variants.{Udp, Tcp, TcpVec}
+use Rattle.answering.specs.declared.Decoded.{Decoded}
+use Rattle.answering.specs.declared.Decoded.the-variants as decodes
 use Rattle.decoder.proofs.Chosen.{by-decoded, by-trees}
 use Rattle.encoder.specs.declared.Encoded.{Encoded}
 use Rattle.encoder.specs.declared.Encoded.the-variants as encodes

@@ -18,10 +18,10 @@ use Rattle.values.specs.declared.look.Looked.{Looked}
 use Rattle.values.specs.declared.look.Looked.the-variants as looked
 use Rattle.values.specs.declared.look.Started.{Started}
 use Rattle.values.specs.declared.look.Started.the-variants as started
-use Rattle.decoder.specs.Framing.{Whole}
-use Rattle.decoder.specs.Limits.{Decodes}
-use Rattle.decoder.specs.declared.Decoded.{Decoded}
-use Rattle.decoder.specs.declared.Decoded.the-variants as decodes
+use Rattle.totals.specs.Framing.{Whole}
+use Rattle.answering.specs.Limits.{Decodes}
+use Rattle.answering.specs.declared.Decoded.{Decoded}
+use Rattle.answering.specs.declared.Decoded.the-variants as decodes
 use Rattle.encoder.specs.Outcome.{Outcome}
 use Rattle.encoder.specs.declared.Encoded.{Encoded}
 use Rattle.encoder.specs.declared.Encoded.the-variants as encodes

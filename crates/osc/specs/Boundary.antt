@@ -6,12 +6,12 @@ use Prim.Native.Nat.{ℕ, _*_, _%_, _≤_, _<_}
 use lib.ListN.{length, getD}
 use Rattle.wire.specs.Limits.{longest}
 use Rattle.node.specs.Tags.{among}
-use Rattle.decoder.specs.Framing.{ruleOf}
-use Rattle.decoder.specs.Limits.{decodeOrder}
-use Rattle.decoder.specs.declared.Framing.{Framing}
-use Rattle.decoder.specs.declared.Framing.the-variants.{Udp, Tcp, TcpVec}
-use Rattle.decoder.specs.declared.Decoded.{Decoded}
-use Rattle.decoder.specs.declared.Decoded.the-variants as decodes
+use Rattle.totals.specs.Framing.{ruleOf}
+use Rattle.answering.specs.Limits.{decodeOrder}
+use Rattle.totals.specs.declared.Framing.{Framing}
+use Rattle.totals.specs.declared.Framing.the-variants.{Udp, Tcp, TcpVec}
+use Rattle.answering.specs.declared.Decoded.{Decoded}
+use Rattle.answering.specs.declared.Decoded.the-variants as decodes
 use Rattle.encoder.specs.Outcome.{encodeOrder, stringOrder, Encodes, EncodesString}
 use Rattle.osc.specs.Answers.{TellsDecoded, Tells, TellsPadded, TellsLooked, TellsStarted}
 

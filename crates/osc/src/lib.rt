@@ -8,7 +8,7 @@ use values::look::Looked;
 use values::look::Started;
 use wire::Padded;
 ghost use mathlib.Core.Path.{_≡_};
-ghost use Rattle.decoder.specs.Framing.{udp, tcp, tcpVec, ruleOf};
+ghost use Rattle.totals.specs.Framing.{udp, tcp, tcpVec, ruleOf};
 ghost use Rattle.encoder.specs.Outcome.{unframed, prefixed, Encodes, EncodesString};
 ghost use Rattle.osc.specs.Answers.{refusalNumber, decodedNumber, Fits, TellsDecoded, encodedNumber, Tells};
 ghost use Rattle.osc.specs.Answers.{TellsPadded, TellsLooked, TellsStarted};

@@ -11,8 +11,9 @@ use Rattle.node.specs.Tags.{bundleKind}
 use Rattle.node.specs.Forest.{Forest, nil, node}
 use Rattle.node.specs.declared.record.Item.{Item}
 use Rattle.arguments.specs.Arguments.{args, readArgs}
-use Rattle.packet.specs.Heads.{bundleWord, sameBytes}
-use Rattle.packet.specs.Packet.{one, upto, messageItem, readMessage, joined, elementsAt, readPacket, readElements, readBundle, readElement}
+use Rattle.packet.specs.FirstText.{bundleWord, sameBytes}
+use Rattle.packet.specs.Packet.{one, upto, readMessage, joined, elementsAt, readPacket, readElements, readBundle, readElement}
+use Rattle.heads.specs.Heads.{messageItem}
 use Rattle.osc10.specs.Words.{NoNul, slash}
 use Rattle.osc10.specs.Osc10.{Atom, word, long, bare, string, blob, OscArguments, atom, array, Packet, message, bundle, Packets, none}
 use Rattle.osc10.specs.Osc10.{also, IsText, words, longs, bares, AtomAllowed, ArgumentsAllowed, Allowed, AllAllowed, oscInt32}
@@ -20,7 +21,8 @@ use Rattle.osc10.specs.Osc10.{OscString, tagOf, tagsOf, hashBundle, Spel
 use Rattle.osc10.specs.Osc10.{element as one-element, StandsFor, is-message, is-bundle, StandFor, no-packet}
 use Rattle.osc10.specs.Osc10 as osc
 use Rattle.wire.proofs.Numbers.{length-bytes, read-written}
-use Rattle.packet.proofs.Heads.{start-message, start-bundle, size-holds}
+use Rattle.heads.proofs.Heads.{size-holds}
+use Rattle.packet.proofs.FirstText.{start-message, start-bundle}
 use Rattle.packet.proofs.Knot.{starts-message, starts-bundle, element-holds, elements-by}
 use Rattle.packet.proofs.Bundles.{bundle-long}
 use Rattle.packet.proofs.Within.{types-found}

@@ -11,10 +11,10 @@ use Rattle.io.specs.Counts.{Counts}
 use Rattle.node.specs.Forest.{Forest, nil, size}
 use Rattle.node.specs.Records.{recordSize, mostRecords, recordsOf, capacity, stored}
 use Rattle.node.proofs.Recorded.{length-records}
-use Rattle.decoder.specs.Framing.{Whole, trees, waiting, refusal}
-use Rattle.decoder.specs.Limits.{limited, decoded, forestOf, tabled}
-use Rattle.decoder.specs.declared.Decoded.{Decoded}
-use Rattle.decoder.specs.declared.Decoded.the-variants as answer
+use Rattle.totals.specs.Framing.{Whole, trees, waiting, refusal}
+use Rattle.answering.specs.Limits.{limited, decoded, forestOf, tabled}
+use Rattle.answering.specs.declared.Decoded.{Decoded}
+use Rattle.answering.specs.declared.Decoded.the-variants as answer
 use Rattle.decoder.proofs.Chosen.{by-decoded, by-trees}
 use Rattle.telling.specs.Answers.{decodedLine}
 use Rattle.outcomes.specs.Kept.{rootsOf, keptTrees, keptCount}

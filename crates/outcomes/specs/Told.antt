@@ -6,10 +6,10 @@ use Prim.Native.Nat.{ℕ, min}
 use lib.ListN.{length, take}
 use Rattle.io.specs.Counts.{Counts}
 use Rattle.node.specs.Records.{recordsOf, mostRecords, capacity}
-use Rattle.decoder.specs.Framing.{ruleOf}
-use Rattle.decoder.specs.Limits.{decoded, forestOf}
-use Rattle.decoder.specs.declared.Decoded.{Decoded}
-use Rattle.decoder.specs.declared.Framing.{Framing}
+use Rattle.totals.specs.Framing.{ruleOf}
+use Rattle.answering.specs.Limits.{decoded, forestOf}
+use Rattle.answering.specs.declared.Decoded.{Decoded}
+use Rattle.totals.specs.declared.Framing.{Framing}
 use Rattle.encoder.specs.Outcome.{Encodes}
 use Rattle.encoder.specs.declared.Encoded.{Encoded}
 use Rattle.telling.specs.Forms.{Says}

@@ -10,7 +10,8 @@ use Rattle.refusal.specs.declared.Fault.the-variants.{RunsOut}
 use Rattle.wire.proofs.Parts.{tail}
 use Rattle.node.specs.Forest.{Forest, nil, node, size}
 use Rattle.node.specs.declared.record.Item.{Item}
-use Rattle.packet.specs.Packet.{fault, one, Elements, upto, bundleItem, bundleWith, bundleBy, joined, goOn, readElements}
+use Rattle.heads.specs.Heads.{bundleItem}
+use Rattle.packet.specs.Packet.{fault, one, Elements, upto, bundleWith, bundleBy, joined, goOn, readElements}
 use Rattle.packet.specs.Packet.{readBundle, readElement, usedBy, treesIn}
 use Rattle.packet.proofs.Knot.{elements-by}
 use Rattle.packet.proofs.Within.{Within, element-in, elements-in}

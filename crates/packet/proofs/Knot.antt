@@ -9,15 +9,16 @@ use lib.Dec.{leb}
 use lib.ListN.{length, take, drop, length-drop, length-take}
 use Rattle.refusal.specs.declared.Fault.{Fault}
 use Rattle.refusal.specs.declared.Fault.the-variants.{RunsOut}
-use Rattle.packet.specs.Heads.{startOf, sizeOf}
-use Rattle.packet.specs.Packet.{Out, fault, one, Elements, after, messageItem, readMessage, bundleItem, bundleWith, bundleBy}
+use Rattle.heads.specs.Heads.{sizeOf, messageItem, bundleItem}
+use Rattle.packet.specs.FirstText.{startOf}
+use Rattle.packet.specs.Packet.{Out, fault, one, Elements, after, readMessage, bundleWith, bundleBy}
 use Rattle.packet.specs.Packet.{filling, heldBy, elementBy}
 use Rattle.packet.specs.Packet.{joined, goOn, elementsBy, startedBy, packetBy, packetAt, elementsAt, readPacket, readElements}
 use Rattle.packet.specs.Packet.{readBundle, readElement}
 use Rattle.packet.specs.declared.Start.{Start}
 use Rattle.packet.specs.declared.Start.the-variants.{Message, Bundle, Refused}
-use Rattle.packet.specs.declared.ElementSize.{ElementSize}
-use Rattle.packet.specs.declared.ElementSize.the-variants as size
+use Rattle.heads.specs.declared.ElementSize.{ElementSize}
+use Rattle.heads.specs.declared.ElementSize.the-variants as size
 
 -- two rules agree on what is shorter than l
 abbrev Agree : {A : Type 0} → (List ℕ → ℕ → A) → (List ℕ → ℕ → A) → List ℕ → Type 0

@@ -1,4 +1,4 @@
-pub mod Heads
+pub mod FirstText
 pub mod Knot
 pub mod Within
 pub mod Bundles

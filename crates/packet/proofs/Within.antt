@@ -15,16 +15,18 @@ use Rattle.text.proofs.Within.{found-in}
 use Rattle.arguments.specs.Arguments.{Args, refused, args, readArgs}
 use Rattle.arguments.specs.CodeReadings.{keptOf}
 use Rattle.arguments.proofs.Counts.{kept-few, args-within}
-use Rattle.packet.specs.Heads.{startOf, tagsIn, sizeOf}
-use Rattle.packet.specs.Packet.{Out, fault, one, Elements, upto, after, messageItem, messageWith, typesThen, readMessage}
+use Rattle.heads.specs.Heads.{tagsIn, sizeOf, messageItem}
+use Rattle.packet.specs.FirstText.{startOf}
+use Rattle.packet.specs.Packet.{Out, fault, one, Elements, upto, after, messageWith, typesThen, readMessage}
 use Rattle.packet.specs.Packet.{bundleWith, bundleBy}
 use Rattle.packet.specs.Packet.{filling, heldBy, elementBy, joined, goOn, elementsBy, startedBy, packetBy, packetAt, elementsAt}
 use Rattle.packet.specs.Packet.{readPacket, readElements, readElement, usedBy, treesIn}
 use Rattle.packet.specs.declared.Start.{Start}
 use Rattle.packet.specs.declared.Start.the-variants.{Message, Bundle, Refused}
-use Rattle.packet.specs.declared.ElementSize.{ElementSize}
-use Rattle.packet.specs.declared.ElementSize.the-variants as sizes
-use Rattle.packet.proofs.Heads.{StartIn, start-within, SizeIn, size-within, tags-few}
+use Rattle.heads.specs.declared.ElementSize.{ElementSize}
+use Rattle.heads.specs.declared.ElementSize.the-variants as sizes
+use Rattle.heads.proofs.Heads.{SizeIn, size-within, tags-few}
+use Rattle.packet.proofs.FirstText.{StartIn, start-within}
 
 -- ---- packets
 

@@ -1,4 +1,4 @@
--- Packets, messages, bundles and elements: document 01, "How bytes are read", rules 2 and 5; what stands at their fronts is in Heads.antt.
+-- Packets, messages, bundles and elements: document 01, "How bytes are read", rules 2 and 5. What a packet starts with: FirstText.antt.
 -- A rule reads at the front of l, which stands at position p of its frame; `base` is added to a position to give an offset.
 -- A rule that reads contained packets is given the rule for them; the knot is tied once, at the end, by the number of bytes.
 use mathlib.Core.Bool.{cond}
@@ -8,19 +8,18 @@ use lib.Dec.{leb}
 use lib.ListN.{length, take, drop}
 use Rattle.refusal.specs.declared.Fault.{Fault}
 use Rattle.refusal.specs.declared.Fault.the-variants.{Empty, RunsOut}
-use Rattle.wire.specs.Number.{number}
-use Rattle.node.specs.Tags.{messageKind, bundleKind}
 use Rattle.node.specs.Forest.{Forest, nil, node}
 use Rattle.node.specs.declared.record.Item.{Item}
 use Rattle.text.specs.Text.{readText, faultOf}
 use Rattle.text.specs.declared.Text.{Text}
 use Rattle.text.specs.declared.Text.the-variants.{Found, Lacks}
 use Rattle.arguments.specs.Arguments.{Args, refused, args, readArgs}
-use Rattle.packet.specs.Heads.{startOf, tagsIn, sizeOf}
+use Rattle.heads.specs.Heads.{tagsIn, sizeOf, messageItem, bundleItem}
+use Rattle.packet.specs.FirstText.{startOf}
 use Rattle.packet.specs.declared.Start.{Start}
 use Rattle.packet.specs.declared.Start.the-variants as start
-use Rattle.packet.specs.declared.ElementSize.{ElementSize}
-use Rattle.packet.specs.declared.ElementSize.the-variants as size
+use Rattle.heads.specs.declared.ElementSize.{ElementSize}
+use Rattle.heads.specs.declared.ElementSize.the-variants as size
 
 -- what a packet is read as: one node and how many bytes it took; or the fault
 pub data Out : Type 0 where
@@ -38,10 +37,6 @@ after n (one item inside used) = one item inside (n + used)
 
 -- ---- messages (rule 2)
 
--- the own numbers of a message whose address of n bytes stands at `offset`, where the message begins (Ticket 10)
-abbrev pub messageItem : ℕ → ℕ → Item
-messageItem offset n = record { kind = messageKind; a = offset; b = n; start = offset }
-
 -- the message with these own numbers and arguments
 abbrev pub messageWith : Item → Args → Out
 messageWith item (refused k) = fault k
@@ -57,11 +52,6 @@ unfoldable pub readMessage : ℕ → Item → List ℕ → ℕ → Out
 readMessage base item l p = typesThen base item l p (readText l p)
 
 -- ---- bundles (rule 5)
-
--- the own numbers of a bundle whose "#bundle" stands at offset `start` (Ticket 10) and whose time tag stands at the front of l: seconds
--- and fractional
-abbrev pub bundleItem : ℕ → List ℕ → Item
-bundleItem start l = record { kind = bundleKind; a = number 4 l; b = number 4 (drop 4 l); start = start }
 
 -- the bundle with these own numbers and elements
 abbrev pub bundleWith : Item → Elements → Out

@@ -10,9 +10,9 @@ use Rattle.node.specs.Forest.{Forest, nil, node, size}
 use Rattle.node.specs.Records.{capacity}
 use Rattle.node.specs.Tags.{messageKind}
 use Rattle.node.specs.declared.record.Item.{Item}
-use Rattle.decoder.specs.Framing.{Whole, trees, udp, tcp}
-use Rattle.decoder.specs.Limits.{decoded}
-use Rattle.decoder.specs.declared.Decoded.the-variants as decoder
+use Rattle.totals.specs.Framing.{Whole, trees, udp, tcp}
+use Rattle.answering.specs.Limits.{decoded}
+use Rattle.answering.specs.declared.Decoded.the-variants as decoder
 use Rattle.table.specs.Tree.{IsTree}
 use Rattle.encoder.specs.Outcome.{Outcome, Encodes, unframed, prefixed}
 use Rattle.encoder.specs.declared.Encoded.the-variants as encoder

@@ -8,8 +8,8 @@ use Rattle.wire.specs.Limits.{longest, deepest}
 use Rattle.node.specs.Forest.{Forest, nil, node, depth}
 use Rattle.node.specs.Records.{endAt, itemAt, capacity}
 use Rattle.node.specs.declared.record.Item.{Item}
-use Rattle.decoder.specs.Framing.{udp}
-use Rattle.decoder.specs.declared.Decoded.the-variants.{Packets}
+use Rattle.totals.specs.Framing.{udp}
+use Rattle.answering.specs.declared.Decoded.the-variants.{Packets}
 use Rattle.table.specs.Tree.{IsTree}
 use Rattle.writers.specs.Osc.{writePacket}
 use Rattle.encoder.specs.Outcome.{Outcome, Encodes, unframed}

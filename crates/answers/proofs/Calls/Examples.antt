@@ -19,13 +19,13 @@ use Rattle.values.specs.Value.{valueBy}
 use Rattle.values.specs.Look.{lookAt}
 use Rattle.values.specs.declared.value.OscType.the-variants.{Blob, Double}
 use Rattle.values.specs.declared.look.Looked.the-variants as looked
-use Rattle.packet.specs.Heads.{prefixOf}
+use Rattle.heads.specs.Heads.{prefixOf}
 use Rattle.packet.specs.Packet.{packetAt, readPacket}
-use Rattle.decoder.specs.Framing.{udp, readFrame, tcp, tcpVec}
-use Rattle.decoder.specs.declared.Framing.the-variants.{Udp, Tcp, TcpVec}
-use Rattle.decoder.specs.Limits.{decodeOrder, decoded, forestOf, tabled}
-use Rattle.decoder.specs.declared.Decoded.{Decoded}
-use Rattle.decoder.specs.declared.Decoded.the-variants as decodes
+use Rattle.totals.specs.Framing.{udp, readFrame, tcp, tcpVec}
+use Rattle.totals.specs.declared.Framing.the-variants.{Udp, Tcp, TcpVec}
+use Rattle.answering.specs.Limits.{decodeOrder, decoded, forestOf, tabled}
+use Rattle.answering.specs.declared.Decoded.{Decoded}
+use Rattle.answering.specs.declared.Decoded.the-variants as decodes
 use Rattle.strings.specs.Atomic.{oscString, oscBlob}
 use Rattle.writers.specs.Osc as osc
 use Rattle.encoder.specs.Outcome.{bytesOutcome, treeOutcome, malformed, formed}

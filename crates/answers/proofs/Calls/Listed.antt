@@ -19,11 +19,11 @@ use Rattle.values.specs.declared.look.Looked.{Looked}
 use Rattle.values.specs.declared.look.Started.{Started}
 use Rattle.wire.specs.declared.Padded.{Padded}
 use Rattle.packet.specs.Packet.{Out, fault, one, readPacket}
-use Rattle.decoder.specs.Framing.{Whole, trees, waiting, refusal, single, udp, Frame, wait, read, readFrame, tcp, before, afterFrame}
-use Rattle.decoder.specs.Framing.{framesAt, readFrames, tcpVec}
-use Rattle.decoder.specs.declared.Framing.the-variants.{Udp, Tcp, TcpVec}
-use Rattle.decoder.specs.Limits.{decodeOrder, limited, decoded}
-use Rattle.decoder.specs.declared.Decoded.{Decoded}
+use Rattle.totals.specs.Framing.{Whole, trees, waiting, refusal, single, udp, Frame, wait, read, readFrame, tcp, before, afterFrame}
+use Rattle.totals.specs.Framing.{framesAt, readFrames, tcpVec}
+use Rattle.totals.specs.declared.Framing.the-variants.{Udp, Tcp, TcpVec}
+use Rattle.answering.specs.Limits.{decodeOrder, limited, decoded}
+use Rattle.answering.specs.declared.Decoded.{Decoded}
 use Rattle.strings.specs.Atomic.{oscString}
 use Rattle.writers.specs.Osc.{writePacket}
 use Rattle.encoder.specs.Outcome.{encodeOrder, Outcome, bytesOutcome, treeOutcome, Encodes, malformed, formed, stringOutcome}

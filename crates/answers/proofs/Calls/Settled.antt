@@ -8,10 +8,10 @@ use Rattle.wire.specs.Pad.{padOf}
 use Rattle.values.specs.Look.{lookAt, startedAt, textNamed}
 use Rattle.wire.specs.Limits.{longest, deepest}
 use Rattle.node.specs.Forest.{Forest, nil, node, depth}
-use Rattle.decoder.specs.Framing.{ruleOf}
-use Rattle.decoder.specs.Limits.{forestOf, tabled}
-use Rattle.decoder.specs.declared.Decoded.{Decoded}
-use Rattle.decoder.specs.declared.Decoded.the-variants.{Packets, Waiting, Refused}
+use Rattle.totals.specs.Framing.{ruleOf}
+use Rattle.answering.specs.Limits.{forestOf, tabled}
+use Rattle.answering.specs.declared.Decoded.{Decoded}
+use Rattle.answering.specs.declared.Decoded.the-variants.{Packets, Waiting, Refused}
 use Rattle.writers.specs.Osc.{writePacket}
 use Rattle.encoder.specs.Outcome.{Outcome, bytesOutcome, treeOutcome, Encodes, malformed, formed, unframed, prefixed, stringOutcome}
 use Rattle.strings.specs.Atomic.{oscString}

@@ -9,12 +9,13 @@ use Rattle.node.specs.Tags.{classOf, sortOf}
 use Rattle.text.specs.Text.{readText}
 use Rattle.argument.specs.Argument.{readArg}
 use Rattle.arguments.specs.Arguments.{readTags}
-use Rattle.packet.specs.Heads.{startOf, sizeOf, prefixOf}
+use Rattle.heads.specs.Heads.{sizeOf, prefixOf}
+use Rattle.packet.specs.FirstText.{startOf}
 use Rattle.packet.specs.Packet.{readMessage, bundleBy, elementBy, elementsBy, packetBy, packetAt, readPacket}
-use Rattle.decoder.specs.Framing.{udp, readFrame, tcp}
-use Rattle.decoder.specs.Limits.{decoded}
-use Rattle.decoder.specs.declared.Decoded.{Decoded}
-use Rattle.decoder.specs.declared.Decoded.the-variants.{Packets}
+use Rattle.totals.specs.Framing.{udp, readFrame, tcp}
+use Rattle.answering.specs.Limits.{decoded}
+use Rattle.answering.specs.declared.Decoded.{Decoded}
+use Rattle.answering.specs.declared.Decoded.the-variants.{Packets}
 use Rattle.answers.specs.Words.{Unlimited}
 use Rattle.answers.specs.Demands.{answerTo, GoesOn}
 use Rattle.table.proofs.Examples as p3

@@ -10,17 +10,17 @@ use Rattle.refusal.specs.declared.Fault.{Fault}
 use Rattle.wire.specs.Number.{number}
 use Rattle.node.specs.Forest.{Forest, size}
 use Rattle.node.specs.Records.{recordsOf}
-use Rattle.packet.specs.Heads.{prefixOf}
+use Rattle.heads.specs.Heads.{prefixOf}
 use Rattle.packet.specs.Packet.{Out}
-use Rattle.packet.specs.declared.Prefix.{Prefix}
-use Rattle.packet.specs.declared.Prefix.the-variants as prefix
-use Rattle.decoder.specs.Framing.{Whole, trees, waiting, refusal, single, udp, frameWith, readFrame, first, tcp}
-use Rattle.decoder.specs.Limits.{decoded, forestOf}
-use Rattle.decoder.specs.declared.Decoded.the-variants.{Packets}
+use Rattle.heads.specs.declared.Prefix.{Prefix}
+use Rattle.heads.specs.declared.Prefix.the-variants as prefix
+use Rattle.totals.specs.Framing.{Whole, trees, waiting, refusal, single, udp, frameWith, readFrame, first, tcp}
+use Rattle.answering.specs.Limits.{decoded, forestOf}
+use Rattle.answering.specs.declared.Decoded.the-variants.{Packets}
 use Rattle.answers.specs.Words.{Continues, message, bundle, Unlimited}
 use Rattle.answers.specs.Demands.{answerTo, GoesOn, MoreBytes}
 use Rattle.wire.proofs.Choices.{by-le}
-use Rattle.packet.proofs.Heads.{prefix-in}
+use Rattle.heads.proofs.Heads.{prefix-in}
 use Rattle.decoder.proofs.Chosen.{by-decoded, by-trees}
 use Rattle.answers.proofs.Answered.{accepted, after-is, after-records}
 use Rattle.answers.proofs.Longer.Arguments.{number-longer}

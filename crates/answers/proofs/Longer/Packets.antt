@@ -15,18 +15,21 @@ use Rattle.text.specs.Text.{readText}
 use Rattle.text.specs.declared.Text.{Text}
 use Rattle.text.specs.declared.Text.the-variants.{Found, Lacks}
 use Rattle.arguments.specs.Arguments.{Args, refused, args, readArgs}
-use Rattle.packet.specs.Heads.{startBy, startOf, tagsIn, sizeOf}
-use Rattle.packet.specs.Packet.{Out, fault, one, Elements, upto, after, messageItem, messageWith, typesThen, readMessage, bundleItem}
+use Rattle.heads.specs.Heads.{tagsIn, sizeOf}
+use Rattle.packet.specs.FirstText.{startBy, startOf}
+use Rattle.packet.specs.Packet.{Out, fault, one, Elements, upto, after, messageWith, typesThen, readMessage}
+use Rattle.heads.specs.Heads.{messageItem, bundleItem}
 use Rattle.packet.specs.Packet.{bundleWith, bundleBy, filling}
 use Rattle.packet.specs.Packet.{heldBy, elementBy, startedBy, packetBy, readPacket, readElements, readBundle, readElement, treesIn}
 use Rattle.packet.specs.declared.Start.{Start}
 use Rattle.packet.specs.declared.Start.the-variants as start
-use Rattle.packet.specs.declared.ElementSize.{ElementSize}
-use Rattle.packet.specs.declared.ElementSize.the-variants as size
+use Rattle.heads.specs.declared.ElementSize.{ElementSize}
+use Rattle.heads.specs.declared.ElementSize.the-variants as size
 use Rattle.answers.specs.Words.{BeginsSame, none, also}
 use Rattle.wire.proofs.Choices.{by-eq, by-le}
 use Rattle.text.proofs.Within.{found-in}
-use Rattle.packet.proofs.Heads.{message-start-in, bundle-start-in, size-in}
+use Rattle.heads.proofs.Heads.{size-in}
+use Rattle.packet.proofs.FirstText.{message-start-in, bundle-start-in}
 use Rattle.packet.proofs.Knot.{packet-eq}
 use Rattle.packet.proofs.Bundles.{ended, first-trees}
 use Rattle.packet.proofs.Within.{Within, element-in}

@@ -13,13 +13,14 @@ use Rattle.node.specs.Records.{recordSize}
 use Rattle.text.specs.Text.{readText}
 use Rattle.argument.specs.Argument.{readArg}
 use Rattle.arguments.specs.Arguments.{readTags}
-use Rattle.packet.specs.Heads.{startOf, sizeOf, prefixOf}
+use Rattle.heads.specs.Heads.{sizeOf, prefixOf}
+use Rattle.packet.specs.FirstText.{startOf}
 use Rattle.packet.specs.Packet.{readMessage, bundleBy, elementBy, elementsBy, packetBy, packetAt, readPacket}
-use Rattle.decoder.specs.Framing.{udp, readFrame, framesAt, readFrames, tcpVec}
-use Rattle.decoder.specs.declared.Framing.the-variants.{Udp, TcpVec}
-use Rattle.decoder.specs.Limits.{decoded}
-use Rattle.decoder.specs.declared.Decoded.{Decoded}
-use Rattle.decoder.specs.declared.Decoded.the-variants.{Packets, Refused}
+use Rattle.totals.specs.Framing.{udp, readFrame, framesAt, readFrames, tcpVec}
+use Rattle.totals.specs.declared.Framing.the-variants.{Udp, TcpVec}
+use Rattle.answering.specs.Limits.{decoded}
+use Rattle.answering.specs.declared.Decoded.{Decoded}
+use Rattle.answering.specs.declared.Decoded.the-variants.{Packets, Refused}
 use Rattle.answers.specs.Words.{NotFull}
 use Rattle.answers.specs.Demands.{answerTo, Unchanged}
 use Rattle.table.proofs.Examples.{nested, two}

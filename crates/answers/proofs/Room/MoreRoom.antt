@@ -8,8 +8,8 @@ use lib.ListN.{length}
 use borrow.Author.Tests.{le-leb, lt-leb}
 use Rattle.wire.specs.Limits.{longest, deepest}
 use Rattle.node.specs.Forest.{size, depth}
-use Rattle.decoder.specs.Framing.{Whole, trees, waiting, refusal}
-use Rattle.decoder.specs.Limits.{limited, decoded}
+use Rattle.totals.specs.Framing.{Whole, trees, waiting, refusal}
+use Rattle.answering.specs.Limits.{limited, decoded}
 use Rattle.answers.specs.Words.{NotFull}
 use Rattle.answers.specs.Demands.{MoreRoom}
 use Rattle.wire.proofs.Choices.{lt-or-le}

@@ -4,11 +4,11 @@ use Prim.Native.Nat.{ℕ, _≤_}
 use native.Mathlib.Omega.{arith}
 use lib.ListN.{length}
 use Rattle.refusal.specs.declared.Refusal.the-variants.{TableFull}
-use Rattle.decoder.specs.Framing.{Whole, trees, waiting, refusal, ruleOf}
-use Rattle.decoder.specs.declared.Framing.{Framing}
-use Rattle.decoder.specs.Limits.{limited}
-use Rattle.decoder.specs.declared.Decoded.{Decoded}
-use Rattle.decoder.specs.declared.Decoded.the-variants.{Refused}
+use Rattle.totals.specs.Framing.{Whole, trees, waiting, refusal, ruleOf}
+use Rattle.totals.specs.declared.Framing.{Framing}
+use Rattle.answering.specs.Limits.{limited}
+use Rattle.answering.specs.declared.Decoded.{Decoded}
+use Rattle.answering.specs.declared.Decoded.the-variants.{Refused}
 use Rattle.answers.specs.Demands.{RecordsHold}
 use Rattle.decoder.proofs.Chosen.{by-decoded, by-trees}
 use Rattle.decoder.proofs.Sizes.{WholeIn, whole-in}

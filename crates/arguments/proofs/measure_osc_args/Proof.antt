@@ -25,7 +25,7 @@ returns-2 c base =
     let s = p10 in
     let scanned = sym (p5 .used .given .1) ∙ p7 .scan-args .ensures in
     measured-kept base (s .args .tags .now) (s .args .input .now) (s .args .pos) _ scanned
-    (sym (c .before .count2 .given .1) ∙ p3 .look-back .ensures)
+    (sym (c .before .after .given .1) ∙ p3 .look-back .ensures)
 
 returns-3 : tie.Need-returns-3
 returns-3 c base =

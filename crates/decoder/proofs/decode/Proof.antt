@@ -1,7 +1,7 @@
 -- `decoder::decode` meets its contract. An answer of packets leaves room for their records, and only then the second reading writes.
 use Rattle.decoder.proofs.Answers.{fillable, unwritten}
-use Rattle.decoder.specs.Framing.{ruleOf}
-use Rattle.decoder.specs.Limits.{decoded, forestOf}
+use Rattle.totals.specs.Framing.{ruleOf}
+use Rattle.answering.specs.Limits.{decoded, forestOf}
 use Prim.Native.Nat.{ℕ}
 use mathlib.Core.Path.{refl, ap, sym, _∙_}
 use borrow.Author.Needs.{needs}

@@ -1,15 +1,16 @@
 -- `fill`: packet, bundle and element meet their contracts. The measure is the number of bytes left; in a bundle the table,
 -- completed by what is left, is the table at the end.
-use Rattle.packet.proofs.bundle_item.Reads as bundle-item-reads
-use Rattle.packet.proofs.message_item.Reads as message-item-reads
+use Rattle.heads.proofs.bundle_item.Reads as bundle-item-reads
+use Rattle.heads.proofs.message_item.Reads as message-item-reads
 use Rattle.fill.proofs.decode_message.Reads as decode-message-reads
 use Rattle.node.proofs.record.put_record.Reads as put-record-reads
-use Rattle.packet.proofs.read_size.Reads as read-size-reads
+use Rattle.heads.proofs.read_size.Reads as read-size-reads
 use Rattle.packet.proofs.read_start.Reads as read-start-reads
 use Rattle.fill.proofs.Fills.{fills-none, message-room, bundle-room, packet-fills-message, packet-fills-bundle, element-room}
 use Rattle.fill.proofs.Fills.{element-fills, contents-room, Filling, filling-start, filling-fits, filling-step, next-fits}
 use Rattle.fill.proofs.Fills.{filling-on, filling-done}
-use Rattle.packet.proofs.Heads.{part-4, message-start-in, bundle-start-in, size-in}
+use Rattle.heads.proofs.Heads.{part-4, size-in}
+use Rattle.packet.proofs.FirstText.{message-start-in, bundle-start-in}
 use Rattle.packet.proofs.Knot.{starts-refused, element-runs-out}
 use Rattle.packet.proofs.Bundles.{bundle-short}
 use Rattle.wire.proofs.Parts.{tail}

@@ -1,7 +1,7 @@
 -- `fill::decode_message` meets its contract. A message is its arguments, after the type text; once they are measured, it is known.
 use Rattle.wire.proofs.Parts.{tail}
 use Rattle.fill.proofs.Fills.{args-refused, args-room, kept-known, message-fills, fills-none}
-use Rattle.packet.proofs.Heads.{types-tags, args-fit}
+use Rattle.heads.proofs.Heads.{types-tags, args-fit}
 use Rattle.text.proofs.Within.{found-in}
 use Rattle.packet.proofs.Within.{types-lack}
 use Rattle.arguments.proofs.Counts.{measured-within}

@@ -6,7 +6,7 @@ use borrow.Author.Needs.{needs}
 use Rattle.wire.proofs.Parts.{tail}
 use Rattle.text.proofs.Within.{found-in}
 use Rattle.fill.proofs.Fills.{known-refused, args-room, args-known, args-stored}
-use Rattle.packet.proofs.Heads.{types-tags}
+use Rattle.heads.proofs.Heads.{types-tags}
 use Rattle.packet.proofs.Within.{types-lack}
 use Rattle.fill.proofs.write_message.Statement.{statement}
 use Rattle.fill.proofs.write_message.Tie as tie

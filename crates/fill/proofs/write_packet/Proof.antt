@@ -3,7 +3,7 @@ use mathlib.Core.Path.{sym, _∙_}
 use native.Mathlib.Omega.{arith}
 use borrow.Author.Needs.{needs}
 use Rattle.wire.proofs.Parts.{tail}
-use Rattle.packet.proofs.Heads.{message-start-in, bundle-start-in}
+use Rattle.packet.proofs.FirstText.{message-start-in, bundle-start-in}
 use Rattle.packet.proofs.Knot.{starts-refused}
 use Rattle.fill.proofs.Fills.{known-refused, message-room, message-known, packet-stored, bundle-room, packet-fills-bundle}
 use Rattle.fill.proofs.write_packet.Statement.{statement}

@@ -12,11 +12,12 @@ use Rattle.node.specs.Records.{recordOf, recordsOf, kindAt, fieldAt, stored}
 use Rattle.text.specs.Text.{readText}
 use Rattle.argument.specs.Argument.{readArg}
 use Rattle.arguments.specs.Arguments.{readTags}
-use Rattle.packet.specs.Heads.{startOf, sizeOf, prefixOf}
+use Rattle.heads.specs.Heads.{sizeOf, prefixOf}
+use Rattle.packet.specs.FirstText.{startOf}
 use Rattle.packet.specs.Packet.{readMessage, bundleBy, elementBy, elementsBy, packetBy, packetAt, readPacket}
-use Rattle.decoder.specs.Framing.{udp, readFrame, tcp, framesAt, readFrames, tcpVec}
-use Rattle.decoder.specs.declared.Framing.the-variants.{Udp, Tcp, TcpVec}
-use Rattle.decoder.specs.Limits.{decoded}
+use Rattle.totals.specs.Framing.{udp, readFrame, tcp, framesAt, readFrames, tcpVec}
+use Rattle.totals.specs.declared.Framing.the-variants.{Udp, Tcp, TcpVec}
+use Rattle.answering.specs.Limits.{decoded}
 use Rattle.table.specs.Formed.{WellFormed}
 use Rattle.answers.specs.Demands.{tableAfter}
 use Rattle.given.specs.Encodable.{AreTrees}

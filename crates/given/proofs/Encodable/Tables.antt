@@ -13,22 +13,22 @@ use Rattle.node.specs.Forest.{Forest, nil, node, size, depth}
 use Rattle.node.specs.Tags.{bundleKind}
 use Rattle.node.specs.Records.{itemAt, capacity}
 use Rattle.node.specs.declared.record.Item.{Item}
-use Rattle.packet.specs.Heads.{prefixOf}
+use Rattle.heads.specs.Heads.{prefixOf}
 use Rattle.packet.specs.Packet.{Out, fault, one, readPacket}
-use Rattle.packet.specs.declared.Prefix.{Prefix}
-use Rattle.packet.specs.declared.Prefix.the-variants as prefix
-use Rattle.decoder.specs.Framing.{Whole, trees, waiting, refusal, single, udp, Frame, wait, read, frameWith, readFrame, first, tcp, before}
-use Rattle.decoder.specs.Framing.{afterFrame, framesAt, readFrames, tcpVec, ruleOf}
-use Rattle.decoder.specs.declared.Framing.{Framing}
-use Rattle.decoder.specs.declared.Framing.the-variants.{Udp, Tcp, TcpVec}
-use Rattle.decoder.specs.Limits.{decoded, forestOf}
-use Rattle.decoder.specs.declared.Decoded.{Decoded}
-use Rattle.decoder.specs.declared.Decoded.the-variants.{Packets, Refused}
+use Rattle.heads.specs.declared.Prefix.{Prefix}
+use Rattle.heads.specs.declared.Prefix.the-variants as prefix
+use Rattle.totals.specs.Framing.{Whole, trees, waiting, refusal, single, udp, Frame, wait, read, frameWith, readFrame, first, tcp, before}
+use Rattle.totals.specs.Framing.{afterFrame, framesAt, readFrames, tcpVec, ruleOf}
+use Rattle.totals.specs.declared.Framing.{Framing}
+use Rattle.totals.specs.declared.Framing.the-variants.{Udp, Tcp, TcpVec}
+use Rattle.answering.specs.Limits.{decoded, forestOf}
+use Rattle.answering.specs.declared.Decoded.{Decoded}
+use Rattle.answering.specs.declared.Decoded.the-variants.{Packets, Refused}
 use Rattle.answers.specs.Demands.{tableAfter, RecordsHold}
 use Rattle.osc10.specs.Words.{Bytes}
 use Rattle.given.specs.Encodable.{AreTrees, GivesTrees, Encodable}
 use Rattle.wire.proofs.Choices.{by-le, lt-or-le}
-use Rattle.packet.proofs.Heads.{prefix-in}
+use Rattle.heads.proofs.Heads.{prefix-in}
 use Rattle.table.proofs.Grown.{kept-of}
 use Rattle.table.proofs.Theorem.{tree-formed}
 use Rattle.answers.proofs.Answered.{accepted, after-fits, after-held}

@@ -4,8 +4,8 @@ use Prim.Native.Nat.{_≤_}
 use native.Mathlib.Omega.{arith}
 use lib.ListN.{length}
 use Rattle.node.specs.Records.{startAt}
-use Rattle.decoder.specs.Framing.{udp, tcpVec}
-use Rattle.decoder.specs.declared.Framing.the-variants.{Udp, TcpVec}
+use Rattle.totals.specs.Framing.{udp, tcpVec}
+use Rattle.totals.specs.declared.Framing.the-variants.{Udp, TcpVec}
 use Rattle.table.proofs.Examples.{small-bytes, nested, two}
 use Rattle.answers.specs.Demands.{tableAfter}
 use Rattle.given.specs.Starts.{StartsHold}

@@ -7,17 +7,17 @@ use lib.ListN.{length, drop, length-drop}
 use Rattle.wire.proofs.Choices.{by-le}
 use Rattle.node.specs.Forest.{Forest, nil}
 use Rattle.node.specs.declared.record.Item.{Item}
-use Rattle.packet.specs.Heads.{prefixOf}
+use Rattle.heads.specs.Heads.{prefixOf}
 use Rattle.packet.specs.Packet.{Out, fault, one, after, readPacket}
-use Rattle.packet.specs.declared.Prefix.{Prefix}
-use Rattle.packet.specs.declared.Prefix.the-variants as prefix
-use Rattle.packet.proofs.Heads.{prefix-in}
+use Rattle.heads.specs.declared.Prefix.{Prefix}
+use Rattle.heads.specs.declared.Prefix.the-variants as prefix
+use Rattle.heads.proofs.Heads.{prefix-in}
 use Rattle.packet.proofs.Within.{Within, after-in, packet-in}
-use Rattle.decoder.specs.Framing.{Whole, trees, waiting, refusal, single, udp, Frame, wait, read, frameWith, readFrame, first, tcp, before}
-use Rattle.decoder.specs.Framing.{afterFrame, framesAt, readFrames, tcpVec, ruleOf}
-use Rattle.decoder.specs.Limits.{forestOf}
-use Rattle.decoder.specs.declared.Framing.{Framing}
-use Rattle.decoder.specs.declared.Framing.the-variants.{Udp, Tcp, TcpVec}
+use Rattle.totals.specs.Framing.{Whole, trees, waiting, refusal, single, udp, Frame, wait, read, frameWith, readFrame, first, tcp, before}
+use Rattle.totals.specs.Framing.{afterFrame, framesAt, readFrames, tcpVec, ruleOf}
+use Rattle.answering.specs.Limits.{forestOf}
+use Rattle.totals.specs.declared.Framing.{Framing}
+use Rattle.totals.specs.declared.Framing.the-variants.{Udp, Tcp, TcpVec}
 use Rattle.answers.specs.Demands.{tableAfter}
 use Rattle.given.specs.Starts.{OwnStart, GivesStarts}
 use Rattle.answers.proofs.Answered.{accepted}

@@ -1,11 +1,12 @@
 -- `measure`: packet, bundle and element meet their contracts. The measure is the number of bytes left; in a bundle what is
 -- counted so far and what is left make up the whole.
 use Rattle.measure.proofs.measure_message.Reads as measure-message-reads
-use Rattle.packet.proofs.read_size.Reads as read-size-reads
+use Rattle.heads.proofs.read_size.Reads as read-size-reads
 use Rattle.packet.proofs.read_start.Reads as read-start-reads
 use Rattle.measure.proofs.skim_elements.Reads as skim-elements-reads
 use Rattle.measure.proofs.Extents.{refused-is, packet-by-message, packet-by-bundle}
-use Rattle.packet.proofs.Heads.{part-4, message-start-in, bundle-start-in, size-in}
+use Rattle.heads.proofs.Heads.{part-4, size-in}
+use Rattle.packet.proofs.FirstText.{message-start-in, bundle-start-in}
 use Rattle.packet.proofs.Knot.{starts-refused, element-runs-out}
 use Rattle.measure.proofs.Extents.{element-by-packet, bundle-deep, Going, going-start, going-on, going-deep, going-done, turned}
 use Rattle.packet.proofs.Bundles.{bundle-short, counted-in}

@@ -1,6 +1,6 @@
 -- `measure::is_packet` meets its contract. A message is accepted if its extent is a tree, a bundle if its time tag is there.
 use Rattle.measure.proofs.Skims.{is-message, is-bundle, is-no-bundle, is-refused}
-use Rattle.packet.proofs.Heads.{message-start-in, bundle-start-in}
+use Rattle.packet.proofs.FirstText.{message-start-in, bundle-start-in}
 use Rattle.wire.proofs.Parts.{tail}
 use native.Mathlib.Omega.{arith}
 use mathlib.Core.Path.{sym, _∙_}

@@ -1,9 +1,9 @@
 -- `measure::measure_message` meets its contract. The extent of a message is that of its arguments, and one record more.
 use Rattle.measure.proofs.Extents.{refused-is, message-exit}
-use Rattle.packet.proofs.Heads.{types-tags, args-fit}
+use Rattle.heads.proofs.Heads.{types-tags, args-fit}
 use Rattle.text.proofs.Within.{found-in}
 use Rattle.packet.proofs.Within.{types-lack}
-use Rattle.packet.specs.Packet.{messageItem}
+use Rattle.heads.specs.Heads.{messageItem}
 use Rattle.measure.specs.declared.Extent.the-variants.{Refused}
 use Rattle.arguments.proofs.Counts.{measured-within}
 use Rattle.wire.proofs.Parts.{tail}

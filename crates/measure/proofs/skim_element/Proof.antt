@@ -1,6 +1,6 @@
 -- `measure::skim_element` meets its contract. An element is accepted if its packet is.
 use Rattle.measure.proofs.Skims.{skim-packet, skim-none}
-use Rattle.packet.proofs.Heads.{part-4, size-in}
+use Rattle.heads.proofs.Heads.{part-4, size-in}
 use native.Mathlib.Omega.{arith}
 use mathlib.Core.Path.{sym, _∙_}
 use borrow.Author.Needs.{needs}

@@ -4,9 +4,9 @@ use Prim.Native.Nat.{ℕ, _*_, _≤_}
 use native.Mathlib.Omega.{arith}
 use lib.ListN.{length}
 use borrow.Author.Needs.{needs}
-use Rattle.decoder.specs.Framing.{ruleOf}
-use Rattle.decoder.specs.Limits.{decoded, forestOf}
-use Rattle.decoder.specs.declared.Decoded.{Decoded}
+use Rattle.totals.specs.Framing.{ruleOf}
+use Rattle.answering.specs.Limits.{decoded, forestOf}
+use Rattle.answering.specs.declared.Decoded.{Decoded}
 use Rattle.node.specs.Records.{recordSize, recordsOf}
 use Rattle.telling.specs.Answers.{decodedLine}
 use Rattle.telling.proofs.Told.{says-as}

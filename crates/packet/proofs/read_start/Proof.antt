@@ -1,5 +1,5 @@
 -- `packet::read_start` meets its contract. Each answer is a case of `startOf`.
-use Rattle.packet.proofs.Heads.{start-empty, start-message, start-bundle, start-other, start-lacks, is-word}
+use Rattle.packet.proofs.FirstText.{start-empty, start-message, start-bundle, start-other, start-lacks, is-word}
 use Rattle.text.proofs.Within.{found-in}
 use Rattle.packet.specs.declared.Start.the-variants.{Refused}
 use native.Mathlib.Omega.{arith}

@@ -10,15 +10,15 @@ use Rattle.wire.specs.Limits.{longest, deepest}
 use Rattle.node.specs.Forest.{Forest, nil, node, size, depth}
 use Rattle.node.specs.declared.record.Item.{Item}
 use Rattle.packet.specs.Packet.{readPacket, one}
-use Rattle.packet.specs.Heads.{prefixOf}
-use Rattle.packet.specs.declared.Prefix.the-variants as prefix
-use Rattle.decoder.specs.Framing.{Whole, trees, udp, readFrame, tcp}
-use Rattle.decoder.specs.Limits.{decoded}
-use Rattle.decoder.specs.declared.Decoded.the-variants as decoder
+use Rattle.heads.specs.Heads.{prefixOf}
+use Rattle.heads.specs.declared.Prefix.the-variants as prefix
+use Rattle.totals.specs.Framing.{Whole, trees, udp, readFrame, tcp}
+use Rattle.answering.specs.Limits.{decoded}
+use Rattle.answering.specs.declared.Decoded.the-variants as decoder
 use Rattle.osc10.specs.Osc10.{Packet, Allowed, deep, oscInt32, StandsFor}
 use Rattle.standards.specs.Standards.{oscFrame, AcceptedAs, Osc10Accepted, FrameAccepted}
 use Rattle.wire.proofs.Numbers.{length-bytes, read-written}
-use Rattle.packet.proofs.Heads.{prefix-ready}
+use Rattle.heads.proofs.Heads.{prefix-ready}
 use Rattle.osc10.proofs.Placed.{At, at-all, at-back}
 use Rattle.osc10.proofs.Packets.{packet-read}
 use Rattle.osc10.proofs.Depth.{tree-deep}

@@ -21,8 +21,8 @@ use Rattle.values.specs.declared.value.OscType.{OscType}
 use Rattle.values.specs.declared.value.OscType.the-variants.{Int}
 use Rattle.values.specs.declared.look.Looked.the-variants.{Value}
 use Rattle.argument.specs.Argument.{argItem}
-use Rattle.packet.specs.Packet.{messageItem}
-use Rattle.decoder.specs.Framing.{udp, tcp}
+use Rattle.heads.specs.Heads.{messageItem}
+use Rattle.totals.specs.Framing.{udp, tcp}
 use Rattle.table.specs.Formed.{rangeOk, allowed}
 use Rattle.table.specs.Tree.{IsTree}
 use Rattle.strings.specs.Atomic.{oscString, oscBlob}

@@ -17,11 +17,11 @@ use Rattle.node.specs.declared.tags.Sort.the-variants.{Leaf}
 use Rattle.table.specs.Tree.{Spans}
 use Rattle.values.specs.Value.{bareOf, narrowOf, valueBy, valueOf}
 use Rattle.values.specs.Look.{partOr}
-use Rattle.decoder.specs.Framing.{ruleOf}
-use Rattle.decoder.specs.Limits.{forestOf}
-use Rattle.decoder.specs.declared.Framing.{Framing}
-use Rattle.decoder.specs.declared.Framing.the-variants.{Udp, Tcp}
-use Rattle.decoder.specs.declared.Decoded.the-variants.{Packets}
+use Rattle.totals.specs.Framing.{ruleOf}
+use Rattle.answering.specs.Limits.{forestOf}
+use Rattle.totals.specs.declared.Framing.{Framing}
+use Rattle.totals.specs.declared.Framing.the-variants.{Udp, Tcp}
+use Rattle.answering.specs.declared.Decoded.the-variants.{Packets}
 use Rattle.answers.specs.Demands.{tableAfter, answerTo}
 use Rattle.osc10.specs.Osc10.{Atom, word, long, bare, string, blob, char, OscArguments, end, atom, array, Packet, message, bundle, none}
 use Rattle.osc10.specs.Osc10.{also, words, longs, bares, AtomAllowed, ArgumentsAllowed, Allowed, AllAllowed, RangeHolds, AtomIs, ArrayIs}

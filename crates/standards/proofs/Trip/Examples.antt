@@ -13,7 +13,7 @@ use Rattle.node.specs.Rules.{ownRules}
 use Rattle.node.specs.Records.{recordOf, recordsOf, capacity}
 use Rattle.argument.specs.Argument.{argItem}
 use Rattle.arguments.specs.Arguments.{arrayItem}
-use Rattle.packet.specs.Packet.{messageItem}
+use Rattle.heads.specs.Heads.{messageItem}
 use Rattle.table.specs.Formed.{rangeOk, allowed}
 use Rattle.table.specs.Tree.{IsTree}
 use Rattle.strings.specs.Atomic.{oscString, oscBlob}

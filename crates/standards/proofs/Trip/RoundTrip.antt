@@ -9,10 +9,10 @@ use Rattle.wire.specs.Limits.{longest, deepest}
 use Rattle.node.specs.Forest.{Forest, nil, node, size, depth}
 use Rattle.node.specs.Records.{capacity}
 use Rattle.node.specs.declared.record.Item.{Item}
-use Rattle.decoder.specs.Framing.{udp}
-use Rattle.decoder.specs.Limits.{decoded, forestOf}
-use Rattle.decoder.specs.declared.Framing.the-variants.{Udp}
-use Rattle.decoder.specs.declared.Decoded.the-variants.{Packets}
+use Rattle.totals.specs.Framing.{udp}
+use Rattle.answering.specs.Limits.{decoded, forestOf}
+use Rattle.totals.specs.declared.Framing.the-variants.{Udp}
+use Rattle.answering.specs.declared.Decoded.the-variants.{Packets}
 use Rattle.table.specs.Tree.{IsTree, FieldsFit}
 use Rattle.writers.specs.Osc.{writePacket}
 use Rattle.encoder.specs.Outcome.{unframed, treeOutcome}

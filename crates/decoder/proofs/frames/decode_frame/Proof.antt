@@ -1,7 +1,7 @@
 -- `decoder::frames::decode_frame` meets its contract. What is written of the packet after the prefix.
 use Rattle.decoder.proofs.FrameFills.{frame-room, frame-fills, waits-nothing, short-nothing}
 use Rattle.fill.proofs.Fills.{fills-none}
-use Rattle.packet.proofs.Heads.{prefix-in}
+use Rattle.heads.proofs.Heads.{prefix-in}
 use Rattle.wire.proofs.Parts.{tail}
 use native.Mathlib.Omega.{arith}
 use mathlib.Core.Path.{sym, _∙_}

@@ -1,0 +1,41 @@
+-- What a decoder answers, from what the first reading gave: 13, then 1, then the first reading within the limits.
+use mathlib.Core.Path.{_≡_, refl, ap, sym, _∙_}
+use mathlib.Core.List.{List}
+use Prim.Native.Nat.{ℕ, _<_, _≤_}
+use borrow.Author.Tests.{le-leb, lt-leb}
+use lib.Dec.{leb}
+use lib.ListN.{length}
+use Rattle.refusal.specs.declared.Refusal.the-variants.{TooLong, DepthLimit}
+use Rattle.wire.specs.Limits.{longest, deepest}
+use Rattle.wire.proofs.Choices.{by-both}
+use Rattle.node.specs.Forest.{depth}
+use Rattle.totals.specs.Framing.{Whole, trees, waiting, refusal}
+use Rattle.totals.specs.CodeTotals.{totalOf}
+use Rattle.totals.specs.declared.Total.{Total}
+use Rattle.answering.specs.Limits.{limited, decoded}
+use Rattle.answering.specs.CodeAnswered.{answered}
+use Rattle.answering.specs.declared.Decoded.{Decoded}
+use Rattle.answering.specs.declared.Decoded.the-variants.{Refused}
+
+limited-is : (capacity limit : ℕ) (w : Whole) → limited capacity limit w ≡ answered capacity (totalOf limit w)
+limited-is capacity limit waiting = refl
+limited-is capacity limit (refusal k) = refl
+limited-is capacity limit (trees f left) = by-both (λ (x : Decoded) (y : Total). x ≡ answered capacity y) (leb (depth f) limit) refl refl
+
+module _ (rule : List ℕ → Whole) (capacity limit : ℕ) (msg : List ℕ) where
+  -- 13 comes first
+  pub depth-over : deepest < limit → Refused DepthLimit ≡ decoded rule capacity limit msg
+  unfolding decoded
+  depth-over h = rw (decoded, lt-leb limit deepest h)
+
+  -- then 1
+  pub length-over : limit ≤ deepest → longest < length msg → Refused TooLong ≡ decoded rule capacity limit msg
+  unfolding decoded
+  length-over h g = rw (decoded, le-leb limit deepest h, lt-leb (length msg) longest g)
+
+  -- then the first reading within the limits
+  pub decoded-is : {r : Total} {x : Decoded} → limit ≤ deepest → length msg ≤ longest → x ≡ answered capacity r
+      → r ≡ totalOf limit (rule msg) → x ≡ decoded rule capacity limit msg
+  unfolding decoded
+  decoded-is h g a e = a ∙ ap (answered capacity) e ∙ sym (limited-is capacity limit (rule msg))
+      ∙ rw (decoded, le-leb limit deepest h, le-leb (length msg) longest g)

@@ -1,0 +1,16 @@
+-- Describes code, and no part of the document: what is answered to a first reading.
+use mathlib.Core.Bool.{cond}
+use Prim.Native.Nat.{ℕ}
+use lib.Dec.{leb}
+use Rattle.refusal.specs.declared.Refusal.the-variants.{Unreadable, TooDeep, TableFull}
+use Rattle.totals.specs.declared.Total.{Total}
+use Rattle.totals.specs.declared.Total.the-variants as total
+use Rattle.answering.specs.declared.Decoded.{Decoded}
+use Rattle.answering.specs.declared.Decoded.the-variants as decoded
+
+-- the answer to a first reading: 10 last
+abbrev pub answered : ℕ → Total → Decoded
+answered capacity (total.Trees n left) = cond (leb n capacity) (decoded.Packets n left) (decoded.Refused TableFull)
+answered capacity total.Deep = decoded.Refused TooDeep
+answered capacity total.Waiting = decoded.Waiting
+answered capacity (total.Refused k) = decoded.Refused (Unreadable k)

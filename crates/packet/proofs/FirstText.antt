@@ -1,0 +1,105 @@
+-- What the code answers of a packet's first text is what FirstText.antt says of it; and that text lies within the packet.
+use mathlib.Core.Path.{_≡_, refl, ap, sym, _∙_, subst}
+use mathlib.Core.Bool.{Bool, true, false}
+use mathlib.Core.List.{List, [], _∷_}
+use Prim.Native.Nat.{ℕ, suc, _+_, _-_, _<_, _≤_}
+use native.Mathlib.Nat.{sub-zero}
+use native.Mathlib.Numerals.{add-one}
+use native.Mathlib.Omega.{arith}
+use borrow.Author.Tests.{eq-eqb, ne-eqb}
+use lib.Dec.{eqb}
+use lib.ListN.{length, getD, take, drop, drop-of-length-le}
+use lib.Seq.{drop-cons}
+use Rattle.refusal.specs.declared.Fault.the-variants as faults
+use Rattle.wire.proofs.Choices.{by-test}
+use Rattle.node.specs.Tags.{messageKind}
+use Rattle.text.specs.Text.{readText, faultOf}
+use Rattle.text.specs.declared.Text.{Text}
+use Rattle.text.specs.declared.Text.the-variants.{Found, Lacks}
+use Rattle.text.specs.declared.Lack.{Lack}
+use Rattle.text.proofs.Within.{found-in}
+use Rattle.packet.specs.FirstText.{bundleWord, sameBytes, startBy, startOf}
+use Rattle.packet.specs.declared.Start.{Start}
+use Rattle.packet.specs.declared.Start.the-variants.{Message, Bundle, Refused}
+
+-- ---- what a packet starts with
+
+module _ (l : List ℕ) (p : ℕ) where
+  -- a packet of no bytes is refused
+  pub start-empty : length l ≡ 0 → Refused faults.Empty ≡ startOf l p
+  unfolding startOf
+  start-empty h = rw (eq-eqb (length l) 0 h)
+
+  module _ (h : length l ≡ 0 → ⊥) where
+    start-text : startBy l (readText l p) ≡ startOf l p
+    unfolding startOf
+    start-text = rw (startOf, ne-eqb (length l) 0 h)
+
+    -- a first text that is lacking is the packet's refusal
+    pub start-lacks : {k : Lack} → Lacks k ≡ readText l p → Refused (faultOf k) ≡ startOf l p
+    start-lacks e = ap (startBy l) e ∙ start-text
+
+    module _ {n used : ℕ} (e : Found n used ≡ readText l p) where
+      -- a text that a '/' leads is an address
+      pub start-message : getD l 0 0 ≡ messageKind → Message n used ≡ startOf l p
+      start-message f = rw (← start-text, ← e, eq-eqb (getD l 0 0) messageKind f)
+
+      -- the text "#bundle" starts a bundle
+      pub start-bundle : (getD l 0 0 ≡ messageKind → ⊥) → sameBytes (take n l) bundleWord ≡ true → Bundle used ≡ startOf l p
+      start-bundle f b = rw (← start-text, ← e, ne-eqb (getD l 0 0) messageKind f, b)
+
+      -- any other text is refused
+      pub start-other : (getD l 0 0 ≡ messageKind → ⊥) → sameBytes (take n l) bundleWord ≡ false → Refused faults.BadStart ≡ startOf l p
+      start-other f b = rw (← start-text, ← e, ne-eqb (getD l 0 0) messageKind f, b)
+
+-- a first text has a byte at least, and lies in the m bytes of its packet
+abbrev pub StartIn : ℕ → Start → Type 0
+StartIn m (Message n used) = (n < used) × (used ≤ m)
+StartIn m (Bundle used) = (0 < used) × (used ≤ m)
+StartIn m (Refused k) = Unit {0}
+
+-- what a packet starts with lies in it
+pub start-within : (l : List ℕ) (p : ℕ) → StartIn (length l) (startOf l p)
+unfolding startOf
+start-within l p = by-test (StartIn (length l)) (eqb (length l) 0) (λ _. tt) (λ _. by-found (readText l p) refl)
+  where
+    by-found : (t : Text) → t ≡ readText l p → StartIn (length l) (startBy l t)
+    by-found (Lacks k) e = tt
+    by-found (Found n used) e =
+        let w = found-in l p e in
+        by-test (StartIn (length l)) (eqb (getD l 0 0) messageKind) (λ _. (w .0, w .1))
+        (λ _. by-test (StartIn (length l)) (sameBytes (take n l) bundleWord) (λ _. (omega arith, w .1)) (λ _. tt))
+
+-- an address lies in its packet
+pub message-start-in : {n used : ℕ} (l : List ℕ) (p : ℕ) → Message n used ≡ startOf l p → (n < used) × (used ≤ length l)
+message-start-in l p e = subst (StartIn (length l)) (sym e) (start-within l p)
+
+-- "#bundle" lies in its packet
+pub bundle-start-in : {used : ℕ} (l : List ℕ) (p : ℕ) → Bundle used ≡ startOf l p → (0 < used) × (used ≤ length l)
+bundle-start-in l p e = subst (StartIn (length l)) (sym e) (start-within l p)
+
+-- ---- two lists that are the same
+
+-- lists of other lengths differ
+pub other-length : (a b : List ℕ) → (length a ≡ length b → ⊥) → sameBytes a b ≡ false
+other-length [] [] h = absurd (h refl)
+other-length [] (y ∷ b) h = refl
+other-length (x ∷ a) [] h = refl
+other-length (x ∷ a) (y ∷ b) h = by-test (λ t. t ≡ false) (eqb x y) (λ _. other-length a b (λ e. h (ap suc e))) (λ _. refl)
+
+module _ (a b : List ℕ) (i : ℕ) (h : i < length a) (k : i < length b) where
+  -- one byte more that is the same
+  pub same-on : getD a i 0 ≡ getD b i 0 → sameBytes (drop i a) (drop i b) ≡ sameBytes (drop (i + 1) a) (drop (i + 1) b)
+  same-on e = rw (drop-cons a i 0, drop-cons b i 0, eq-eqb (getD a i 0) (getD b i 0) e, add-one)
+
+  -- a byte that differs
+  pub same-not : (getD a i 0 ≡ getD b i 0 → ⊥) → sameBytes (drop i a) (drop i b) ≡ false
+  same-not e = rw (drop-cons a i 0, drop-cons b i 0, ne-eqb (getD a i 0) (getD b i 0) e)
+
+-- nothing is left of both
+pub same-end : (a b : List ℕ) (i : ℕ) → length a ≤ i → length b ≤ i → sameBytes (drop i a) (drop i b) ≡ true
+same-end a b i h k = rw (drop-of-length-le a h, drop-of-length-le b k)
+
+-- `&l[0..n]` is "#bundle"
+pub is-word : {r : Bool} (l : List ℕ) (n : ℕ) → r ≡ sameBytes (take (n - 0) (drop 0 l)) bundleWord → sameBytes (take n l) bundleWord ≡ r
+is-word l n e = rw sub-zero at (sym e)

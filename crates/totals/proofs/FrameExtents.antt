@@ -1,0 +1,261 @@
+-- The first reading of frames: one, and a list of them, one after another.
+use mathlib.Core.Path.{_≡_, refl, ap, sym, _∙_, subst}
+use mathlib.Core.Bool.{Bool, true, false, cond}
+use mathlib.Core.List.{List, [], _∷_}
+use Prim.Native.Nat.{ℕ, _+_, _-_, _<_, _≤_, max}
+use native.Mathlib.Nat.{zero-add, add-assoc}
+use native.Mathlib.Omega.{arith}
+use borrow.Author.Tests.{le-leb, lt-leb, leb-true, leb-false}
+use lib.Dec.{leb, leb·zero}
+use lib.ListN.{length, drop, length-drop}
+use lib.Seq.{drop-drop}
+use Rattle.refusal.specs.declared.Fault.{Fault}
+use Rattle.refusal.specs.declared.Fault.the-variants as faults
+use Rattle.wire.proofs.Choices.{by-test, by-le, by-both}
+use Rattle.node.specs.Forest.{Forest, nil, node, size, depth, level}
+use Rattle.node.specs.declared.record.Item.{Item}
+use Rattle.heads.specs.Heads.{prefixOf}
+use Rattle.packet.specs.Packet.{fault, one, readPacket}
+use Rattle.heads.specs.declared.Prefix.the-variants as prefix
+use Rattle.measure.specs.CodeMeasure.{extent}
+use Rattle.measure.specs.declared.Extent.{Extent}
+use Rattle.measure.specs.declared.Extent.the-variants.{Tree, Deep, Refused}
+use Rattle.measure.proofs.Extents.{extent-after, max-low}
+use Rattle.totals.specs.Framing.{Whole, trees, waiting, refusal, Frame, wait, read, frameWith, readFrame, before, afterFrame}
+use Rattle.totals.specs.Framing.{framesAt, readFrames, tcpVec}
+use Rattle.totals.specs.CodeTotals.{frameExtent, totalOf, added}
+use Rattle.totals.specs.declared.FrameExtent.{FrameExtent}
+use Rattle.totals.specs.declared.FrameExtent.the-variants.{Waiting, Packet}
+use Rattle.totals.specs.declared.Total.{Total}
+use Rattle.totals.specs.declared.Total.the-variants as total
+use Rattle.totals.proofs.FrameKnot.{FrameIn, frame-in, frames-eq}
+
+-- ---- one frame
+
+module _ (base : ℕ) (l : List ℕ) where
+  -- a frame that is ready has the extent of its packet, which stands at 4
+  pub frame-ready : {r : Extent} (limit : ℕ) (rest : List ℕ) → prefix.Ready ≡ prefixOf l → rest ≡ drop 4 l
+      → r ≡ extent limit 4 (readPacket base rest 4) → Packet r ≡ frameExtent limit (readFrame base l)
+  unfolding readFrame
+  frame-ready {r} limit rest e s g =
+      let is : r ≡ extent limit 4 (readPacket base (drop 4 l) 4) = rw s at g in
+      ap Packet (is ∙ extent-after limit 0 4 (readPacket base (drop 4 l) 4)) ∙ ap (λ x. frameExtent limit (frameWith base l x)) e
+
+  -- a frame that is not all there waits
+  pub frame-waits : (limit : ℕ) → prefix.Waiting ≡ prefixOf l → Waiting ≡ frameExtent limit (readFrame base l)
+  unfolding readFrame
+  frame-waits limit e = ap (λ x. frameExtent limit (frameWith base l x)) e
+
+  -- a prefix that is not all there is refused
+  pub frame-runs-out : (limit : ℕ) → prefix.RunsOut ≡ prefixOf l → Packet (Refused faults.RunsOut) ≡ frameExtent limit (readFrame base l)
+  unfolding readFrame extent
+  frame-runs-out limit e = ap (λ x. frameExtent limit (frameWith base l x)) e
+
+module _ (base : ℕ) (l : List ℕ) where
+  -- ---- the list after a frame
+
+  -- what is left of a list: nothing, or a list
+  abbrev pub remaining : Whole
+  remaining = cond (leb (length l) 0) (trees nil 0) (readFrames base l)
+
+  -- where something is left it is a list
+  pub remaining-list : 0 < length l → remaining ≡ readFrames base l
+  remaining-list h = rw (lt-leb (length l) 0 h)
+
+  -- where nothing is left there is no list
+  pub remaining-none : length l ≤ 0 → remaining ≡ trees nil 0
+  remaining-none h = rw (le-leb (length l) 0 h)
+
+  -- a list by its first frame
+  pub frames-by : {x : Frame} → readFrame base l ≡ x → readFrames base l ≡ afterFrame (λ b m. readFrames b m) base l x
+  frames-by e = frames-eq base l ∙ ap (afterFrame (λ b m. readFrames b m) base l) e
+
+-- what is left after u bytes
+abbrev pub following : ℕ → List ℕ → ℕ → Whole
+following base l u = remaining (base + u) (drop u l)
+
+-- a tree stands before the list after it
+pub frames-tree : {item : Item} {u : ℕ} {f : Forest} (base : ℕ) (l : List ℕ) → readFrame base l ≡ read (one item f u)
+    → readFrames base l ≡ before item f (following base l u)
+frames-tree {item} {u} {f} base l e = frames-by base l e ∙ ends (leb (length l) u) refl
+  where
+    ends : (t : Bool) → leb (length l) u ≡ t
+        → cond (leb (length l) u) (trees (node item f nil) 0) (before item f (readFrames (base + u) (drop u l))) ≡ before item f
+        (following base l u)
+    ends true h = rw (h, remaining-none (base + u) (drop u l) (omega (arith, leb-true (length l) u h, length-drop u l)))
+    ends false h = rw (h, remaining-list (base + u) (drop u l) (omega (arith, leb-false (length l) u h, length-drop u l)))
+
+-- ---- counting
+
+total-before : (limit : ℕ) (item : Item) (f : Forest) (w : Whole)
+    → totalOf limit (before item f w) ≡ cond (leb (level (item .kind) (depth f)) limit) (added (1 + size f) false (totalOf limit w))
+    (added 0 true (totalOf limit w))
+unfolding size depth
+total-before limit item f waiting =
+    by-test (λ (x : Total). total.Waiting ≡ x) (leb (level (item .kind) (depth f)) limit) (λ _. refl) (λ _. refl)
+total-before limit item f (refusal j) =
+    by-test (λ (x : Total). total.Refused j ≡ x) (leb (level (item .kind) (depth f)) limit) (λ _. refl) (λ _. refl)
+total-before limit item f (trees g left) =
+    by-le (λ (x : Total). totalOf limit (trees (node item f g) left) ≡ x) (level (item .kind) (depth f)) limit
+    (λ h. rw (max-low (level (item .kind) (depth f)) (depth g) limit h)
+    (by-both (λ (x y : Total). x ≡ added (1 + size f) false y) (leb (depth g) limit) refl refl))
+    (λ h. let over : limit < max (level (item .kind) (depth f)) (depth g) = omega arith in rw (lt-leb _ _ over)
+    (by-test (λ (x : Total). total.Deep ≡ added 0 true x) (leb (depth g) limit) (λ _. refl) (λ _. refl)))
+
+added-none : (x : Total) → added 0 false x ≡ x
+added-none (total.Trees n left) = rw zero-add
+added-none total.Deep = refl
+added-none total.Waiting = refl
+added-none (total.Refused k) = refl
+
+added-more : (c n : ℕ) (deep : Bool) (x : Total) → added c deep (added n false x) ≡ added (c + n) deep x
+added-more c n true (total.Trees m left) = refl
+added-more c n false (total.Trees m left) = rw add-assoc
+added-more c n true total.Deep = refl
+added-more c n false total.Deep = refl
+added-more c n true total.Waiting = refl
+added-more c n false total.Waiting = refl
+added-more c n true (total.Refused k) = refl
+added-more c n false (total.Refused k) = refl
+
+added-deep : (c n : ℕ) (deep : Bool) (x : Total) → added c deep (added n true x) ≡ added c true x
+added-deep c n true (total.Trees m left) = refl
+added-deep c n false (total.Trees m left) = refl
+added-deep c n true total.Deep = refl
+added-deep c n false total.Deep = refl
+added-deep c n true total.Waiting = refl
+added-deep c n false total.Waiting = refl
+added-deep c n true (total.Refused k) = refl
+added-deep c n false (total.Refused k) = refl
+
+no-trees : (limit left : ℕ) → total.Trees 0 left ≡ totalOf limit (trees nil left)
+unfolding size depth
+no-trees limit left = rw (leb·zero limit)
+
+module _ (limit base : ℕ) (l : List ℕ) (c : ℕ) (deep : Bool) where
+  -- the total after c records and perhaps a frame that was too deep, by what the next frame is read as
+  abbrev onwardPacket : Extent → Total
+  onwardPacket (Tree n next) = added (c + n) deep (totalOf limit (following base l next))
+  onwardPacket (Deep next) = added c true (totalOf limit (following base l next))
+  onwardPacket (Refused k) = total.Refused k
+
+  abbrev onward : FrameExtent → Total
+  onward Waiting = added c deep (total.Trees 0 (length l))
+  onward (Packet x) = onwardPacket x
+
+  by-frame : (x : Frame) → readFrame base l ≡ x → added c deep (totalOf limit (readFrames base l)) ≡ onward (frameExtent limit x)
+  unfolding extent
+  by-frame wait e = ap (λ (w : Whole). added c deep (totalOf limit w)) (frames-by base l e)
+      ∙ ap (added c deep) (sym (no-trees limit (length l)))
+  by-frame (read (fault k)) e = ap (λ (w : Whole). added c deep (totalOf limit w)) (frames-by base l e) ∙ added-refused deep
+    where
+      added-refused : (t : Bool) → added c t (total.Refused k) ≡ total.Refused k
+      added-refused true = refl
+      added-refused false = refl
+  by-frame (read (one item f u)) e =
+      ap (λ (w : Whole). added c deep (totalOf limit w)) (frames-tree base l e)
+      ∙ ap (added c deep) (total-before limit item f (following base l u))
+      ∙ rw (zero-add u) (by-both (λ (x : Total) (y : Extent). added c deep x ≡ onwardPacket y) (leb (level (item .kind) (depth f)) limit)
+      (added-more c (1 + size f) deep (totalOf limit (following base l u)))
+      (added-deep c 0 deep (totalOf limit (following base l u))))
+
+  next-frame : {x : FrameExtent} → 0 < length l → x ≡ frameExtent limit (readFrame base l)
+      → added c deep (totalOf limit (remaining base l)) ≡ onward x
+  next-frame some h =
+      ap (λ (w : Whole). added c deep (totalOf limit w)) (remaining-list base l some) ∙ by-frame (readFrame base l) refl ∙ ap onward (sym h)
+
+  no-frame : length l ≤ 0 → added c deep (total.Trees 0 0) ≡ added c deep (totalOf limit (remaining base l))
+  no-frame none = ap (added c deep) (no-trees limit 0 ∙ ap (totalOf limit) (sym (remaining-none base l none)))
+
+-- a frame that was measured lies within its input
+abbrev PacketIn : ℕ → Extent → Type 0
+PacketIn m (Tree n next) = (n + 4 ≤ next) × (next ≤ m)
+PacketIn m (Deep next) = (4 ≤ next) × (next ≤ m)
+PacketIn m (Refused k) = Unit {0}
+
+abbrev FrameExtentIn : ℕ → FrameExtent → Type 0
+FrameExtentIn m Waiting = Unit {0}
+FrameExtentIn m (Packet x) = PacketIn m x
+
+frame-extent-in : (limit m : ℕ) (x : Frame) → FrameIn m x → FrameExtentIn m (frameExtent limit x)
+unfolding extent
+frame-extent-in limit m wait w = tt
+frame-extent-in limit m (read (fault k)) w = tt
+frame-extent-in limit m (read (one item f u)) w =
+    by-test (PacketIn m) (leb (level (item .kind) (depth f)) limit) (λ _. omega arith) (λ _. omega arith)
+
+-- a packet that was measured takes its prefix, and lies in its frame
+packet-extent-in : {x : Extent} (limit base : ℕ) (l : List ℕ) → Packet x ≡ frameExtent limit (readFrame base l) → PacketIn (length l) x
+packet-extent-in limit base l e =
+    subst (FrameExtentIn (length l)) (sym e) (frame-extent-in limit (length l) (readFrame base l) (frame-in base l))
+
+-- ---- the loop
+
+-- the frames of msg have c records so far, one of them perhaps too deep, and those from `at` on are left
+pub record Totalling (limit : ℕ) (msg : List ℕ) (at c : ℕ) (deep : Bool) : Type 0 where
+  pub few : c ≤ at
+  pub here : at ≤ length msg
+  pub whole : totalOf limit (tcpVec msg) ≡ added c deep (totalOf limit (remaining at (drop at msg)))
+
+-- before the first frame
+pub totalling-start : (limit : ℕ) (msg : List ℕ) → (length msg ≡ 0 → ⊥) → Totalling limit msg 0 0 false
+unfolding tcpVec
+totalling-start limit msg h =
+    record {
+      few = omega arith;
+      here = omega arith;
+      whole = sym (added-none _ ∙ ap (totalOf limit) (remaining-list 0 msg (omega arith)));
+    }
+
+-- an empty input is refused
+pub empty-list : (limit : ℕ) (msg : List ℕ) → length msg ≡ 0 → total.Refused faults.RunsOut ≡ totalOf limit (tcpVec msg)
+unfolding tcpVec readFrames framesAt readFrame prefixOf
+empty-list limit [] h = refl
+empty-list limit (x ∷ msg) h = absurd (omega arith)
+
+module _ (limit : ℕ) (msg : List ℕ) (at c : ℕ) (deep : Bool) (w : Totalling limit msg at c deep) where
+  -- after the last frame
+  pub totalling-end : length msg ≤ at → {r : Total} → r ≡ added c deep (total.Trees 0 0) → r ≡ totalOf limit (tcpVec msg)
+  totalling-end h e = e ∙ no-frame limit at (drop at msg) c deep (omega (arith, length-drop at msg)) ∙ sym (w .whole)
+
+  module _ {rest : List ℕ} {x : FrameExtent} (some : at < length msg) (s : rest ≡ drop at msg)
+      (e : x ≡ frameExtent limit (readFrame at rest)) where
+    frame-here : x ≡ frameExtent limit (readFrame at (drop at msg))
+    frame-here = rw s at e
+
+    by-next : totalOf limit (tcpVec msg) ≡ onward limit at (drop at msg) c deep x
+    by-next = w .whole ∙ next-frame limit at (drop at msg) c deep (omega (arith, length-drop at msg)) frame-here
+
+    next-turn : {n used : ℕ} {t : Bool} → n ≤ at + used → 4 ≤ used → used ≤ length (drop at msg)
+        → totalOf limit (tcpVec msg) ≡ added n t (totalOf limit (following at (drop at msg) used))
+        → ((4 ≤ used) × (at + used ≤ length msg)) × Totalling limit msg (at + used) n t
+    next-turn {n} {used} few four g i = (
+      (four, omega (arith, length-drop at msg)),
+      record {
+        few = few;
+        here = omega (arith, length-drop at msg);
+        whole = i ∙ rw (drop-drop used at msg);
+      },
+    )
+
+    -- after a frame that is a tree
+    pub totalling-tree : {n used : ℕ} → x ≡ Packet (Tree n used)
+        → ((4 ≤ used) × (at + used ≤ length msg)) × Totalling limit msg (at + used) (c + n) deep
+    totalling-tree {n} {used} z =
+        let v = packet-extent-in limit at (drop at msg) (sym z ∙ frame-here) in
+        next-turn (omega (arith, w .few)) (omega arith) (v .1) (by-next ∙ ap (onward limit at (drop at msg) c deep) z)
+
+    -- after a frame that is too deep
+    pub totalling-deep : {used : ℕ} → x ≡ Packet (Deep used)
+        → ((4 ≤ used) × (at + used ≤ length msg)) × Totalling limit msg (at + used) c true
+    totalling-deep {used} z =
+        let v = packet-extent-in limit at (drop at msg) (sym z ∙ frame-here) in
+        next-turn (omega (arith, w .few)) (v .0) (v .1) (by-next ∙ ap (onward limit at (drop at msg) c deep) z)
+
+    -- at a frame that waits
+    pub totalling-waits : {r : Total} → x ≡ Waiting → r ≡ added c deep (total.Trees 0 (length msg - at)) → r ≡ totalOf limit (tcpVec msg)
+    totalling-waits z f = f ∙ sym (by-next ∙ ap (onward limit at (drop at msg) c deep) z ∙ rw (length-drop at msg))
+
+    -- at a frame that is refused
+    pub totalling-refused : {k : Fault} → x ≡ Packet (Refused k) → total.Refused k ≡ totalOf limit (tcpVec msg)
+    totalling-refused z = sym (by-next ∙ ap (onward limit at (drop at msg) c deep) z)

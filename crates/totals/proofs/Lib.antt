@@ -1,0 +1,3 @@
+pub mod FrameKnot
+pub mod FrameExtents
+pub mod Totals

@@ -1,0 +1,129 @@
+// The first reading of a whole input, by its framing: it writes nothing.
+use heads::Prefix;
+use measure::Extent;
+use refusal::Fault;
+ghost use mathlib.Core.Path.{_≡_};
+ghost use Prim.Native.Nat.{ℕ, _≤_};
+ghost use lib.ListN.{length};
+ghost use Rattle.wire.specs.Limits.{longest};
+ghost use Rattle.totals.specs.Framing.{readFrame, tcp, tcpVec, ruleOf};
+ghost use Rattle.totals.specs.CodeTotals.{frameExtent, EndsIn, totalOf, totalOfOne, added};
+
+// How packets stand in an input.
+pub enum Framing {
+    // One packet is all of the input.
+    Udp,
+    // The first packet of a TCP stream: a 4-byte length, and a packet from everything after it.
+    Tcp,
+    // The packets of a TCP stream, one after another, until nothing is left or one waits.
+    TcpVec,
+}
+
+// What the first reading of a frame answers.
+pub enum FrameExtent {
+    Waiting,
+    // The packet; its end is counted from the start of the prefix.
+    Packet(Extent),
+}
+
+// What the first reading of a whole input answers.
+pub enum Total {
+    // The records of all the trees, and the bytes left over.
+    Trees { count: usize, left: usize },
+    // In one of the trees bundles and arrays are nested deeper than the limit.
+    Deep,
+    Waiting,
+    Refused(Fault),
+}
+
+// The first reading of a whole input.
+//
+// Ruled out: a list that ends at a frame that is too deep; a frame's packet cut at its length.
+pub fn measure_input(framing: Framing, msg: &[u8], depth: usize) -> Total
+    requires { ⌜ length (now msg) ≤ longest ⌝ }
+    ensures { λ r. ⌜ r ≡ totalOf depth (ruleOf framing (now (msg .entry))) ⌝ }
+{
+    match framing {
+        Framing::Udp => measure_one(measure::measure_packet(msg, 0, depth), msg.len()),
+        Framing::Tcp => measure_tcp(msg, depth),
+        Framing::TcpVec => measure_tcp_vec(msg, depth),
+    }
+}
+
+// The total of one packet of `n` bytes of input.
+fn measure_one(extent: Extent, n: usize) -> Total
+    requires { ⌜ EndsIn n extent ⌝ }
+    ensures { λ r. ⌜ r ≡ totalOfOne n extent ⌝ }
+{
+    match extent {
+        Extent::Tree { count, next } => Total::Trees {
+            count,
+            left: n - next,
+        },
+        Extent::Deep { next: _ } => Total::Deep,
+        Extent::Refused(fault) => Total::Refused(fault),
+    }
+}
+
+// The first reading of one frame.
+fn measure_tcp(msg: &[u8], depth: usize) -> Total
+    requires { ⌜ length (now msg) ≤ longest ⌝ }
+    ensures { λ r. ⌜ r ≡ totalOf depth (tcp (now (msg .entry))) ⌝ }
+{
+    match measure_frame(msg, depth) {
+        FrameExtent::Waiting => Total::Waiting,
+        FrameExtent::Packet(extent) => measure_one(extent, msg.len()),
+    }
+}
+
+// The first reading of a list of frames. A frame that is too deep is passed over: a later one may be refused.
+fn measure_tcp_vec(msg: &[u8], depth: usize) -> Total
+    requires { ⌜ length (now msg) ≤ longest ⌝ }
+    ensures { λ r. ⌜ r ≡ totalOf depth (tcpVec (now (msg .entry))) ⌝ }
+{
+    if msg.len() == 0 {
+        return Total::Refused(Fault::RunsOut);
+    }
+    let mut at = 0;
+    let mut count = 0;
+    let mut deep = false;
+    while at < msg.len() {
+        match measure_frame(&msg[at..], depth) {
+            FrameExtent::Waiting => return counted(count, deep, msg.len() - at),
+            FrameExtent::Packet(extent) => match extent {
+                Extent::Tree { count: n, next } => {
+                    count += n;
+                    at += next;
+                }
+                Extent::Deep { next } => {
+                    deep = true;
+                    at += next;
+                }
+                Extent::Refused(fault) => return Total::Refused(fault),
+            },
+        }
+    }
+    counted(count, deep, 0)
+}
+
+// The total of frames after which nothing more is read.
+fn counted(count: usize, deep: bool, left: usize) -> Total
+    ensures { λ r. ⌜ r ≡ added count deep (Total.Trees 0 left) ⌝ }
+{
+    if deep {
+        return Total::Deep;
+    }
+    Total::Trees { count, left }
+}
+
+// The first reading of a frame: a packet from everything after the prefix.
+fn measure_frame(input: &[u8], depth: usize) -> FrameExtent
+    requires { ⌜ length (now input) ≤ longest ⌝ }
+    ensures { λ r. ⌜ ((base : ℕ) → r ≡ frameExtent depth (readFrame base (now (input .entry)))) ⌝ }
+{
+    match heads::read_prefix(input) {
+        Prefix::Ready => FrameExtent::Packet(measure::measure_packet(&input[4..], 4, depth)),
+        Prefix::Waiting => FrameExtent::Waiting,
+        Prefix::RunsOut => FrameExtent::Packet(Extent::Refused(Fault::RunsOut)),
+    }
+}
