@@ -4,6 +4,7 @@ use mathlib.Core.List.{List, [], _∷_}
 use Prim.Native.Nat.{ℕ}
 use Prim.Native.String.{String}
 use lib.Dec.{eqb, ltb}
+use Rattle.wire.specs.Same.{sameBytes}
 use Rattle.words.specs.Numeral.{numeralOf}
 use Rattle.words.specs.declared.numeral.Numeral.{Numeral}
 use Rattle.words.specs.declared.numeral.Numeral.the-variants as numeral
@@ -14,16 +15,9 @@ use Rattle.commands.specs.declared.Command.the-variants as command
 use Rattle.commands.specs.declared.Framed.{Framed}
 use Rattle.commands.specs.declared.Framed.the-variants as framed
 
--- two words are the same, byte for byte
-abbrev pub sameWord : List ℕ → List ℕ → Bool
-sameWord [] [] = true
-sameWord [] (b ∷ m) = false
-sameWord (a ∷ l) [] = false
-sameWord (a ∷ l) (b ∷ m) = cond (eqb a b) (sameWord l m) false
-
 -- a word is this one
 abbrev pub isWord : List ℕ → String → Bool
-isWord word text = sameWord word (ascii text)
+isWord word text = sameBytes word (ascii text)
 
 -- the command that a word names
 unfoldable pub commandOf : List ℕ → Command

@@ -6,7 +6,8 @@ use telling::Trouble;
 use words::numeral::Numeral;
 use words::numeral::decimal;
 ghost use mathlib.Core.Path.{_≡_};
-ghost use Rattle.commands.specs.Words.{sameWord, commandOf, framingOf, numberOfWord};
+ghost use Rattle.commands.specs.Words.{commandOf, framingOf, numberOfWord};
+ghost use Rattle.wire.specs.Same.{sameBytes};
 ghost use Rattle.commands.specs.Asked.{decodeWith, encodeWith, encodeAsked, lookAsked};
 pub use options::Chosen;
 pub use options::Options;
@@ -51,7 +52,7 @@ pub enum LookAsked {
 
 // Whether a word is this one.
 fn is_word(word: &[u8], text: &[u8]) -> bool
-    ensures { λ r. ⌜ r ≡ sameWord (now (word .entry)) (now (text .entry)) ⌝ }
+    ensures { λ r. ⌜ r ≡ sameBytes (now (word .entry)) (now (text .entry)) ⌝ }
 {
     check::same(word, text)
 }

@@ -11,7 +11,8 @@ use Rattle.node.specs.Tags.{bundleKind}
 use Rattle.node.specs.Forest.{Forest, nil, node}
 use Rattle.node.specs.declared.record.Item.{Item}
 use Rattle.arguments.specs.Arguments.{args, readArgs}
-use Rattle.packet.specs.FirstText.{bundleWord, sameBytes}
+use Rattle.packet.specs.FirstText.{bundleWord}
+use Rattle.wire.specs.Same.{sameBytes}
 use Rattle.packet.specs.Packet.{one, upto, readMessage, joined, elementsAt, readPacket, readElements, readBundle, readElement}
 use Rattle.heads.specs.Heads.{messageItem}
 use Rattle.osc10.specs.Words.{NoNul, slash}

@@ -18,7 +18,8 @@ use Rattle.text.specs.declared.Text.{Text}
 use Rattle.text.specs.declared.Text.the-variants.{Found, Lacks}
 use Rattle.text.specs.declared.Lack.{Lack}
 use Rattle.text.proofs.Within.{found-in}
-use Rattle.packet.specs.FirstText.{bundleWord, sameBytes, startBy, startOf}
+use Rattle.packet.specs.FirstText.{bundleWord, startBy, startOf}
+use Rattle.wire.specs.Same.{sameBytes}
 use Rattle.packet.specs.declared.Start.{Start}
 use Rattle.packet.specs.declared.Start.the-variants.{Message, Bundle, Refused}
 

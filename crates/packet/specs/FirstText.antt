@@ -1,11 +1,12 @@
 -- What a packet starts with: document 01, "How bytes are read", rules 2 and 5. A rule reads at the front of l, which stands at position p
 -- of its frame.
-use mathlib.Core.Bool.{Bool, true, false, cond}
+use mathlib.Core.Bool.{cond}
 use mathlib.Core.List.{List, [], _∷_}
 use Prim.Native.Nat.{ℕ}
 use lib.Dec.{eqb}
 use lib.ListN.{length, getD, take}
 use Rattle.refusal.specs.declared.Fault.the-variants as fault
+use Rattle.wire.specs.Same.{sameBytes}
 use Rattle.node.specs.Tags.{messageKind, bundleKind}
 use Rattle.text.specs.Text.{readText, faultOf}
 use Rattle.text.specs.declared.Text.{Text}
@@ -16,13 +17,6 @@ use Rattle.packet.specs.declared.Start.the-variants.{Message, Bundle, Re
 -- "#bundle": its first character is also the kind of a bundle
 abbrev pub bundleWord : List ℕ
 bundleWord = bundleKind ∷ 98 ∷ 117 ∷ 110 ∷ 100 ∷ 108 ∷ 101 ∷ []
-
--- two lists of bytes are the same
-abbrev pub sameBytes : List ℕ → List ℕ → Bool
-sameBytes [] [] = true
-sameBytes [] (y ∷ m) = false
-sameBytes (x ∷ l) [] = false
-sameBytes (x ∷ l) (y ∷ m) = cond (eqb x y) (sameBytes l m) false
 
 -- the first text of a packet decides: '/'-led a message, "#bundle" a bundle, any other refusal 5
 abbrev pub startBy : List ℕ → Text → Start

@@ -6,7 +6,8 @@ ghost use mathlib.Core.Path.{_≡_};
 ghost use Prim.Native.Nat.{_+_, _≤_};
 ghost use lib.ListN.{length};
 ghost use Rattle.wire.specs.Limits.{longest};
-ghost use Rattle.packet.specs.FirstText.{sameBytes, startOf};
+ghost use Rattle.packet.specs.FirstText.{startOf};
+ghost use Rattle.wire.specs.Same.{sameBytes};
 
 // What a packet starts with; `used` bytes are the first text's.
 pub enum Start {

@@ -2,4 +2,5 @@ pub mod Limits
 pub mod Number
 pub mod Pad
 pub mod Part
+pub mod Same
 pub mod Wrote

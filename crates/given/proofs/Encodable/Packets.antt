@@ -16,7 +16,8 @@ use Rattle.text.specs.declared.Text.{Text}
 use Rattle.text.specs.declared.Text.the-variants.{Found, Lacks}
 use Rattle.arguments.specs.Arguments.{Args, refused, args, readArgs}
 use Rattle.heads.specs.Heads.{tagsIn, sizeOf}
-use Rattle.packet.specs.FirstText.{bundleWord, sameBytes, startBy, startOf}
+use Rattle.packet.specs.FirstText.{bundleWord, startBy, startOf}
+use Rattle.wire.specs.Same.{sameBytes}
 use Rattle.packet.specs.Packet.{Out, fault, one, Elements, upto, after, messageWith, typesThen, readMessage}
 use Rattle.heads.specs.Heads.{messageItem, bundleItem}
 use Rattle.packet.specs.Packet.{bundleWith, bundleBy, filling}

@@ -1,6 +1,6 @@
 -- `packet::same` meets its contract. The invariant: from `i` on the two agree as they do from the start.
 use Rattle.packet.proofs.FirstText.{other-length, same-on, same-not, same-end}
-use Rattle.packet.specs.FirstText.{sameBytes}
+use Rattle.wire.specs.Same.{sameBytes}
 use mathlib.Core.Path.{_≡_, refl, sym, _∙_}
 use lib.ListN.{length, drop}
 use Prim.Native.Nat.{_≤_, _-_}
