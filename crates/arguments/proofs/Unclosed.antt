@@ -44,12 +44,14 @@ closing rest n (another tag a c b) w =
     record { count = suc (v .count); deep = v .deep; is = rw (other a c, v .is) }
 closing rest n (matched {within} {tags} b d) w =
     let v = closing rest n d w in
-    let u = closing (93 ∷ (tags ++ rest)) (suc n) b (record { count = v .count; deep = v .deep; is = ap (tagBefore Closes) (v .is) }) in
+    let u = closing (93 ∷ (tags ++ rest)) (suc n) b
+    (record { count = v .count; deep = v .deep; is = ap (tagBefore Closes) (v .is) }) in
     record { count = suc (u .count); deep = max (u .deep) (suc n); is = rw (append-assoc within (93 ∷ tags) rest, u .is) }
 
 balanced-back : {ts : List ℕ} → Balanced ts → Closing 0 (back ts)
 unfolding back
-balanced-back {ts} b = subst (λ (x : List ℕ). Closing 0 (back x)) (append-nil ts) (closing [] 0 b (record { count = 0; deep = 0; is = refl }))
+balanced-back {ts} b =
+    subst (λ (x : List ℕ). Closing 0 (back x)) (append-nil ts) (closing [] 0 b (record { count = 0; deep = 0; is = refl }))
 
 -- so what waits below changes nothing
 alone : (base : ℕ) (post l : List ℕ) (p : ℕ) (below : List Open) → Balanced post → readTags base post l p nil below ≡ readArgs base post l p

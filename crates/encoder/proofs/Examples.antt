@@ -1,6 +1,6 @@
--- Examples, computed, that meet the hypotheses of `encode-fours`, `encode-tcp-fours` and `encode-string-fours`, and those of `encode-no` and
--- `encode-tcp-no`: what the encoders answer by their contracts for the tables of crates/table/proofs/Examples.antt, for 65 arrays and for a
--- text.
+-- Examples, computed, that meet the hypotheses of `encode-fours`, `encode-tcp-fours` and `encode-string-fours`, and those of
+-- `encode-no` and `encode-tcp-no`: what the encoders answer by their contracts for the tables of crates/table/proofs/Examples.antt, for 65
+-- arrays and for a text.
 use mathlib.Core.Path.{_≡_, refl, ap}
 use mathlib.Core.List.{[], _∷_}
 use Prim.Native.Nat.{ℕ, zero, suc, _%_}

@@ -73,21 +73,6 @@ add-fit c =
           (p12 .args .input .now) (p8 .length .given .0 .0) (p8 .length .given .0 .1 .0) (p5 .tags-in .ensures),
     )
 
-add-fit-2 : tie.Need-add-fit-2
-add-fit-2 c =
-    let p3 = c .before .before .before in
-    let p5 = p3 .before .before in
-    let p8 = p5 .before .before .before in
-    let p10 = p8 .before .before in
-    let p12 = p10 .before .before in
-    let w = found-in (p12 .args .input .now) (p12 .args .pos) (sym (p8 .length .given .1) ∙ (p10 .read-osc-string .ensures)) in
-    omega (
-      arith,
-      measured-within 0 _ _ _ (sym (c .before .count .given .1) ∙ (p3 .measure-osc-args .ensures) 0),
-      args-fit
-          (p12 .args .input .now) (p8 .length .given .0 .0) (p8 .length .given .0 .1 .0) (p5 .tags-in .ensures),
-    )
-
 add-fit-3 : tie.Need-add-fit-3
 add-fit-3 c =
     let p3 = c .before .before .before in
@@ -102,6 +87,9 @@ add-fit-3 c =
       args-fit
           (p12 .args .input .now) (p8 .length .given .0 .0) (p8 .length .given .0 .1 .0) (p5 .tags-in .ensures),
     )
+
+add-fit-2 : tie.Need-add-fit-2
+add-fit-2 c = omega (arith, add-fit-3 c)
 
 returns : tie.Need-returns
 returns c =
