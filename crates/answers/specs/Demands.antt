@@ -3,8 +3,9 @@ use mathlib.Core.Path.{_≡_}
 use mathlib.Core.List.{List, _++_}
 use Prim.Native.Nat.{ℕ, _-_, _*_, _≤_}
 use lib.ListN.{length, take, drop}
-use Rattle.refusal.specs.declared.Refusal.the-variants.{TableFull}
-use Rattle.wire.specs.Limits.{deepest}
+use Rattle.refusal.specs.declared.Fault.{Fault}
+use Rattle.refusal.specs.declared.Refusal.the-variants.{Unreadable, TableFull}
+use Rattle.wire.specs.Limits.{longest, deepest}
 use Rattle.node.specs.Forest.{size}
 use Rattle.node.specs.Tags.{messageKind}
 use Rattle.node.specs.Records.{recordSize, kindAt, itemAt, capacity}
@@ -12,7 +13,7 @@ use Rattle.totals.specs.Framing.{Whole}
 use Rattle.answering.specs.Limits.{decoded, forestOf, tabled}
 use Rattle.answering.specs.declared.Decoded.{Decoded}
 use Rattle.answering.specs.declared.Decoded.the-variants.{Packets, Refused}
-use Rattle.answers.specs.Words.{Continues, NotFull, Unlimited}
+use Rattle.answers.specs.Words.{Continues, Mendable, NotFull, Unlimited}
 
 -- the table after a decoder's call, by its rule, limit and message
 abbrev pub tableAfter : (List ℕ → Whole) → ℕ → List ℕ → List ℕ → List ℕ
@@ -63,6 +64,19 @@ MoreBytes rule =
     → answerTo rule limit msg table ≡ Packets count left
     → Unlimited (answerTo rule limit' (msg ++ more) table')
     → GoesOn rule msg more limit limit' table table' count
+
+-- ---- beside demand 3: bytes appended change no refusal of reading but 2 and 3
+
+-- a single-packet call that refuses some bytes with 4 to 8 (document 01, "Refusal numbers") refuses them so with bytes appended, whatever
+-- its table and limit, unless 13 or 1 comes first. Of a list it is false; the shortest that shows it, 00000010 2362756E646C6500
+-- 0000000000000001 00000011 2F000000 00000000 00000000 00000000, gives 5 for its third frame, and with a byte appended its bundle takes
+-- all of the rest
+abbrev pub FaultsStay : (List ℕ → Whole) → Type 0
+FaultsStay rule =
+    (msg more : List ℕ) (limit limit' : ℕ) (table table' : List ℕ) (k : Fault)
+    → (Mendable k → ⊥) → limit' ≤ deepest → length (msg ++ more) ≤ longest
+    → answerTo rule limit msg table ≡ Refused (Unreadable k)
+    → answerTo rule limit' (msg ++ more) table' ≡ Refused (Unreadable k)
 
 -- ---- demand 3: n records always hold what n bytes decode to
 abbrev pub RecordsHold : (List ℕ → Whole) → Type 0

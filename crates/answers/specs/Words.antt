@@ -1,5 +1,7 @@
--- The words in which demand 3 speaks of trees and answers.
+-- The words in which demand 3 speaks of trees, faults and answers.
 use mathlib.Core.Path.{_≡_}
+use Rattle.refusal.specs.declared.Fault.{Fault}
+use Rattle.refusal.specs.declared.Fault.the-variants.{Empty, RunsOut, NotUtf8, BadStart, NotOpen, UnknownTag, NotScalar}
 use Rattle.refusal.specs.declared.Refusal.the-variants.{TooLong, TooDeep, TableFull, DepthLimit}
 use Rattle.node.specs.Forest.{Forest, nil, node}
 use Rattle.node.specs.Tags.{messageKind, bundleKind}
@@ -17,6 +19,17 @@ pub data Continues : Forest → Forest → Type 0 where
   message : {item : Item} {inside : Forest} → item .kind ≡ messageKind → Continues (node item inside nil) (node item inside nil)
   bundle : {item : Item} {inside inside' : Forest} → item .kind ≡ bundleKind → BeginsSame inside inside'
       → Continues (node item inside nil) (node item inside' nil)
+
+-- a fault that bytes appended may mend: 2, a packet of no bytes, and 3, a field that runs past them (document 01, "Refusal numbers"; Ticket
+-- 2's short fields); 4 to 8 are met in bytes that are there
+abbrev pub Mendable : Fault → Type 0
+Mendable Empty = Unit {0}
+Mendable RunsOut = Unit {0}
+Mendable NotUtf8 = ⊥
+Mendable BadStart = ⊥
+Mendable NotOpen = ⊥
+Mendable UnknownTag = ⊥
+Mendable NotScalar = ⊥
 
 -- an answer that is neither 9 nor 10
 pub record NotFull (r : Decoded) : Type 0 where

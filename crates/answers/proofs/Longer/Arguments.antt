@@ -1,4 +1,4 @@
--- Bytes appended to a text or to a message's data: what was accepted is read as it was.
+-- Bytes appended to a text or to a message's data: what was accepted is read as it was, and so is a fault that they cannot mend.
 use mathlib.Core.Path.{_≡_, refl, ap}
 use mathlib.Core.Bool.{Bool, true, false, cond}
 use mathlib.Core.List.{List, [], _∷_, _++_}
@@ -17,29 +17,31 @@ use Rattle.node.specs.declared.tags.Class.{Class}
 use Rattle.node.specs.declared.tags.Class.the-variants.{Four, Eight, Bare, Text as String, Blob, Scalar, Unknown}
 use Rattle.node.specs.declared.tags.Sort.{Sort}
 use Rattle.node.specs.declared.tags.Sort.the-variants.{Opens, Closes, Leaf}
-use Rattle.text.specs.Text.{untilNul, reach, readText}
+use Rattle.text.specs.Text.{untilNul, reach, readText, faultOf}
 use Rattle.text.specs.declared.Text.{Text}
 use Rattle.text.specs.declared.Text.the-variants.{Found, Lacks}
+use Rattle.text.specs.declared.Lack.the-variants.{Utf8}
 use Rattle.argument.specs.Argument.{argItem, having, textArg, readArg}
 use Rattle.arguments.specs.Arguments.{Args, refused, args, later, argTaken, arrayItem, Open, waits, act, readTags, readArgs}
 use Rattle.argument.specs.declared.Arg.{Arg}
 use Rattle.argument.specs.declared.Arg.the-variants.{Given, Refused}
+use Rattle.answers.specs.Words.{Mendable}
 use Rattle.wire.proofs.Choices.{by-test, by-le}
 use Rattle.argument.proofs.Within.{given-within}
 
--- what was accepted stays
+-- a text that was found stays, and so does a fault that no bytes mend
 abbrev pub KeptText : Text → Text → Type 0
 KeptText (Found n used) t = t ≡ Found n used
-KeptText (Lacks k) t = Unit {0}
+KeptText (Lacks lack) t = (Mendable (faultOf lack) → ⊥) → t ≡ Lacks lack
 
--- an argument that was accepted stays
+-- so does an argument
 abbrev KeptArg : Arg → Arg → Type 0
 KeptArg (Given item used) x = x ≡ Given item used
-KeptArg (Refused k) x = Unit {0}
+KeptArg (Refused k) x = (Mendable k → ⊥) → x ≡ Refused k
 
--- arguments that were accepted stay
+-- so do arguments
 abbrev pub KeptArgs : Args → Args → Type 0
-KeptArgs (refused k) x = Unit {0}
+KeptArgs (refused k) x = (Mendable k → ⊥) → x ≡ refused k
 KeptArgs (args f used) x = x ≡ args f used
 
 module _ (more : List ℕ) where
@@ -59,36 +61,39 @@ module _ (more : List ℕ) where
       by-nul true g f = refl
       by-nul false g f = ap suc (f (omega arith))
 
-  -- a text that was found is found again
+  same-text : (t : Text) → KeptText t t
+  same-text (Found n used) = refl
+  same-text (Lacks lack) = λ s. refl
+
+  -- a text is found again, or lacks UTF-8 again
   pub text-longer : (l : List ℕ) (p : ℕ) → KeptText (readText l p) (readText (l ++ more) p)
   unfolding readText
   text-longer l p =
       let n = untilNul l in
       by-test (λ t. KeptText t (readText (l ++ more) p)) (ltb n (length l))
       (λ h. by-le (λ t. KeptText t (readText (l ++ more) p)) (reach p (n + 1)) (length l)
-      (λ k. by-test (λ t. KeptText t (readText (l ++ more) p)) (utf8 (take n l))
-      (λ u. let j : n < length l = ltb-true n (length l) h in
+      (λ k. let j : n < length l = ltb-true n (length l) h in
       let nul = lt-ltb n (length (l ++ more)) (omega (arith, length-append l more)) in
       let padding = le-leb (reach p (n + 1)) (length (l ++ more)) (omega (arith, length-append l more)) in
-      rw (readText, nul-longer l j, nul, padding, take-append-le n l more (omega arith), u))
-      (λ u. tt))
-      (λ k. tt))
-      (λ h. tt)
+      rw (readText, nul-longer l j, nul, padding, take-append-le n l more (omega arith))
+      (same-text (cond (utf8 (take n l)) (Found n (reach p (n + 1))) (Lacks Utf8))))
+      (λ k s. absurd (s tt)))
+      (λ h s. absurd (s tt))
 
   -- ---- one argument
 
   having-longer : (n : ℕ) (l : List ℕ) (x y : Arg) → (n ≤ length l → KeptArg x y) → KeptArg (having n l x) (having n (l ++ more) y)
   having-longer n l x y h =
       by-le (λ z. KeptArg z (having n (l ++ more) y)) n (length l)
-      (λ g. rw (le-leb n (length (l ++ more)) (omega (arith, length-append l more))) (h g)) (λ g. tt)
+      (λ g. rw (le-leb n (length (l ++ more)) (omega (arith, length-append l more))) (h g)) (λ g s. absurd (s tt))
 
   text-arg-longer : (tag offset : ℕ) (t t' : Text) → KeptText t t' → KeptArg (textArg tag offset t) (textArg tag offset t')
   text-arg-longer tag offset (Found n used) t' e = rw e
-  text-arg-longer tag offset (Lacks k) t' e = tt
+  text-arg-longer tag offset (Lacks lack) t' e = λ s. rw (e s)
 
   same-arg : (x : Arg) → KeptArg x x
   same-arg (Given item used) = refl
-  same-arg (Refused k) = tt
+  same-arg (Refused k) = λ s. refl
 
   arg-longer : (tag : ℕ) (class : Class) (base : ℕ) (l : List ℕ) (p : ℕ)
       → KeptArg (readArg tag class base l p) (readArg tag class base (l ++ more) p)
@@ -107,12 +112,12 @@ module _ (more : List ℕ) where
       let n = number 4 l in
       having-longer 4 l _ _
       (λ h. rw (number-longer 4 l h) (same-arg (cond (isScalar n) (Given (argItem tag (base + p) n 0) 4) (Refused NotScalar))))
-  arg-longer tag Unknown base l p = tt
+  arg-longer tag Unknown base l p = λ s. refl
 
   -- ---- arguments
 
   later-longer : (n : ℕ) (x y : Args) → KeptArgs x y → KeptArgs (later n x) (later n y)
-  later-longer n (refused k) y e = tt
+  later-longer n (refused k) y e = λ s. rw (e s)
   later-longer n (args f used) y e = rw e
 
   act-longer : (s : Sort) (go : List ℕ → ℕ → Forest → List Open → Args) (base tag : ℕ) (l : List ℕ) (p : ℕ) (frame : Forest)
@@ -120,14 +125,14 @@ module _ (more : List ℕ) where
       → ((m : List ℕ) (q : ℕ) (f : Forest) (b : List Open) → KeptArgs (go m q f b) (go (m ++ more) q f b))
       → KeptArgs (act s go base tag l p frame below) (act s go base tag (l ++ more) p frame below)
   act-longer Opens go base tag l p frame below h = h l p nil (waits frame (arrayItem (base + p)) ∷ below)
-  act-longer Closes go base tag l p frame [] h = tt
+  act-longer Closes go base tag l p frame [] h = λ s. refl
   act-longer Closes go base tag l p frame (waits outer item ∷ below) h = h l p (snoc outer item frame) below
   act-longer (Leaf class) go base tag l p frame below h = by-arg (readArg tag class base l p) (readArg tag class base (l ++ more) p) refl
       (arg-longer tag class base l p)
     where
       by-arg : (x y : Arg) → x ≡ readArg tag class base l p → KeptArg x y
           → KeptArgs (argTaken (λ m q f. go m q f below) l p frame x) (argTaken (λ m q f. go m q f below) (l ++ more) p frame y)
-      by-arg (Refused k) y e s = tt
+      by-arg (Refused k) y e s = λ m. rw (s m)
       by-arg (Given item used) y e s =
           let f = snoc frame item nil in
           rw (s, drop-append-le used l more (given-within tag class base l p e))
@@ -141,6 +146,6 @@ module _ (more : List ℕ) where
   read-longer base (tag ∷ tags) l p frame below = act-longer (sortOf tag) _ base tag l p frame below
       (λ m q f b. read-longer base tags m q f b)
 
-  -- arguments that were read are read again
+  -- arguments are read again, or refused again
   pub args-longer : (base : ℕ) (tags l : List ℕ) (p : ℕ) → KeptArgs (readArgs base tags l p) (readArgs base tags (l ++ more) p)
   args-longer base tags l p = read-longer base tags l p nil []

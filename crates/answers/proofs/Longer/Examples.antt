@@ -1,8 +1,11 @@
--- Examples, computed: calls that meet the hypotheses of `more-bytes`, with a bundle that grows and with a message.
-use mathlib.Core.Path.{_≡_, refl}
+-- Examples, computed: calls that meet the hypotheses of `more-bytes`, with a bundle that grows and with a message, and of `faults-stay`;
+-- and lists, for which a refusal with 4 to 8 does not stay.
+use mathlib.Core.Path.{_≡_, refl, sym, _∙_}
 use mathlib.Core.List.{List, [], _∷_, _++_}
 use Prim.Native.Nat.{ℕ}
 use native.Mathlib.Omega.{arith}
+use Rattle.refusal.specs.declared.Fault.the-variants.{Empty, RunsOut, BadStart, UnknownTag}
+use Rattle.refusal.specs.declared.Refusal.the-variants.{Unreadable}
 use Rattle.wire.specs.Number.{number}
 use Rattle.node.specs.Forest.{size, depth, snoc}
 use Rattle.node.specs.Tags.{classOf, sortOf}
@@ -12,15 +15,17 @@ use Rattle.arguments.specs.Arguments.{readTags}
 use Rattle.heads.specs.Heads.{sizeOf, prefixOf}
 use Rattle.packet.specs.FirstText.{startOf}
 use Rattle.packet.specs.Packet.{readMessage, bundleBy, elementBy, elementsBy, packetBy, packetAt, readPacket}
-use Rattle.totals.specs.Framing.{udp, readFrame, tcp}
+use Rattle.totals.specs.Framing.{udp, readFrame, tcp, framesAt, readFrames, tcpVec}
 use Rattle.answering.specs.Limits.{decoded}
 use Rattle.answering.specs.declared.Decoded.{Decoded}
-use Rattle.answering.specs.declared.Decoded.the-variants.{Packets}
+use Rattle.answering.specs.declared.Decoded.the-variants.{Packets, Refused}
 use Rattle.answers.specs.Words.{Unlimited}
-use Rattle.answers.specs.Demands.{answerTo, GoesOn}
+use Rattle.answers.specs.Demands.{answerTo, GoesOn, FaultsStay}
+use Rattle.decoder.proofs.Answers.{no-packets}
 use Rattle.table.proofs.Examples as p3
 use Rattle.table.proofs.Examples.{empty, nested}
 use Rattle.answers.proofs.Longer.MoreBytes.{more-bytes-udp, more-bytes-tcp}
+use Rattle.answers.proofs.Longer.Faults.{faults-stay-udp, faults-stay-tcp}
 use Rattle.answers.proofs.Room.Examples.{blank, nested-answer}
 
 unlimited : {r : Decoded} {count left : ℕ} → r ≡ Packets count left → Unlimited r
@@ -80,3 +85,83 @@ next-frame = refl
 taken : GoesOn tcp (prefix ++ empty) element 1 2 (blank 1) (blank 2) 1
 unfolding prefix
 taken = more-bytes-tcp (prefix ++ empty) element 1 2 (blank 1) (blank 2) 1 0 (omega arith) (omega arith) frame (unlimited next-frame)
+
+-- ---- a refusal with 7 stays, and 2 and 3 are mended
+
+-- P8: 2F610000 2C780000, whose tag x is unknown
+abbrev unknown : List ℕ
+unknown = 0x2F ∷ 0x61 ∷ 0 ∷ 0 ∷ 0x2C ∷ 0x78 ∷ 0 ∷ 0 ∷ []
+
+unknown-refused : answerTo udp 64 unknown (blank 1) ≡ Refused (Unreadable UnknownTag)
+unfolding number size depth snoc classOf sortOf readText readArg readTags startOf sizeOf readMessage bundleBy elementBy elementsBy packetBy
+    packetAt readPacket udp decoded
+unknown-refused = refl
+
+still-unknown : answerTo udp 0 (unknown ++ element) (blank 2) ≡ Refused (Unreadable UnknownTag)
+still-unknown =
+    faults-stay-udp unknown element 64 0 (blank 1) (blank 2) UnknownTag (λ m. m) (omega arith) (omega arith) unknown-refused
+
+-- its frame
+abbrev framed : List ℕ
+framed = 0 ∷ 0 ∷ 0 ∷ 8 ∷ unknown
+
+framed-refused : answerTo tcp 64 framed (blank 1) ≡ Refused (Unreadable UnknownTag)
+unfolding number size depth snoc classOf sortOf readText readArg readTags startOf sizeOf prefixOf readMessage bundleBy elementBy
+    elementsBy packetBy packetAt readPacket readFrame tcp decoded
+framed-refused = refl
+
+still-framed : answerTo tcp 0 (framed ++ element) (blank 2) ≡ Refused (Unreadable UnknownTag)
+still-framed = faults-stay-tcp framed element 64 0 (blank 1) (blank 2) UnknownTag (λ m. m) (omega arith) (omega arith) framed-refused
+
+-- P1, and P3 after it
+none-mended : (answerTo udp 0 [] (blank 2) ≡ Refused (Unreadable Empty)) × (answerTo udp 0 ([] ++ p3.packet) (blank 2) ≡ Packets 2 0)
+unfolding number size depth snoc classOf sortOf readText readArg readTags startOf sizeOf readMessage bundleBy elementBy elementsBy packetBy
+    packetAt readPacket udp decoded
+none-mended = (refl, refl)
+
+-- P2, and an empty type text after it
+abbrev short : List ℕ
+short = 0x2F ∷ 0 ∷ 0 ∷ 0 ∷ []
+
+short-mended : (answerTo udp 0 short (blank 1) ≡ Refused (Unreadable RunsOut))
+    × (answerTo udp 0 (short ++ (0 ∷ 0 ∷ 0 ∷ 0 ∷ [])) (blank 1) ≡ Packets 1 0)
+unfolding number size depth snoc classOf sortOf readText readArg readTags startOf sizeOf readMessage bundleBy elementBy elementsBy packetBy
+    packetAt readPacket udp decoded
+short-mended = (refl, refl)
+
+-- ---- lists, for which it is false
+
+-- the shortest: after a bundle's frame 00000011 2F000000 00000000, an element that lacks a byte, and 00000000 00000000, refused with 5
+abbrev third-refused : List ℕ
+third-refused = (prefix ++ empty) ++ (0 ∷ 0 ∷ 0 ∷ 17 ∷ 0x2F ∷ 0 ∷ 0 ∷ 0 ∷ 0 ∷ 0 ∷ 0 ∷ 0 ∷ 0 ∷ 0 ∷ 0 ∷ 0 ∷ 0 ∷ 0 ∷ 0 ∷ 0 ∷ [])
+
+third-as-list : answerTo tcpVec 64 third-refused (blank 2) ≡ Refused (Unreadable BadStart)
+unfolding prefix number size depth snoc classOf sortOf readText readArg readTags startOf sizeOf prefixOf readMessage bundleBy elementBy
+    elementsBy packetBy packetAt readPacket readFrame framesAt readFrames tcpVec decoded
+third-as-list = refl
+
+-- with a byte appended the element is whole, and the bundle takes it
+third-taken : answerTo tcpVec 64 (third-refused ++ (0 ∷ [])) (blank 2) ≡ Packets 2 0
+unfolding prefix number size depth snoc classOf sortOf readText readArg readTags startOf sizeOf prefixOf readMessage bundleBy elementBy
+    elementsBy packetBy packetAt readPacket readFrame framesAt readFrames tcpVec decoded
+third-taken = refl
+
+-- after an element of 9 bytes the second frame, 00000009 2F000000 2C780000, is itself refused, with 7
+abbrev second-refused : List ℕ
+second-refused =
+    (prefix ++ empty) ++ (0 ∷ 0 ∷ 0 ∷ 9 ∷ 0x2F ∷ 0 ∷ 0 ∷ 0 ∷ 0 ∷ 0 ∷ 0 ∷ 0 ∷ 0
+    ∷ 0 ∷ 0 ∷ 0 ∷ 9 ∷ 0x2F ∷ 0 ∷ 0 ∷ 0 ∷ 0x2C ∷ 0x78 ∷ 0 ∷ 0 ∷ [])
+
+-- as an element it stands at another place, so that its address ends a byte earlier, and its type text is empty
+second-mended : (answerTo tcpVec 64 second-refused (blank 3) ≡ Refused (Unreadable UnknownTag))
+    × (answerTo tcpVec 64 (second-refused ++ (0 ∷ [])) (blank 3) ≡ Packets 3 0)
+unfolding prefix number size depth snoc classOf sortOf readText readArg readTags startOf sizeOf prefixOf readMessage bundleBy elementBy
+    elementsBy packetBy packetAt readPacket readFrame framesAt readFrames tcpVec decoded
+second-mended = (refl, refl)
+
+-- so the statement is false of `decode_tcp_vec`
+pub lists-may-mend : FaultsStay tcpVec → ⊥
+unfolding prefix
+lists-may-mend stay =
+    no-packets (sym third-taken
+    ∙ stay third-refused (0 ∷ []) 64 64 (blank 2) (blank 2) BadStart (λ m. m) (omega arith) (omega arith) third-as-list)

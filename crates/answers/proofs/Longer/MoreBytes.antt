@@ -3,77 +3,17 @@ use mathlib.Core.Path.{_≡_, refl, ap, sym, _∙_}
 use mathlib.Core.List.{List, _++_}
 use Prim.Native.Nat.{ℕ}
 use native.Mathlib.Omega.{arith}
-use borrow.Author.Tests.{le-leb}
-use lib.ListN.{length, drop, length-append}
-use lib.Seq.{drop-append-le}
-use Rattle.refusal.specs.declared.Fault.{Fault}
-use Rattle.wire.specs.Number.{number}
 use Rattle.node.specs.Forest.{Forest, size}
 use Rattle.node.specs.Records.{recordsOf}
-use Rattle.heads.specs.Heads.{prefixOf}
-use Rattle.packet.specs.Packet.{Out}
-use Rattle.heads.specs.declared.Prefix.{Prefix}
-use Rattle.heads.specs.declared.Prefix.the-variants as prefix
-use Rattle.totals.specs.Framing.{Whole, trees, waiting, refusal, single, udp, frameWith, readFrame, first, tcp}
+use Rattle.totals.specs.Framing.{Whole, trees, udp, tcp}
 use Rattle.answering.specs.Limits.{decoded, forestOf}
 use Rattle.answering.specs.declared.Decoded.the-variants.{Packets}
-use Rattle.answers.specs.Words.{Continues, message, bundle, Unlimited}
+use Rattle.answers.specs.Words.{Continues, Unlimited}
 use Rattle.answers.specs.Demands.{answerTo, GoesOn, MoreBytes}
-use Rattle.wire.proofs.Choices.{by-le}
-use Rattle.heads.proofs.Heads.{prefix-in}
 use Rattle.decoder.proofs.Chosen.{by-decoded, by-trees}
 use Rattle.answers.proofs.Answered.{accepted, after-is, after-records}
-use Rattle.answers.proofs.Longer.Arguments.{number-longer}
-use Rattle.answers.proofs.Longer.Packets.{Grows, was-refused, same-message, longer-bundle, after-grows, packet-grows}
 use Rattle.answers.proofs.Longer.Tables as tables
-
--- ---- whole inputs
-
--- trees that were given go on
-data Longer : Whole → Whole → Type 0 where
-  no-tree : {k : Fault} {w : Whole} → Longer (refusal k) w
-  none-yet : {w : Whole} → Longer waiting w
-  goes-on : {f g : Forest} {left left' : ℕ} → Continues f g → Longer (trees f left) (trees g left')
-
-single-longer : (n n' : ℕ) {o o' : Out} → Grows o o' → Longer (single n o) (single n' o')
-single-longer n n' was-refused = no-tree
-single-longer n n' (same-message k) = goes-on (message k)
-single-longer n n' (longer-bundle k w) = goes-on (bundle k w)
-
-udp-longer : (msg more : List ℕ) → Longer (udp msg) (udp (msg ++ more))
-unfolding udp
-udp-longer msg more = single-longer (length msg) (length (msg ++ more)) (packet-grows 0 more msg 0)
-
--- a frame that was whole is whole
-abbrev KeptPrefix : Prefix → Prefix → Type 0
-KeptPrefix prefix.Ready x = x ≡ prefix.Ready
-KeptPrefix prefix.Waiting x = Unit {0}
-KeptPrefix prefix.RunsOut x = Unit {0}
-
-prefix-longer : (msg more : List ℕ) → KeptPrefix (prefixOf msg) (prefixOf (msg ++ more))
-unfolding prefixOf
-prefix-longer msg more =
-    by-le (λ x. KeptPrefix x (prefixOf (msg ++ more))) 4 (length msg)
-    (λ h. by-le (λ x. KeptPrefix x (prefixOf (msg ++ more))) (number 4 msg) (length msg)
-    (λ k. let four = le-leb 4 (length (msg ++ more)) (omega (arith, length-append msg more)) in
-    let within = le-leb (number 4 msg) (length (msg ++ more)) (omega (arith, length-append msg more)) in
-    rw (prefixOf, number-longer more 4 msg h, four, within))
-    (λ k. tt))
-    (λ h. tt)
-
-tcp-longer : (msg more : List ℕ) → Longer (tcp msg) (tcp (msg ++ more))
-unfolding tcp readFrame
-tcp-longer msg more = by-prefix (prefixOf msg) (prefixOf (msg ++ more)) refl (prefix-longer msg more)
-  where
-    by-prefix : (x y : Prefix) → x ≡ prefixOf msg → KeptPrefix x y
-        → Longer (first (length msg) (frameWith 0 msg x)) (first (length (msg ++ more)) (frameWith 0 (msg ++ more) y))
-    by-prefix prefix.Ready y e k =
-        rw (k, drop-append-le 4 msg more (prefix-in msg e))
-        (single-longer (length msg) (length (msg ++ more)) (after-grows 4 (packet-grows 0 more (drop 4 msg) 4)))
-    by-prefix prefix.Waiting y e k = none-yet
-    by-prefix prefix.RunsOut y e k = no-tree
-
--- ---- answers and tables
+use Rattle.answers.proofs.Longer.Wholes.{Longer, no-tree, none-yet, goes-on, udp-longer, tcp-longer}
 
 -- where no limit refuses the call, its trees are the answer
 given : (rule : List ℕ → Whole) (capacity limit : ℕ) (msg : List ℕ) {f : Forest} {left : ℕ} → rule msg ≡ trees f left
@@ -91,7 +31,7 @@ module _ (rule : List ℕ → Whole) (longer : (msg more : List ℕ) → Longer 
     where
       by-longer : (w w' : Whole) → rule msg ≡ w → rule (msg ++ more) ≡ w' → Longer w w'
           → GoesOn rule msg more limit limit' table table' count
-      by-longer w w' x y no-tree = let z = accepted rule _ limit msg e .read in let z' : _≡_ {A = ℕ} 0 1 = cc in absurd (omega arith)
+      by-longer w w' x y (no-tree s) = let z = accepted rule _ limit msg e .read in let z' : _≡_ {A = ℕ} 0 1 = cc in absurd (omega arith)
       by-longer w w' x y none-yet = let z = accepted rule _ limit msg e .read in let z' : _≡_ {A = ℕ} 0 1 = cc in absurd (omega arith)
       by-longer w w' x y (goes-on {left' = left'} on) =
           let n = accepted rule _ limit msg e .counts in

@@ -1,4 +1,5 @@
--- Bytes appended to a packet: a message is the same message, and a bundle keeps its time tag and begins with the same elements.
+-- Bytes appended to a packet: a message is the same message, a bundle keeps its time tag and begins with the same elements, and a fault
+-- that they cannot mend is the same fault.
 use mathlib.Core.Path.{_≡_, refl, ap, subst}
 use mathlib.Core.List.{List, _++_}
 use Prim.Native.Nat.{ℕ, _+_, _-_, _≤_}
@@ -25,7 +26,7 @@ use Rattle.packet.specs.declared.Start.{Start}
 use Rattle.packet.specs.declared.Start.the-variants as start
 use Rattle.heads.specs.declared.ElementSize.{ElementSize}
 use Rattle.heads.specs.declared.ElementSize.the-variants as size
-use Rattle.answers.specs.Words.{BeginsSame, none, also}
+use Rattle.answers.specs.Words.{BeginsSame, none, also, Mendable}
 use Rattle.wire.proofs.Choices.{by-eq, by-le}
 use Rattle.text.proofs.Within.{found-in}
 use Rattle.heads.proofs.Heads.{size-in}
@@ -35,16 +36,17 @@ use Rattle.packet.proofs.Bundles.{ended, first-trees}
 use Rattle.packet.proofs.Within.{Within, element-in}
 use Rattle.answers.proofs.Longer.Arguments.{KeptText, KeptArgs, number-longer, text-longer, args-longer}
 
--- a message is the same and takes as many bytes; a bundle keeps its time tag and begins with the same elements
+-- a message is the same and takes as many bytes; a bundle keeps its time tag and begins with the same elements; a fault that no bytes mend
+-- is the same
 pub data Grows : Out → Out → Type 0 where
-  was-refused : {k : Fault} {o : Out} → Grows (fault k) o
+  was-refused : {k : Fault} {o : Out} → ((Mendable k → ⊥) → o ≡ fault k) → Grows (fault k) o
   same-message : {item : Item} {f : Forest} {used : ℕ} → item .kind ≡ messageKind → Grows (one item f used) (one item f used)
   longer-bundle : {item : Item} {f g : Forest} {used used' : ℕ} → item .kind ≡ bundleKind → BeginsSame f g
       → Grows (one item f used) (one item g used')
 
 -- with bytes read before, it goes on too
 pub after-grows : (n : ℕ) {o o' : Out} → Grows o o' → Grows (after n o) (after n o')
-after-grows n was-refused = was-refused
+after-grows n (was-refused s) = was-refused (λ m. ap (after n) (s m))
 after-grows n (same-message k) = same-message k
 after-grows n (longer-bundle k w) = longer-bundle k w
 
@@ -57,16 +59,16 @@ same-out : (o : Out) → Kept o o
 same-out (fault k) = tt
 same-out (one item f used) = refl
 
--- what a packet starts with stays
+-- what a packet starts with stays, and so does a fault that no bytes mend
 abbrev KeptStart : Start → Start → Type 0
 KeptStart (start.Message n used) s = s ≡ start.Message n used
 KeptStart (start.Bundle used) s = s ≡ start.Bundle used
-KeptStart (start.Refused k) s = Unit {0}
+KeptStart (start.Refused k) s = (Mendable k → ⊥) → s ≡ start.Refused k
 
 same-start : (s : Start) → KeptStart s s
 same-start (start.Message n used) = refl
 same-start (start.Bundle used) = refl
-same-start (start.Refused k) = tt
+same-start (start.Refused k) = λ s. refl
 
 -- the size of an element that is all there stays
 abbrev KeptSize : ElementSize → ElementSize → Type 0
@@ -78,12 +80,12 @@ module _ (base : ℕ) (more : List ℕ) where
 
   message-with-grows : (item : Item) → item .kind ≡ messageKind → (x y : Args) → KeptArgs x y
       → Grows (messageWith item x) (messageWith item y)
-  message-with-grows item k (refused f) y e = was-refused
+  message-with-grows item k (refused f) y e = was-refused (λ s. ap (messageWith item) (e s))
   message-with-grows item k (args f used) y e = rw e (same-message k)
 
   types-grow : (item : Item) → item .kind ≡ messageKind → (l : List ℕ) (p : ℕ) (t t' : Text) → t ≡ readText l p → KeptText t t'
       → Grows (typesThen base item l p t) (typesThen base item (l ++ more) p t')
-  types-grow item k l p (Lacks f) t' e s = was-refused
+  types-grow item k l p (Lacks lack) t' e s = was-refused (λ m. ap (typesThen base item (l ++ more) p) (s m))
   types-grow item k l p (Found m used) t' e s =
       let w = found-in l p e in
       let tags = tagsIn (take m l) in
@@ -160,24 +162,24 @@ module _ (base : ℕ) (more : List ℕ) where
       rw (readBundle, bundleBy, eight, seconds, drop-append-le 4 l more h4, fractional, drop-append-le 8 l more h)
       (bundle-with-grows (bundleItem start l) refl (readElements base (drop 8 l) (p + 8)) (readElements base (drop 8 l ++ more) (p + 8))
       (elements-begin _ (drop 8 l) (p + 8) refl)))
-      (λ h. was-refused)
+      (λ h. was-refused (λ s. absurd (s tt)))
 
   -- ---- packets
 
   start-longer : (l : List ℕ) (p : ℕ) → KeptStart (startOf l p) (startOf (l ++ more) p)
   unfolding startOf
   start-longer l p =
-      by-eq (λ s. KeptStart s (startOf (l ++ more) p)) (length l) 0 (λ h. tt)
+      by-eq (λ s. KeptStart s (startOf (l ++ more) p)) (length l) 0 (λ h s. absurd (s tt))
       (λ h. rw (startOf, ne-eqb (length (l ++ more)) 0 (omega (arith, length-append l more)))
       (by-text (readText l p) (readText (l ++ more) p) refl (text-longer more l p)))
     where
       by-text : (t t' : Text) → t ≡ readText l p → KeptText t t' → KeptStart (startBy l t) (startBy (l ++ more) t')
-      by-text (Lacks k) t' e s = tt
+      by-text (Lacks lack) t' e s = λ m. rw (s m)
       by-text (Found n used) t' e s =
           let w = found-in l p e in
           rw (s, List·getD-append l more 0 0 (omega arith), take-append-le n l more (omega arith)) (same-start (startBy l (Found n used)))
 
-  -- a packet that was read goes on: a message is the same, a bundle begins with the same elements
+  -- a packet goes on: a message is the same, a bundle begins with the same elements, and a fault that no bytes mend is the same
   pub packet-grows : (l : List ℕ) (p : ℕ) → Grows (readPacket base l p) (readPacket base (l ++ more) p)
   unfolding packetBy readBundle
   packet-grows l p =
@@ -192,4 +194,5 @@ module _ (base : ℕ) (more : List ℕ) where
       by-start (start.Bundle used) s' e k =
           rw (k, drop-append-le used l more (bundle-start-in l p e .1))
           (after-grows used (bundle-grows (base + p) (drop used l) (p + used)))
-      by-start (start.Refused f) s' e k = was-refused
+      by-start (start.Refused f) s' e k =
+          was-refused (λ n. ap (startedBy base (λ m q. readElements base m q) (l ++ more) p) (k n))
