@@ -57,21 +57,35 @@ static void holds(const char *name, const uint8_t *buffer, size_t room, const ui
 
 enum call { UDP, TCP, TCP_VEC };
 
-/* A decoder's answer, in its parts, and its whole table, for which there are `room` bytes. */
-static void decodes_in(const char *name, enum call call, const char *hex, size_t room, uint64_t depth, unsigned refusal,
-                       uint32_t left, const char *table_hex) {
+static uint64_t decode(enum call call, const uint8_t *msg, size_t n, uint8_t *table, size_t room, uint64_t depth,
+                       uint64_t *more) {
+    *more = 0xAAAAAAAAAAAAAAAAu;
+    return call == UDP   ? osc_decode_udp(msg, n, table, room, depth, more)
+           : call == TCP ? osc_decode_tcp(msg, n, table, room, depth, more)
+                         : osc_decode_tcp_vec(msg, n, table, room, depth, more);
+}
+
+/* A decoder's answer, in its parts, where a field that was short began, and its whole table, for which there are `room` bytes. */
+static void decodes_at(const char *name, enum call call, const char *hex, size_t room, uint64_t depth, unsigned refusal,
+                       uint32_t field, uint32_t left, const char *table_hex) {
     uint8_t bytes[256], due[256];
     size_t n = bytes_of(hex, bytes), m = bytes_of(table_hex, due);
     uint8_t *msg = copy(bytes, n), *table = blank(room);
-    uint64_t answer = call == UDP   ? osc_decode_udp(msg, n, table, room, depth)
-                      : call == TCP ? osc_decode_tcp(msg, n, table, room, depth)
-                                    : osc_decode_tcp_vec(msg, n, table, room, depth);
+    uint64_t more, answer = decode(call, msg, n, table, room, depth, &more);
     same(name, osc_refusal(answer), refusal);
+    same(name, osc_field(more), field);
+    same(name, more, (uint64_t)field << 32);
     same(name, osc_count(answer), m / OSC_RECORD);
     same(name, osc_left(answer), left);
     holds(name, table, room, due, m);
     free(msg);
     free(table);
+}
+
+/* The same where no field was short. */
+static void decodes_in(const char *name, enum call call, const char *hex, size_t room, uint64_t depth, unsigned refusal,
+                       uint32_t left, const char *table_hex) {
+    decodes_at(name, call, hex, room, depth, refusal, 0, left, table_hex);
 }
 
 /* The same with room for some records. */
@@ -83,6 +97,11 @@ static void decodes(const char *name, enum call call, const char *hex, size_t re
 /* What a decoder refuses. */
 static void refuses(const char *name, enum call call, const char *hex, unsigned refusal) {
     decodes(name, call, hex, 8, 64, refusal, 0, "");
+}
+
+/* What a decoder refuses for a field that was short, and where that field began. */
+static void is_short(const char *name, enum call call, const char *hex, unsigned refusal, uint32_t field) {
+    decodes_at(name, call, hex, 8 * OSC_RECORD, 64, refusal, field, 0, "");
 }
 
 /* An encoder's answer, in its parts, and its whole output. */
@@ -174,7 +193,7 @@ static void starts(const char *name, const char *table_hex, uint64_t index, unsi
 
 static void examples(void) {
     refuses("P1", UDP, "", OSC_EMPTY);
-    refuses("P2", UDP, "2F000000", OSC_RUNS_OUT);
+    is_short("P2", UDP, "2F000000", OSC_SHORT_TYPES, 4);
     decodes("P3", UDP, FIVE, 8, 64, 0, 0, FIVE_TABLE);
     decodes("P4", UDP, "2F610000 58690000 00000005", 8, 64, 0, 0, FIVE_TABLE);
     decodes("P5", UDP, "2F610000 00000000", 8, 64, 0, 0, "2F000000 00000001 00000000 00000002 00000000");
@@ -185,7 +204,7 @@ static void examples(void) {
     refuses("P10", UDP, "2FFF0000", OSC_NOT_UTF8);
     refuses("P11", UDP, "61000000", OSC_BAD_START);
     decodes("P12", UDP, EMPTY_BUNDLE "00000000", 8, 64, 0, 4, BUNDLE_TABLE);
-    refuses("P13", TCP, "00000008 2F610000", OSC_RUNS_OUT);
+    is_short("P13", TCP, "00000008 2F610000", OSC_SHORT_TYPES, 8);
     decodes("P14", TCP, "00000009 2F610000", 8, 64, 0, 8, "");
 }
 
@@ -213,6 +232,7 @@ static void items(void) {
 
 static void limits(void) {
     uint8_t *msg = blank(65536);
+    uint64_t more;
     decodes("depth 1", UDP, EMPTY_BUNDLE, 1, 1, 0, 0, BUNDLE_TABLE);
     decodes("depth 0", UDP, EMPTY_BUNDLE, 1, 0, OSC_TOO_DEEP, 0, "");
     decodes("an array, depth 1", UDP, KINDS, 6, 1, 0, 0, KINDS_TABLE);
@@ -232,9 +252,40 @@ static void limits(void) {
     decodes_in("two records but for a byte", UDP, FIVE, 2 * OSC_RECORD - 1, 64, OSC_TABLE_FULL, 0, "");
     decodes("one record", UDP, FIVE, 1, 64, OSC_TABLE_FULL, 0, "");
     decodes("no record", UDP, FIVE, 0, 64, OSC_TABLE_FULL, 0, "");
-    same("65,536 bytes", osc_refusal(osc_decode_udp(msg, 65536, NULL, 0, 64)), OSC_TOO_LONG);
-    same("65,535 bytes", osc_refusal(osc_decode_udp(msg, 65535, NULL, 0, 64)), OSC_RUNS_OUT);
+    same("65,536 bytes", osc_refusal(decode(UDP, msg, 65536, NULL, 0, 64, &more)), OSC_TOO_LONG);
+    same("65,536 bytes", more, 0);
+    same("65,535 bytes", osc_refusal(decode(UDP, msg, 65535, NULL, 0, 64, &more)), OSC_SHORT_ADDRESS);
+    same("65,535 bytes", more, 0);
+    memset(msg, 0, 65535);
+    memcpy(msg, "/a\0\0,", 5);
+    memset(msg + 5, 'T', 65526);
+    msg[6] = 'b';
+    same("a blob at the end", osc_refusal(decode(UDP, msg, 65535, NULL, 0, 64, &more)), OSC_SHORT_DATA);
+    same("a blob at the end", more, (uint64_t)65532 << 32);
     free(msg);
+}
+
+/* What was short, and where it began: what a bundle swallows is told by no number. */
+static void shorts(void) {
+    is_short("an address without NUL", UDP, "2F61", OSC_SHORT_ADDRESS, 0);
+    is_short("a start that may be a bundle's", UDP, "23", OSC_SHORT_ADDRESS, 0);
+    is_short("no padding", UDP, "2F00", OSC_SHORT_PADDING, 2);
+    is_short("a part of the padding", UDP, "2F0000", OSC_SHORT_PADDING, 2);
+    is_short("a type text without NUL", UDP, "2F610000 2C6969", OSC_SHORT_TYPES, 4);
+    is_short("a type text without padding", UDP, "2F610000 2C00", OSC_SHORT_PADDING, 6);
+    is_short("an integer", UDP, "2F610000 2C690000 000000", OSC_SHORT_DATA, 8);
+    is_short("a second integer", UDP, "2F610000 2C696900 00000001", OSC_SHORT_DATA, 12);
+    is_short("a text without NUL", UDP, "2F610000 2C730000 616263", OSC_SHORT_DATA, 8);
+    is_short("a text without padding", UDP, "2F610000 2C730000 6100", OSC_SHORT_PADDING, 10);
+    is_short("a blob's size", UDP, "2F610000 2C620000 0000", OSC_SHORT_DATA, 8);
+    is_short("a blob's bytes", UDP, "2F610000 2C620000 00000003 6162", OSC_SHORT_DATA, 8);
+    is_short("a blob's padding", UDP, "2F610000 2C620000 00000001 61", OSC_SHORT_PADDING, 13);
+    is_short("a time tag", UDP, "2362756E 646C6500 00000000", OSC_SHORT_HEAD, 8);
+    is_short("a prefix", TCP, "0000", OSC_SHORT_HEAD, 0);
+    is_short("an empty list", TCP_VEC, "", OSC_SHORT_HEAD, 0);
+    is_short("a second prefix", TCP_VEC, "0000000C" FIVE "0000", OSC_SHORT_HEAD, 16);
+    is_short("a second frame", TCP_VEC, "0000000C" FIVE "00000004 2F616263", OSC_SHORT_ADDRESS, 20);
+    decodes("a swallowed element", UDP, EMPTY_BUNDLE "00000004 2F616263", 8, 64, 0, 8, BUNDLE_TABLE);
 }
 
 static void streams(void) {
@@ -242,7 +293,7 @@ static void streams(void) {
     decodes("two frames", TCP_VEC, "0000000C" FIVE "00000010" EMPTY_BUNDLE, 8, 64, 0, 0,
             FRAMED_TABLE "23000000 00000003 00000000 00000001 00000014");
     decodes("a frame and a part", TCP_VEC, "0000000C" FIVE "00000010 2362", 8, 64, 0, 6, FRAMED_TABLE);
-    refuses("three bytes", TCP_VEC, "000000", OSC_RUNS_OUT);
+    is_short("three bytes", TCP_VEC, "000000", OSC_SHORT_HEAD, 0);
 }
 
 static void encoders(void) {
@@ -282,6 +333,7 @@ int main(void) {
     examples();
     items();
     limits();
+    shorts();
     streams();
     encoders();
     leaves();

@@ -36,10 +36,11 @@ static const char *most_name;
 static unsigned wrong;
 
 static uint64_t once(enum call call, uint64_t n) {
+    uint64_t more;
     switch (call) {
-    case UDP: return osc_decode_udp(msg, n, table, sizeof table, 64);
-    case TCP: return osc_decode_tcp(msg, n, table, sizeof table, 64);
-    case TCP_VEC: return osc_decode_tcp_vec(msg, n, table, sizeof table, 64);
+    case UDP: return osc_decode_udp(msg, n, table, sizeof table, 64, &more);
+    case TCP: return osc_decode_tcp(msg, n, table, sizeof table, 64, &more);
+    case TCP_VEC: return osc_decode_tcp_vec(msg, n, table, sizeof table, 64, &more);
     case ENCODE: return osc_encode(table, sizeof table, n, source, 3, out, sizeof out);
     case ENCODE_TCP: return osc_encode_tcp(table, sizeof table, n, source, 3, out, sizeof out);
     case STRING: return osc_encode_string(msg, n, out, sizeof out);

@@ -1,7 +1,7 @@
 /* Sennorbai: Open Sound Control packets and node tables. C99 and C++17. Link with libosc.a (rt staticlib osc).
  *
  * No function allocates, keeps a pointer or has a state. Every pointer may be to any bytes, and a length may be 0;
- * slices that a call may write must not overlap the others. A refusal changes no byte. Each call ends within 33,488 bytes
+ * slices that a call may write must not overlap the others. A refusal changes no byte of a slice. Each call ends within 35,616 bytes
  * of stack, whatever it is given (measured by c/stack.c on x86-64).
  *
  * A node table has records of OSC_RECORD bytes, big-endian: kind (1), three zero bytes, end (4), a (4), b (4), start (4).
@@ -12,7 +12,7 @@
 #define SENNORBAI_OSC_H
 
 /* The version of the library and of this header. */
-#define SENNORBAI_VERSION "0.6.0"
+#define SENNORBAI_VERSION "0.7.0"
 
 #include <stddef.h>
 #include <stdint.h>
@@ -28,7 +28,6 @@ enum { OSC_RECORD = 20, OSC_LONGEST = 65535, OSC_DEEPEST = 64 };
 enum {
     OSC_TOO_LONG = 1,      /* decode input or encoded result over 65,535 bytes */
     OSC_EMPTY = 2,         /* a packet of no bytes */
-    OSC_RUNS_OUT = 3,      /* a field, NUL, padding or TCP prefix runs past the bytes there */
     OSC_NOT_UTF8 = 4,      /* text is not UTF-8 */
     OSC_BAD_START = 5,     /* first string is neither '/'-led nor exactly "#bundle" */
     OSC_NOT_OPEN = 6,      /* ']' with no array open */
@@ -39,7 +38,13 @@ enum {
     OSC_BAD_TABLE = 11,    /* table not well formed, or a record asked for does not exist */
     OSC_OUTPUT_SHORT = 12, /* output slice shorter than the result */
     OSC_DEPTH_LIMIT = 13,  /* depth limit over 64 */
-    OSC_PAD_OVERFLOW = 14  /* osc_pad of a position over 2^64 - 4 */
+    OSC_PAD_OVERFLOW = 14, /* osc_pad of a position over 2^64 - 4 */
+    /* What was not all there; osc_field says where it began. There is no 3: these five stand in its place. */
+    OSC_SHORT_ADDRESS = 17, /* the address, its NUL included; also a first text that is not known yet to be "#bundle" */
+    OSC_SHORT_TYPES = 18,   /* the type text, its NUL included */
+    OSC_SHORT_DATA = 19,    /* the data of an argument: a text's NUL and a blob's size included, its padding not */
+    OSC_SHORT_PADDING = 20, /* the padding after a text or a blob */
+    OSC_SHORT_HEAD = 21     /* the prefix of a frame, or a bundle's time tag */
 };
 
 /* Decoders. They read `len` bytes at `msg` and write records to the `table_len` bytes at `table`.
@@ -47,16 +52,19 @@ enum {
  * deepest path counts. What an unclosed '[' loses is not in the tree and does not count.
  * Bits 56 to 63 of the answer are the refusal's number, 0 where there is an answer; bits 32 to 55 the count of records;
  * bits 0 to 31 the input bytes left over, which are the last ones. Waiting, which osc_decode_tcp alone answers, is count 0
- * with the whole input left; of osc_decode_tcp_vec that is a list of no packets. */
+ * with the whole input left; of osc_decode_tcp_vec that is a list of no packets.
+ * `*more` is written by every call. Its bits 32 to 47 are, for the refusals 17 to 21, where the field began that was short,
+ * counted from the first byte at `msg`; they are 0 for every other answer. Its other bits are 0. `more` must not be NULL and
+ * must not overlap the slices. */
 
 /* One packet from all of a UDP packet. */
-uint64_t osc_decode_udp(const uint8_t *msg, size_t len, uint8_t *table, size_t table_len, uint64_t depth);
+uint64_t osc_decode_udp(const uint8_t *msg, size_t len, uint8_t *table, size_t table_len, uint64_t depth, uint64_t *more);
 
 /* The first packet of a TCP stream: a 4-byte length and a packet. It may answer Waiting. */
-uint64_t osc_decode_tcp(const uint8_t *msg, size_t len, uint8_t *table, size_t table_len, uint64_t depth);
+uint64_t osc_decode_tcp(const uint8_t *msg, size_t len, uint8_t *table, size_t table_len, uint64_t depth, uint64_t *more);
 
 /* The packets of a TCP stream, one after another in the table. */
-uint64_t osc_decode_tcp_vec(const uint8_t *msg, size_t len, uint8_t *table, size_t table_len, uint64_t depth);
+uint64_t osc_decode_tcp_vec(const uint8_t *msg, size_t len, uint8_t *table, size_t table_len, uint64_t depth, uint64_t *more);
 
 /* Encoders. They write the packet of `count` records over the first bytes of `out`; ranges lie in `source`.
  * A tree is at most OSC_DEEPEST deep, as for a decoder.
@@ -93,6 +101,9 @@ static inline uint32_t osc_count(uint64_t answer) { return (uint32_t)(answer >> 
 
 /* The input bytes that a decoder left over. */
 static inline uint32_t osc_left(uint64_t answer) { return (uint32_t)answer; }
+
+/* Where the field began that was short, of what a decoder wrote to `*more`; 0 where the refusal is not one of 17 to 21. */
+static inline uint32_t osc_field(uint64_t more) { return (uint32_t)(more >> 32) & 0xFFFFu; }
 
 /* The bytes that an encoder wrote. */
 static inline uint32_t osc_written(uint64_t answer) { return (uint32_t)answer; }

@@ -124,15 +124,25 @@ expect 1 "$bad_table" '' look kinds.bin 15
 too_long='refused 1: decode input over 65,535 bytes, or encoded result (prefix included) over it'
 head -c 65535 /dev/zero | tr '\0' a >at_most
 head -c 65536 /dev/zero | tr '\0' a >one_more
-expect 1 'refused 3: a field, NUL, padding or TCP prefix runs past the bytes there' '' decode udp at_most refused.bin
+expect 1 'refused 17: the address at offset 0 is not all there' '' decode udp at_most refused.bin
 expect 1 "$too_long" '' decode udp one_more refused.bin
 refuses 2 'a packet of no bytes' ''
-refuses 3 'a field, NUL, padding or TCP prefix runs past the bytes there' '/\0\0\0'
 refuses 4 'text is not UTF-8' '/\377\0\0'
 refuses 5 'first string is neither /-led nor exactly #bundle' 'a\0\0\0'
 refuses 6 '] with no array open' '/a\0\0,]\0\0'
 refuses 7 'unknown type tag' '/a\0\0,x\0\0'
 refuses 8 'c is not a scalar number' '/a\0\0,c\0\0\0\0\330\0'
+refuses 17 'the address at offset 0 is not all there' '#'
+refuses 18 'the type text at offset 4 is not all there' '/\0\0\0'
+refuses 19 'the argument data at offset 12 is not all there' '/a\0\0,is\0\0\0\0\001abc'
+refuses 20 'the padding at offset 13 is not all there' '/a\0\0,b\0\0\0\0\0\001a'
+refuses 21 'the prefix or time tag at offset 8 is not all there' '#bundle\0\0\0\0\0'
+# In a stream the offset counts from its first byte: here a fourth frame is short, and then its prefix is.
+{ cat "$examples/stream.osc" && printf '\0\0\0\004/abc'; } >cut.osc
+expect 1 'refused 17: the address at offset 68 is not all there' '' decode tcp-vec cut.osc refused.bin
+head -c 67 cut.osc >cut_more.osc
+expect 1 'refused 21: the prefix or time tag at offset 64 is not all there' '' decode tcp-vec cut_more.osc refused.bin
+gone refused.bin
 too_deep='refused 9: bundles and arrays nested deeper than the limit'
 expect 1 "$too_deep" '' decode udp "$examples/bundle.osc" refused.bin --depth 0
 # An array in one that is not closed, and an array in a bundle.
@@ -213,7 +223,7 @@ same kept.bin message.bin
 # A refusal leaves no table that a script could take for this input's.
 cp message.bin stale.bin
 printf '/\0\0\0' >input
-expect 1 'refused 3: a field, NUL, padding or TCP prefix runs past the bytes there' '' decode udp input stale.bin
+expect 1 'refused 18: the type text at offset 4 is not all there' '' decode udp input stale.bin
 gone stale.bin
 
 # Files that cannot be written: the old one is kept, and nothing is left beside it.

@@ -1,6 +1,7 @@
 /* The codec, over include/osc.h:
  *
- *     codec read         packets, each from a UDP packet, to trees; what is refused to `refused N`, bytes left over to `left N`
+ *     codec read         packets, each from a UDP packet, to trees; what is refused to `refused N`, or to
+ *                        `refused N at M` where a field at M was short, bytes left over to `left N`
  *     codec write        trees to packets
  *     codec write-tcp    trees to what goes over a stream
  *     codec stream       one stream, in a single packet, to trees by the list call, and `left N`; `waiting N` where it has none
@@ -37,12 +38,18 @@ static void say_table(uint32_t count, const uint8_t *source) {
     }
 }
 
+static void say_refusal(uint64_t answer, uint64_t more) {
+    printf("refused %u", osc_refusal(answer));
+    if (osc_refusal(answer) >= OSC_SHORT_ADDRESS) printf(" at %u", osc_field(more));
+    putchar('\n');
+}
+
 static void read_all(void) {
     size_t length;
     while (get_packet(packet, &length)) {
-        uint64_t answer = osc_decode_udp(packet, length, table, sizeof table, OSC_DEEPEST);
+        uint64_t more, answer = osc_decode_udp(packet, length, table, sizeof table, OSC_DEEPEST, &more);
         if (osc_refusal(answer)) {
-            printf("refused %u\n", osc_refusal(answer));
+            say_refusal(answer, more);
         } else if (osc_left(answer)) {
             printf("left %u: ", osc_left(answer));
             say_table(osc_count(answer), packet);
@@ -55,10 +62,10 @@ static void read_all(void) {
 static void read_stream(int list) {
     size_t length;
     if (!get_packet(packet, &length)) exit(3);
-    uint64_t answer = list ? osc_decode_tcp_vec(packet, length, table, sizeof table, OSC_DEEPEST)
-                           : osc_decode_tcp(packet, length, table, sizeof table, OSC_DEEPEST);
+    uint64_t more, answer = list ? osc_decode_tcp_vec(packet, length, table, sizeof table, OSC_DEEPEST, &more)
+                                 : osc_decode_tcp(packet, length, table, sizeof table, OSC_DEEPEST, &more);
     if (osc_refusal(answer)) {
-        printf("refused %u\n", osc_refusal(answer));
+        say_refusal(answer, more);
         return;
     }
     say_table(osc_count(answer), packet);

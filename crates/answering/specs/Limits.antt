@@ -13,9 +13,9 @@ use Rattle.totals.specs.Framing.{Whole, trees, waiting, refusal}
 use Rattle.answering.specs.declared.Decoded.{Decoded}
 use Rattle.answering.specs.declared.Decoded.the-variants.{Packets, Waiting, Refused}
 
--- the refusals of a decoder by their numbers: "Decode order: 13, 1, then 2 to 8, then 9, then 10"
+-- the refusals of a decoder by their numbers: "Decode order: 13, 1, then 2 to 8, then 9, then 10", 17 to 21 in the place of 3 (Ticket 2)
 abbrev pub decodeOrder : List ℕ
-decodeOrder = 13 ∷ 1 ∷ 2 ∷ 3 ∷ 4 ∷ 5 ∷ 6 ∷ 7 ∷ 8 ∷ 9 ∷ 10 ∷ []
+decodeOrder = 13 ∷ 1 ∷ 2 ∷ 17 ∷ 18 ∷ 19 ∷ 20 ∷ 21 ∷ 4 ∷ 5 ∷ 6 ∷ 7 ∷ 8 ∷ 9 ∷ 10 ∷ []
 
 -- 2 to 8 first, then 9, then 10; both speak of all the trees, and Waiting has none
 abbrev pub limited : ℕ → ℕ → Whole → Decoded

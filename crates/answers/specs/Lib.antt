@@ -1,3 +1,4 @@
 pub mod Calls
 pub mod Words
 pub mod Demands
+pub mod Fields

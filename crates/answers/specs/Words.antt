@@ -1,7 +1,7 @@
 -- The words in which demand 3 speaks of trees, faults and answers.
 use mathlib.Core.Path.{_≡_}
 use Rattle.refusal.specs.declared.Fault.{Fault}
-use Rattle.refusal.specs.declared.Fault.the-variants.{Empty, RunsOut, NotUtf8, BadStart, NotOpen, UnknownTag, NotScalar}
+use Rattle.refusal.specs.declared.Fault.the-variants.{Empty, Short, NotUtf8, BadStart, NotOpen, UnknownTag, NotScalar}
 use Rattle.refusal.specs.declared.Refusal.the-variants.{TooLong, TooDeep, TableFull, DepthLimit}
 use Rattle.node.specs.Forest.{Forest, nil, node}
 use Rattle.node.specs.Tags.{messageKind, bundleKind}
@@ -20,11 +20,11 @@ pub data Continues : Forest → Forest → Type 0 where
   bundle : {item : Item} {inside inside' : Forest} → item .kind ≡ bundleKind → BeginsSame inside inside'
       → Continues (node item inside nil) (node item inside' nil)
 
--- a fault that bytes appended may mend: 2, a packet of no bytes, and 3, a field that runs past them (document 01, "Refusal numbers"; Ticket
--- 2's short fields); 4 to 8 are met in bytes that are there
+-- a fault that bytes appended may mend: 2, a packet of no bytes, and 17 to 21, a field that is short (document 01, "Refusal numbers", and
+-- document 02, Ticket 2); 4 to 8 are met in bytes that are there
 abbrev pub Mendable : Fault → Type 0
 Mendable Empty = Unit {0}
-Mendable RunsOut = Unit {0}
+Mendable (Short field at) = Unit {0}
 Mendable NotUtf8 = ⊥
 Mendable BadStart = ⊥
 Mendable NotOpen = ⊥

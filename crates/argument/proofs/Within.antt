@@ -6,9 +6,12 @@ use native.Mathlib.Omega.{arith}
 use borrow.Author.Tests.{leb-true}
 use lib.Dec.{leb}
 use lib.ListN.{length, getD, drop}
+use Rattle.refusal.specs.Refusal.{faultOffset}
+use Rattle.refusal.specs.declared.Fault.{Fault}
+use Rattle.refusal.specs.declared.Field.the-variants.{Data}
 use Rattle.wire.specs.Number.{number}
 use Rattle.wire.proofs.Choices.{by-test}
-use Rattle.text.proofs.Within.{found-in}
+use Rattle.text.proofs.Within.{found-in, lacks-low}
 use Rattle.wire.proofs.Numbers.{number-small}
 use Rattle.wire.proofs.Parts.{drop-small}
 use Rattle.node.specs.Tags.{isScalar}
@@ -31,14 +34,14 @@ Holds P (Refused k) = Unit {0}
 
 module _ (P : Item → ℕ → Type 0) where
   -- of an argument that is read only if n bytes are there
-  if-there : (n : ℕ) (l : List ℕ) (x : Arg) → (n ≤ length l → Holds P x) → Holds P (having n l x)
-  if-there n l x f = by-test (Holds P) (leb n (length l)) (λ h. f (leb-true n (length l) h)) (λ _. tt)
+  if-there : (n : ℕ) (l : List ℕ) (k : Fault) (x : Arg) → (n ≤ length l → Holds P x) → Holds P (having n l k x)
+  if-there n l k x f = by-test (Holds P) (leb n (length l)) (λ h. f (leb-true n (length l) h)) (λ _. tt)
 
   -- of a text, if it holds of each that is found
-  of-text : (tag offset : ℕ) (t : Text) → ((n used : ℕ) → Found n used ≡ t → P (argItem tag offset offset n) used)
-      → Holds P (textArg tag offset t)
-  of-text tag offset (Found n used) f = f n used refl
-  of-text tag offset (Lacks k) f = tt
+  of-text : (tag offset p : ℕ) (t : Text) → ((n used : ℕ) → Found n used ≡ t → P (argItem tag offset offset n) used)
+      → Holds P (textArg tag offset p t)
+  of-text tag offset p (Found n used) f = f n used refl
+  of-text tag offset p (Lacks k) f = tt
 
   -- five cases are enough for all classes
   module _ (tag base : ℕ) (l : List ℕ) (p : ℕ)
@@ -51,12 +54,12 @@ module _ (P : Item → ℕ → Type 0) where
     -- P holds of each argument, if it does of those five
     pub arg-holds : (class : Class) → Holds P (readArg tag class base l p)
     unfolding readArg
-    arg-holds Four = if-there 4 l _ four
-    arg-holds Eight = if-there 8 l _ eight
+    arg-holds Four = if-there 4 l _ _ four
+    arg-holds Eight = if-there 8 l _ _ eight
     arg-holds Bare = bare
-    arg-holds String = of-text tag (base + p) (readText l p) string
-    arg-holds Blob = if-there 4 l _ (λ h. if-there (reach p (4 + number 4 l)) l _ (blob h))
-    arg-holds Scalar = if-there 4 l _ (λ h. by-test (Holds P) (isScalar (number 4 l)) (λ _. four h) (λ _. tt))
+    arg-holds String = of-text tag (base + p) p (readText l p) string
+    arg-holds Blob = if-there 4 l _ _ (λ h. if-there (4 + number 4 l) l _ _ (λ j. if-there (reach p (4 + number 4 l)) l _ _ (blob h)))
+    arg-holds Scalar = if-there 4 l _ _ (λ h. by-test (Holds P) (isScalar (number 4 l)) (λ _. four h) (λ _. tt))
     arg-holds Unknown = tt
 
 -- an argument's data lies in its part
@@ -94,3 +97,37 @@ module _ {item : Item} {used : ℕ} (tag : ℕ) (class : Class) (base : ℕ) (l 
       subst (Holds P) (sym e)
       (arg-holds P tag base l p (λ h. (n, omega arith, s)) (λ h. (n, m, s)) (omega arith, omega arith, s)
       (λ k used f. (s, omega (arith, found-in l p f), s)) (λ h k. (omega arith, n, s)) class)
+
+-- ---- the place of a fault
+
+-- a fault begins no later than m; of what is given nothing is said
+abbrev FaultLow : ℕ → Arg → Type 0
+FaultLow m (Given item used) = Unit {0}
+FaultLow m (Refused k) = faultOffset k ≤ m
+
+low-there : (m n : ℕ) (l : List ℕ) (k : Fault) (x : Arg) → faultOffset k ≤ m → (n ≤ length l → FaultLow m x) → FaultLow m (having n l k x)
+low-there m n l k x h f = by-test (FaultLow m) (leb n (length l)) (λ g. f (leb-true n (length l) g)) (λ _. h)
+
+low-text : (tag offset : ℕ) (l : List ℕ) (p : ℕ) (t : Text) → t ≡ readText l p → FaultLow (p + length l) (textArg tag offset p t)
+low-text tag offset l p (Found n used) e = tt
+low-text tag offset l p (Lacks lack) e = lacks-low Data l p e
+
+fault-low : (tag : ℕ) (class : Class) (base : ℕ) (l : List ℕ) (p : ℕ) → FaultLow (p + length l) (readArg tag class base l p)
+unfolding readArg
+fault-low tag Four base l p = low-there (p + length l) 4 l _ _ (omega arith) (λ h. tt)
+fault-low tag Eight base l p = low-there (p + length l) 8 l _ _ (omega arith) (λ h. tt)
+fault-low tag Bare base l p = tt
+fault-low tag String base l p = low-text tag (base + p) l p (readText l p) refl
+fault-low tag Blob base l p =
+    low-there (p + length l) 4 l _ _ (omega arith)
+    (λ h. low-there (p + length l) (4 + number 4 l) l _ _ (omega arith)
+    (λ j. low-there (p + length l) (reach p (4 + number 4 l)) l _ _ (omega arith) (λ k. tt)))
+fault-low tag Scalar base l p =
+    low-there (p + length l) 4 l _ _ (omega arith)
+    (λ h. by-test (FaultLow (p + length l)) (isScalar (number 4 l)) (λ _. tt) (λ _. omega arith))
+fault-low tag Unknown base l p = omega arith
+
+-- the fault of an argument begins in its part or right after it
+pub arg-low : {k : Fault} (tag : ℕ) (class : Class) (base : ℕ) (l : List ℕ) (p : ℕ) → Refused k ≡ readArg tag class base l p
+    → faultOffset k ≤ p + length l
+arg-low tag class base l p e = subst (FaultLow (p + length l)) (sym e) (fault-low tag class base l p)

@@ -1,7 +1,9 @@
-// The data of one argument, one function to each class of data. Bytes that are missing are `RunsOut`.
+// The data of one argument, one function to each class of data. An argument whose bytes are not all there is one field that is short, from
+// its first byte; its padding is another.
 use node::record::Item;
 use node::tags::Class;
 use refusal::Fault;
+use refusal::Field;
 use text::Text;
 use wire::be_u32;
 ghost use mathlib.Core.Path.{_≡_};
@@ -66,7 +68,10 @@ fn read_four(tag: u8, input: &[u8], base: usize, pos: usize) -> Arg
     ensures { λ r. ⌜ r ≡ readArg tag class.Four base (now (input .entry)) pos ⌝ }
 {
     if input.len() < 4 {
-        return Arg::Refused(Fault::RunsOut);
+        return Arg::Refused(Fault::Short {
+            field: Field::Data,
+            at: pos,
+        });
     }
     Arg::Given {
         item: Item {
@@ -85,7 +90,10 @@ fn read_eight(tag: u8, input: &[u8], base: usize, pos: usize) -> Arg
     ensures { λ r. ⌜ r ≡ readArg tag class.Eight base (now (input .entry)) pos ⌝ }
 {
     if input.len() < 8 {
-        return Arg::Refused(Fault::RunsOut);
+        return Arg::Refused(Fault::Short {
+            field: Field::Data,
+            at: pos,
+        });
     }
     Arg::Given {
         item: Item {
@@ -104,7 +112,10 @@ fn read_char(tag: u8, input: &[u8], base: usize, pos: usize) -> Arg
     ensures { λ r. ⌜ r ≡ readArg tag class.Scalar base (now (input .entry)) pos ⌝ }
 {
     if input.len() < 4 {
-        return Arg::Refused(Fault::RunsOut);
+        return Arg::Refused(Fault::Short {
+            field: Field::Data,
+            at: pos,
+        });
     }
     let scalar = be_u32(input, 0);
     if node::tags::is_scalar(scalar) {
@@ -136,7 +147,7 @@ fn read_text(tag: u8, input: &[u8], base: usize, pos: usize) -> Arg
             },
             used,
         },
-        Text::Lacks(lack) => Arg::Refused(text::fault_of(lack)),
+        Text::Lacks(lack) => Arg::Refused(text::fault_in(Field::Data, pos, lack)),
     }
 }
 
@@ -146,12 +157,25 @@ fn read_blob(tag: u8, input: &[u8], base: usize, pos: usize) -> Arg
     ensures { λ r. ⌜ r ≡ readArg tag class.Blob base (now (input .entry)) pos ⌝ }
 {
     if input.len() < 4 {
-        return Arg::Refused(Fault::RunsOut);
+        return Arg::Refused(Fault::Short {
+            field: Field::Data,
+            at: pos,
+        });
     }
     let size = be_u32(input, 0);
-    let used = (pos + 4 + size as usize + 3) / 4 * 4 - pos;
+    let end = 4 + size as usize;
+    if input.len() < end {
+        return Arg::Refused(Fault::Short {
+            field: Field::Data,
+            at: pos,
+        });
+    }
+    let used = (pos + end + 3) / 4 * 4 - pos;
     if input.len() < used {
-        return Arg::Refused(Fault::RunsOut);
+        return Arg::Refused(Fault::Short {
+            field: Field::Padding,
+            at: pos + end,
+        });
     }
     let bytes = base + pos + 4;
     Arg::Given {

@@ -27,7 +27,8 @@ pub const ANSWERS: [u8; 13] = *b"given waiting";
 // What `text_of` hands back for what names no part of the packet.
 const LABEL: [u8; 5] = *b"label";
 
-// What a call answered: the records or bytes that were given, the kind or the position, and the bytes left over.
+// What a call answered: the records or bytes that were given, the kind or the position, or where the field began that was short; and the
+// bytes left over.
 pub struct Outcome {
     pub answer: usize,
     pub count: u64,
@@ -52,9 +53,21 @@ pub fn given(count: u64, left: u64) -> Outcome {
     }
 }
 
+// A refusal with this number: that of a field that was short (17 to 21) has the offset at which it began, and every other 0.
+pub fn numbered(number: u8, offset: u64) -> Outcome {
+    Outcome {
+        answer: REFUSED + number as usize,
+        count: offset,
+        left: 0,
+    }
+}
+
 // A refusal.
 fn refused(refusal: Refusal) -> Outcome {
-    empty(REFUSED + refusal::number_of(refusal) as usize)
+    numbered(
+        refusal::number_of(refusal),
+        refusal::offset_of(refusal) as u64,
+    )
 }
 
 // What a decoder answered.

@@ -1,8 +1,9 @@
-// What a line expects: `packets LEFT TABLE`, `written BYTES`, `waiting`, `refused NUMBER`, `value KIND` or `at POSITION`.
+// What a line expects: `packets LEFT TABLE`, `written BYTES`, `waiting`, `refused NUMBER`, `refused NUMBER OFFSET`, `value KIND` or `at POSITION`.
 use crate::call;
 use crate::call::Outcome;
 use crate::call::empty;
 use crate::call::given;
+use crate::call::numbered;
 use spelled::listed::kind_of;
 use spelled::listed::put_table;
 use spelled::listed::records_in;
@@ -36,10 +37,14 @@ pub fn put_given(expected: &[u8], out: &mut [u8]) -> usize
     0
 }
 
-// A refusal with a number.
-fn refused(x: u64) -> Outcome {
-    if x < 30 {
-        return empty(call::REFUSED + x as usize);
+// A refusal with a number: that of a field that was short is followed by the offset at which it began.
+fn refused(expected: &[u8]) -> Outcome {
+    let x = number(expected, 1);
+    if x < 17 {
+        return numbered(x as u8, 0);
+    }
+    if x < 22 {
+        return numbered(x as u8, number(expected, 2));
     }
     empty(call::UNKNOWN)
 }
@@ -50,7 +55,7 @@ pub fn wanted(expected: &[u8], bytes: usize) -> Outcome {
         0 => given(records_in(bytes), number(expected, 1)),
         1 => given(bytes as u64, 0),
         2 => empty(call::WAITING),
-        3 => refused(number(expected, 1)),
+        3 => refused(expected),
         4 => given(kind_of(word(expected, 1)) as u64, 0),
         5 => given(number(expected, 1), 0),
         _ => empty(call::UNKNOWN),

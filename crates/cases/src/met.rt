@@ -47,6 +47,13 @@ pub fn say_about(name: &[u8]) {
     io::write_all(1, b"\n");
 }
 
+// Says where the field began that was short.
+fn say_offset(outcome: Outcome) {
+    if call::REFUSED + 17 <= outcome.answer {
+        say(b" at ", outcome.count);
+    }
+}
+
 // Says what a call answered.
 pub fn say_case(call: usize, outcome: Outcome) {
     io::write_all(1, b"  ");
@@ -58,6 +65,7 @@ pub fn say_case(call: usize, outcome: Outcome) {
     } else {
         io::write_all(1, b": ");
         say_answer(&call::ANSWERS, outcome.answer);
+        say_offset(outcome);
         io::write_all(1, b"\n");
     }
 }

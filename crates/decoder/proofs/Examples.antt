@@ -5,7 +5,7 @@ use mathlib.Core.Path.{_≡_, ap}
 use mathlib.Core.List.{List, [], _∷_, _++_}
 use Prim.Native.Nat.{ℕ}
 use lib.ListN.{length, drop, replicate}
-use Rattle.refusal.specs.Refusal.{numberOf}
+use Rattle.refusal.specs.Refusal.{numberOf, offsetOf}
 use Rattle.wire.specs.Number.{number, bytes}
 use Rattle.node.specs.Forest.{size, depth, snoc}
 use Rattle.node.specs.Records.{capacity, recordsOf, recordOf, stored}
@@ -29,17 +29,18 @@ abbrev hex : List ℕ → List ℕ
 hex [] = []
 hex (x ∷ l) = bytes 4 x ++ hex l
 
--- an answer as document 01 tells it: records and bytes left over; Waiting; the number of a refusal
+-- an answer as document 01 tells it: records and bytes left over; Waiting; the number of a refusal, and of a field that was short its
+-- offset, 0 of every other
 pub data Told : Type 0 where
   packets : (count left : ℕ) → Told
   waiting : Told
-  refused : ℕ → Told
+  refused : (number offset : ℕ) → Told
 
 -- the answer of a decoder, told so
 abbrev told : Decoded → Told
 told (decodes.Packets count left) = packets count left
 told decodes.Waiting = waiting
-told (decodes.Refused r) = refused (numberOf r)
+told (decodes.Refused r) = refused (numberOf r) (offsetOf r)
 
 -- a call by its framing, its input, the bytes that the table has and the depth limit, with its answer and the records that it writes
 pub data Case : Type 0 where
@@ -51,7 +52,11 @@ gives framing msg left records = call framing msg 160 64 (packets (capacity reco
 
 -- a refusal by its number
 abbrev refuses : Framing → List ℕ → ℕ → Case
-refuses framing msg n = call framing msg 160 64 (refused n) []
+refuses framing msg n = call framing msg 160 64 (refused n 0) []
+
+-- a field that was short, by its number and its offset
+abbrev lacks : Framing → List ℕ → ℕ → ℕ → Case
+lacks framing msg n at = call framing msg 160 64 (refused n at) []
 
 -- Waiting
 abbrev waits : Framing → List ℕ → Case
@@ -89,7 +94,7 @@ five =
 abbrev pub examples : List Case
 examples =
     refuses Udp [] 2
-    ∷ refuses Udp (hex (0x2F000000 ∷ [])) 3
+    ∷ lacks Udp (hex (0x2F000000 ∷ [])) 18 4
     ∷ gives Udp (hex (0x2F610000 ∷ 0x2C690000 ∷ 0x00000005 ∷ [])) 0 five
     ∷ gives Udp (hex (0x2F610000 ∷ 0x58690000 ∷ 0x00000005 ∷ [])) 0 five
     ∷ gives Udp (hex (0x2F610000 ∷ 0x00000000 ∷ [])) 0 (hex (0x2F000000 ∷ 0x00000001 ∷ 0x00000000 ∷ 0x00000002 ∷ 0x00000000 ∷ []))
@@ -103,7 +108,7 @@ examples =
     ∷ refuses Udp (hex (0x61000000 ∷ [])) 5
     ∷ gives Udp (hex (0x2362756E ∷ 0x646C6500 ∷ 0x00000000 ∷ 0x00000001 ∷ 0x00000000 ∷ [])) 4
     (hex (0x23000000 ∷ 0x00000001 ∷ 0x00000000 ∷ 0x00000001 ∷ 0x00000000 ∷ []))
-    ∷ refuses Tcp (hex (0x00000008 ∷ 0x2F610000 ∷ [])) 3
+    ∷ lacks Tcp (hex (0x00000008 ∷ 0x2F610000 ∷ [])) 18 8
     ∷ waits Tcp (hex (0x00000009 ∷ 0x2F610000 ∷ []))
     ∷ []
 
@@ -138,7 +143,7 @@ misread =
     (hex (0x2F000000 ∷ 0x00000001 ∷ 0x00000004 ∷ 0x00000002 ∷ 0x00000004 ∷ []))
     ∷ refuses Tcp (hex (0x00000004 ∷ [])) 2
     ∷ waits Tcp (hex (0x00000005 ∷ []))
-    ∷ refuses Tcp [] 3
+    ∷ lacks Tcp [] 21 0
     -- two frames: padding afresh from each prefix, offsets from the call's first byte
     ∷ gives TcpVec (hex (0x00000008 ∷ 0x2F610000 ∷ 0x00000000 ∷ 0x00000008 ∷ 0x2F620000 ∷ 0x00000000 ∷ [])) 0
     (hex (0x2F000000 ∷ 0x00000001 ∷ 0x00000004 ∷ 0x00000002 ∷ 0x00000004
@@ -147,15 +152,15 @@ misread =
     ∷ gives TcpVec (hex (0x00000008 ∷ 0x2F610000 ∷ 0x00000000 ∷ 0x00000009 ∷ 0x2F620000 ∷ [])) 8
     (hex (0x2F000000 ∷ 0x00000001 ∷ 0x00000004 ∷ 0x00000002 ∷ 0x00000004 ∷ []))
     ∷ gives TcpVec (hex (0x00000005 ∷ [])) 4 []
-    ∷ refuses TcpVec (hex (0x00000008 ∷ 0x2F610000 ∷ 0x00000000 ∷ []) ++ (0x00 ∷ 0x00 ∷ 0x00 ∷ [])) 3
-    ∷ refuses TcpVec [] 3
+    ∷ lacks TcpVec (hex (0x00000008 ∷ 0x2F610000 ∷ 0x00000000 ∷ []) ++ (0x00 ∷ 0x00 ∷ 0x00 ∷ [])) 21 12
+    ∷ lacks TcpVec [] 21 0
     -- the first character of the type text is skipped, whatever it is; a tag that is not ASCII is 7, after the data before it
     ∷ gives Udp (hex (0x2F610000 ∷ 0xC3A90000 ∷ [])) 0 (hex (0x2F000000 ∷ 0x00000001 ∷ 0x00000000 ∷ 0x00000002 ∷ 0x00000000 ∷ []))
     ∷ gives Udp (hex (0x2F610000 ∷ 0xC3A96900 ∷ 0x00000005 ∷ [])) 0 five
     ∷ refuses Udp (hex (0x2F610000 ∷ 0x2CC3A900 ∷ [])) 7
-    ∷ refuses Udp (hex (0x2F610000 ∷ 0x2C69C3A9 ∷ 0x00000000 ∷ [])) 3
-    -- 3 before 4; an empty first text is 5; S is no tag
-    ∷ refuses Udp (0x2F ∷ 0xFF ∷ 0x00 ∷ []) 3
+    ∷ lacks Udp (hex (0x2F610000 ∷ 0x2C69C3A9 ∷ 0x00000000 ∷ [])) 19 12
+    -- what is short comes before 4; an empty first text is 5; S is no tag
+    ∷ lacks Udp (0x2F ∷ 0xFF ∷ 0x00 ∷ []) 20 3
     ∷ refuses Udp (hex (0x00000000 ∷ [])) 5
     ∷ refuses Udp (hex (0x2F610000 ∷ 0x2C530000 ∷ [])) 7
     -- an unclosed array: what stands outside it is lost, its data consumed
@@ -169,31 +174,38 @@ misread =
     ∷ gives Udp (hex (0x2F610000 ∷ 0x2C620000 ∷ 0x00000000 ∷ [])) 0
     (hex (0x2F000000 ∷ 0x00000002 ∷ 0x00000000 ∷ 0x00000002 ∷ 0x00000000
     ∷ 0x62000000 ∷ 0x00000002 ∷ 0x0000000C ∷ 0x00000000 ∷ 0x00000008 ∷ []))
-    ∷ refuses Udp (hex (0x2F610000 ∷ 0x2C620000 ∷ 0xFFFFFFFF ∷ [])) 3
+    ∷ lacks Udp (hex (0x2F610000 ∷ 0x2C620000 ∷ 0xFFFFFFFF ∷ [])) 19 8
+    -- padding is short at its own first place, a blob's too; the first text is the address until it is known to be "#bundle"; a list
+    -- adds the offset of its frame once
+    ∷ lacks Udp (0x2F ∷ 0x00 ∷ []) 20 2
+    ∷ lacks Udp (hex (0x2F610000 ∷ 0x2C620000 ∷ 0x00000001 ∷ []) ++ (0x61 ∷ [])) 20 13
+    ∷ lacks Udp (0x23 ∷ []) 17 0
+    ∷ lacks Udp (hex (0x2362756E ∷ 0x646C6500 ∷ 0x00000000 ∷ [])) 21 8
+    ∷ lacks TcpVec (hex (0x0000000C ∷ 0x2F610000 ∷ 0x2C690000 ∷ 0x00000007 ∷ 0x00000004 ∷ 0x2F616263 ∷ [])) 17 20
     -- an inner leftover is dropped; 13, then 9, then 10, which 39 bytes give for two records
     ∷ gives Udp nested 0
     (hex (0x23000000 ∷ 0x00000002 ∷ 0x00000000 ∷ 0x00000001 ∷ 0x00000000
     ∷ 0x23000000 ∷ 0x00000002 ∷ 0x00000000 ∷ 0x00000002 ∷ 0x00000014 ∷ []))
-    ∷ call Udp nested 160 65 (refused 13) []
-    ∷ call Udp nested 39 1 (refused 9) []
-    ∷ call Udp nested 39 2 (refused 10) []
+    ∷ call Udp nested 160 65 (refused 13 0) []
+    ∷ call Udp nested 39 1 (refused 9 0) []
+    ∷ call Udp nested 39 2 (refused 10 0) []
     -- depth counts the arrays that are kept, with the bundles around them: P6 has none, '[[T]' one, and the last one stands in a bundle
     ∷ call Udp (hex (0x2F610000 ∷ 0x2C695B69 ∷ 0x00000000 ∷ 0x00000001 ∷ 0x00000002 ∷ [])) 160 0 (packets 2 0)
     (hex (0x2F000000 ∷ 0x00000002 ∷ 0x00000000 ∷ 0x00000002 ∷ 0x00000000
     ∷ 0x69000000 ∷ 0x00000002 ∷ 0x00000002 ∷ 0x00000000 ∷ 0x00000010 ∷ []))
-    ∷ call Udp (hex (0x2F610000 ∷ 0x2C5B5B54 ∷ 0x5D000000 ∷ [])) 160 0 (refused 9) []
+    ∷ call Udp (hex (0x2F610000 ∷ 0x2C5B5B54 ∷ 0x5D000000 ∷ [])) 160 0 (refused 9 0) []
     ∷ call Udp (hex (0x2F610000 ∷ 0x2C5B5B54 ∷ 0x5D000000 ∷ [])) 160 1 (packets 3 0)
     (hex (0x2F000000 ∷ 0x00000003 ∷ 0x00000000 ∷ 0x00000002 ∷ 0x00000000
     ∷ 0x5B000000 ∷ 0x00000003 ∷ 0x00000000 ∷ 0x00000000 ∷ 0x0000000C
     ∷ 0x54000000 ∷ 0x00000003 ∷ 0x00000000 ∷ 0x00000000 ∷ 0x0000000C ∷ []))
-    ∷ call Udp holding 160 1 (refused 9) []
+    ∷ call Udp holding 160 1 (refused 9 0) []
     ∷ call Udp holding 160 2 (packets 4 0)
     (hex (0x23000000 ∷ 0x00000004 ∷ 0x00000000 ∷ 0x00000001 ∷ 0x00000000
     ∷ 0x2F000000 ∷ 0x00000004 ∷ 0x00000014 ∷ 0x00000002 ∷ 0x00000014
     ∷ 0x5B000000 ∷ 0x00000004 ∷ 0x00000000 ∷ 0x00000000 ∷ 0x00000020
     ∷ 0x54000000 ∷ 0x00000004 ∷ 0x00000000 ∷ 0x00000000 ∷ 0x00000020 ∷ []))
     -- a late frame's 2 comes before an early one's 9
-    ∷ call TcpVec (hex (0x00000000 ∷ []) ++ (nested ++ hex (0x00000000 ∷ []))) 160 1 (refused 2) []
+    ∷ call TcpVec (hex (0x00000000 ∷ []) ++ (nested ++ hex (0x00000000 ∷ []))) 160 1 (refused 2 0) []
     ∷ []
 
 -- all of them hold
@@ -203,4 +215,4 @@ unfolding decoded size depth snoc number bytes classOf sortOf readText readArg r
 traps =
     ends and ends and ends and ends and ends and ends and ends and ends and ends and ends and ends and ends and ends and ends and ends
     and ends and ends and ends and ends and ends and ends and ends and ends and ends and ends and ends and ends and ends and ends and ends
-    and ends and none
+    and ends and ends and ends and ends and ends and ends and none

@@ -8,6 +8,7 @@ use lib.ListN.{length, take, drop, length-drop}
 use lib.Seq.{drop-drop}
 use borrow.Rule.Slice.PartMut.{midOf, putMid}
 use Rattle.refusal.specs.declared.Fault.the-variants as faults
+use Rattle.refusal.specs.declared.Field.the-variants.{Head}
 use Rattle.wire.proofs.Parts.{tail, length-lent}
 use Rattle.node.specs.Forest.{Forest, nil, node, size}
 use Rattle.node.specs.declared.record.Item.{Item}
@@ -46,12 +47,12 @@ module _ (base : ℕ) (l rest : List ℕ) (e : prefix.Ready ≡ prefixOf l) (s :
 
 module _ (base : ℕ) (l : List ℕ) where
   -- nothing is written of a frame that waits
-  pub waits-nothing : prefix.Waiting ≡ prefixOf l → framePacket (readFrame base l) ≡ fault faults.RunsOut
+  pub waits-nothing : prefix.Waiting ≡ prefixOf l → framePacket (readFrame base l) ≡ fault faults.Empty
   unfolding readFrame
   waits-nothing e = ap (λ x. framePacket (frameWith base l x)) (sym e)
 
   -- nothing is written of a prefix that is not all there
-  pub short-nothing : prefix.RunsOut ≡ prefixOf l → framePacket (readFrame base l) ≡ fault faults.RunsOut
+  pub short-nothing : prefix.RunsOut ≡ prefixOf l → framePacket (readFrame base l) ≡ fault (faults.Short Head 0)
   unfolding readFrame
   short-nothing e = ap (λ x. framePacket (frameWith base l x)) (sym e)
 

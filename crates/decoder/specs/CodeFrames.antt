@@ -2,7 +2,7 @@
 use mathlib.Core.Path.{_≡_}
 use mathlib.Core.List.{List}
 use Prim.Native.Nat.{ℕ, _≤_}
-use Rattle.refusal.specs.declared.Fault.the-variants.{RunsOut}
+use Rattle.refusal.specs.declared.Fault.the-variants.{Empty}
 use Rattle.wire.specs.Limits.{longest}
 use Rattle.node.specs.Forest.{size}
 use Rattle.node.specs.Records.{TableRoom}
@@ -12,7 +12,7 @@ use Rattle.answering.specs.Limits.{forestOf}
 
 -- the packet of a frame as the second reading has it: nothing is written of a frame that waits
 abbrev pub framePacket : Frame → Out
-framePacket wait = fault RunsOut
+framePacket wait = fault Empty
 framePacket (read o) = o
 
 -- an input that is read as trees

@@ -93,19 +93,19 @@ fn put_found(out: &mut Space, length: usize, used: usize) -> usize {
     put_number(out, second, used as u64)
 }
 
-// The place of what a text lacks among the names below.
-fn place_of_lack(lack: Lack) -> usize {
-    match lack {
-        Lack::Nul => 0,
-        Lack::Padding => 1,
-        Lack::Utf8 => 2,
-    }
+// The padding that a text lacks, by where it begins.
+fn put_padding(out: &mut Space, at: usize) -> usize {
+    let end = put(out, 0, b" lacks padding");
+    put_number(out, end, at as u64)
 }
 
 // What a text lacks.
 fn put_lack(out: &mut Space, lack: Lack) -> usize {
-    let at = put(out, 0, b" lacks");
-    put_named(out, at, b"nul padding utf8", place_of_lack(lack))
+    match lack {
+        Lack::Nul => put(out, 0, b" lacks nul"),
+        Lack::Padding { at } => put_padding(out, at),
+        Lack::Utf8 => put(out, 0, b" lacks utf8"),
+    }
 }
 
 // The text at a position of a call's input, which has at most 65,535 bytes.

@@ -3,6 +3,7 @@ use arguments::Measured;
 use heads::ElementSize;
 use packet::Start;
 use refusal::Fault;
+use refusal::Field;
 use text::Text;
 ghost use mathlib.Core.Path.{_≡_};
 ghost use Prim.Native.Nat.{ℕ, _+_, _≤_};
@@ -71,7 +72,7 @@ pub fn measure_message(input: &[u8], pos: usize, room: usize) -> Extent
                 Measured::Refused(fault) => Extent::Refused(fault),
             }
         }
-        Text::Lacks(lack) => Extent::Refused(text::fault_of(lack)),
+        Text::Lacks(lack) => Extent::Refused(text::fault_in(Field::TypeText, pos, lack)),
     }
 }
 
@@ -82,7 +83,10 @@ fn measure_bundle(input: &[u8], pos: usize, room: usize) -> Extent
     ensures { λ r. ⌜ ((base start : ℕ) → r ≡ extent room pos (readBundle base start (now (input .entry)) pos)) ⌝ }
 {
     if input.len() < 8 {
-        return Extent::Refused(Fault::RunsOut);
+        return Extent::Refused(Fault::Short {
+            field: Field::Head,
+            at: pos,
+        });
     }
     let mut rest = &input[8..];
     let mut at = pos + 8;
@@ -125,7 +129,10 @@ fn measure_element(input: &[u8], pos: usize, room: usize) -> Extent
             },
             Extent::Refused(fault) => Extent::Refused(fault),
         },
-        ElementSize::RunsOut => Extent::Refused(Fault::RunsOut),
+        ElementSize::RunsOut => Extent::Refused(Fault::Short {
+            field: Field::Head,
+            at: pos,
+        }),
     }
 }
 

@@ -1,5 +1,5 @@
--- An answer is taken apart as include/osc.h does it: the three parts of a decoder's number, and the two of an encoder's, are what was put
--- into it. So an encoder's number tells one answer, and so does a decoder's (Once.antt): count 0 with the whole input left is Waiting
+-- An answer is taken apart as include/osc.h does it: the three parts of a decoder's number with the offset beside it, and the two of an
+-- encoder's, are what was put into it. So an encoder's number tells one answer, and so does a decoder's (Once.antt): count 0 with the whole input left is Waiting
 -- where `decode_tcp` tells it, and no packets where `decode_tcp_vec` does.
 use mathlib.Core.Path.{sym, subst}
 use mathlib.Core.List.{List}
@@ -10,14 +10,14 @@ use Rattle.answering.specs.declared.Decoded.the-variants as decodes
 use Rattle.encoder.specs.Outcome.{Encodes, EncodesString}
 use Rattle.encoder.specs.declared.Encoded.{Encoded}
 use Rattle.encoder.specs.declared.Encoded.the-variants as encodes
-use Rattle.osc.specs.Answers.{decodedNumber, Fits, encodedNumber, Tells, Parts, EncodedParts}
+use Rattle.osc.specs.Answers.{decodedNumber, moreNumber, Fits, encodedNumber, Tells, Parts, EncodedParts}
 use Rattle.osc.proofs.Ended.{Ended, encodes-ended, string-ended}
 
--- the parts of a decoder's number are what was put into it
-pub decoded-apart : (n : ℕ) (answer : Decoded) → Fits n answer → Parts n answer (decodedNumber n answer)
-decoded-apart n (decodes.Packets count left) h = (omega arith, omega arith, omega arith)
-decoded-apart n decodes.Waiting h = (omega arith, omega arith, omega arith)
-decoded-apart n (decodes.Refused r) h = (omega arith, omega arith, omega arith)
+-- the parts of a decoder's number, and the offset beside it, are what was put into them
+pub decoded-apart : (n : ℕ) (answer : Decoded) → Fits n answer → Parts n answer (decodedNumber n answer) (moreNumber answer)
+decoded-apart n (decodes.Packets count left) h = (omega arith, omega arith, omega arith, omega arith)
+decoded-apart n decodes.Waiting h = (omega arith, omega arith, omega arith, omega arith)
+decoded-apart n (decodes.Refused r) h = (omega arith, omega arith, omega arith, omega arith)
 
 -- ---- an encoder's number
 

@@ -36,7 +36,7 @@ use Rattle.osc.specs.Answers.{Fits, Parts, EncodedParts}
 use Rattle.osc.specs.Boundary.{osc-decode, osc-encode, osc-encode-string, osc-pad, osc-look, osc-start, CMeets, CAnswered, CEnds}
 use Rattle.osc.proofs.Apart.{decoded-apart, told-apart, string-told-apart}
 use Rattle.osc.proofs.Boundary.{ends-listed, refusals-apart}
-use Rattle.osc.proofs.Once.{decoded-once, WaitingTold, tcp-none-waits, encoded-once, pad-once}
+use Rattle.osc.proofs.Once.{decoded-once, decoded-alone, WaitingTold, tcp-none-waits, encoded-once, pad-once}
 use Rattle.osc.proofs.Only.{c-settled}
 
 -- a lent buffer of n bytes
@@ -46,138 +46,147 @@ nines n = replicate n 9
 -- ---- decoders
 
 -- P1: refusal 2, and any table is as it was
-p1 : (table : List ℕ) → CMeets (osc-decode Udp [] table 64) 0x200_0000_0000_0000 table
+p1 : (table : List ℕ) → CMeets (osc-decode Udp [] table 64) 0x200_0000_0000_0000 0 table
 unfolding packetAt readPacket udp decoded
-p1 table = record { answer = _; decodes = decodes-met; number = refl }
+p1 table = record { answer = _; decodes = decodes-met; number = refl; beside = refl }
+
+-- P2: the type text at 4 is short, which is 18 at 4, and any table is as it was
+p2 : (table : List ℕ) → CMeets (osc-decode Udp (0x2F ∷ 0 ∷ 0 ∷ 0 ∷ []) table 64) 0x1200_0000_0000_0000 0x4_0000_0000 table
+unfolding readText startOf readMessage packetBy packetAt readPacket udp decoded
+p2 table = record { answer = _; decodes = decodes-met; number = refl; beside = refl }
 
 -- P14's bytes, a frame that is not all there
 abbrev unready : List ℕ
 unready = 0 ∷ 0 ∷ 0 ∷ 9 ∷ 0x2F ∷ 0x61 ∷ 0 ∷ 0 ∷ []
 
 -- `osc_decode_tcp` waits: 8, and any table is as it was
-p14 : (table : List ℕ) → CMeets (osc-decode Tcp unready table 64) 8 table
+p14 : (table : List ℕ) → CMeets (osc-decode Tcp unready table 64) 8 0 table
 unfolding number prefixOf readFrame tcp decoded
-p14 table = record { answer = _; decodes = decodes-met; number = refl }
+p14 table = record { answer = _; decodes = decodes-met; number = refl; beside = refl }
 
 -- `osc_decode_tcp_vec` tells 8 too, which are no packets there
-no-packets : (CMeets (osc-decode TcpVec unready (nines 17) 64) 8 (nines 17))
+no-packets : (CMeets (osc-decode TcpVec unready (nines 17) 64) 8 0 (nines 17))
     × (decoded tcpVec (capacity (nines 17)) 64 unready ≡ decodes.Packets 0 8)
 unfolding size depth number prefixOf readFrame tcpVec readFrames framesAt decoded stored recordsOf
-no-packets = (record { answer = _; decodes = decodes-met; number = refl }, refl)
+no-packets = (record { answer = _; decodes = decodes-met; number = refl; beside = refl }, refl)
 
 -- a message of one record, after a length that cuts nothing
-message : CMeets (osc-decode Tcp (0 ∷ 0 ∷ 0 ∷ 0 ∷ 0x2F ∷ 0x61 ∷ 0 ∷ 0 ∷ 0 ∷ 0 ∷ 0 ∷ 0 ∷ []) (nines 21) 64) 0x1_0000_0000
+message : CMeets (osc-decode Tcp (0 ∷ 0 ∷ 0 ∷ 0 ∷ 0x2F ∷ 0x61 ∷ 0 ∷ 0 ∷ 0 ∷ 0 ∷ 0 ∷ 0 ∷ []) (nines 21) 64) 0x1_0000_0000 0
     (0x2F ∷ 0 ∷ 0 ∷ 0 ∷ 0 ∷ 0 ∷ 0 ∷ 1 ∷ 0 ∷ 0 ∷ 0 ∷ 4 ∷ 0 ∷ 0 ∷ 0 ∷ 2 ∷ 0 ∷ 0 ∷ 0 ∷ 4 ∷ 9 ∷ [])
 unfolding size depth number bytes readText readTags startOf prefixOf readMessage packetBy packetAt readPacket readFrame tcp decoded
     stored recordsOf recordOf
-message = record { answer = _; decodes = decodes-met; number = refl }
+message = record { answer = _; decodes = decodes-met; number = refl; beside = refl }
 
 -- a bundle in a bundle: seven records, and nothing left
-nested : CMeets (osc-decode Udp p3.nested (nines 141) 2) 0x7_0000_0000 (p3.nested-table ++ (9 ∷ []))
+nested : CMeets (osc-decode Udp p3.nested (nines 141) 2) 0x7_0000_0000 0 (p3.nested-table ++ (9 ∷ []))
 unfolding size depth snoc number bytes classOf sortOf readText readArg readTags startOf sizeOf readMessage bundleBy elementBy elementsBy
     packetBy packetAt readPacket udp decoded stored recordsOf recordOf p3.nested-table
-nested = record { answer = _; decodes = decodes-met; number = refl }
+nested = record { answer = _; decodes = decodes-met; number = refl; beside = refl }
 
 -- the hypotheses of `ends-listed` and of `refusals-apart`: `osc_pad` tells no answer as it tells 14
-ends : CEnds (osc-decode Udp p3.nested (nines 141) 2) 0x7_0000_0000 (p3.nested-table ++ (9 ∷ []))
-ends = ends-listed _ _ _ nested
+ends : CEnds (osc-decode Udp p3.nested (nines 141) 2) 0x7_0000_0000 0 (p3.nested-table ++ (9 ∷ []))
+ends = ends-listed _ _ _ _ nested
 
 no-answer : CAnswered (osc-pad 5) 14 → ⊥
 no-answer = refusals-apart (osc-pad 5) 14 refl
 
 -- the hypotheses of `tcp-none-waits`, `decoded-once` and `decoded-apart`
-waits : (table : List ℕ) → WaitingTold unready table 64 8 table
-waits table = tcp-none-waits unready table 64 8 table (p14 table) refl refl
+waits : (table : List ℕ) → WaitingTold unready table 64 8 0 table
+waits table = tcp-none-waits unready table 64 8 0 table (p14 table) refl refl
 
 once : p14 [] .answer ≡ p14 (nines 17) .answer
-once = decoded-once Tcp unready unready [] (nines 17) 64 64 8 [] (nines 17) refl (p14 []) (p14 (nines 17))
+once = decoded-once Tcp unready unready [] (nines 17) 64 64 8 0 [] (nines 17) refl (p14 []) (p14 (nines 17))
 
-apart : Parts 12 (decodes.Packets 2 4) 0x2_0000_0004
+-- the hypotheses of `decoded-alone`: 2 is told of no other answer
+alone : p1 [] .answer ≡ p1 (nines 17) .answer
+alone = decoded-alone Udp [] [] [] (nines 17) 64 64 0x200_0000_0000_0000 0 0 [] (nines 17) refl (omega arith) (p1 []) (p1 (nines 17))
+
+apart : Parts 12 (decodes.Packets 2 4) 0x2_0000_0004 0
 apart = let f : Fits 12 (decodes.Packets 2 4) = (omega arith, omega arith) in decoded-apart 12 (decodes.Packets 2 4) f
 
 -- ---- encoders
 
 -- a table with a wrong end: refusal 11, and any output is as it was
-wrong-end : (out : List ℕ) → CMeets (osc-encode unframed (p3.table 2 3) 2 p3.packet out) 0xB00_0000_0000_0000 out
-wrong-end out = record { answer = encodes.Refused BadTable; outcome = malformed p3.wrong-end refl; number = refl }
+wrong-end : (out : List ℕ) → CMeets (osc-encode unframed (p3.table 2 3) 2 p3.packet out) 0xB00_0000_0000_0000 0 out
+wrong-end out = (record { answer = encodes.Refused BadTable; outcome = malformed p3.wrong-end refl; number = refl }, refl)
 
 -- P3's table in a stream: 16 bytes
-stream : CMeets (osc-encode prefixed (p3.table 2 2) 2 p3.packet (nines 17)) 16 ((0 ∷ 0 ∷ 0 ∷ 12 ∷ []) ++ (p3.packet ++ (9 ∷ [])))
+stream : CMeets (osc-encode prefixed (p3.table 2 2) 2 p3.packet (nines 17)) 16 0 ((0 ∷ 0 ∷ 0 ∷ 12 ∷ []) ++ (p3.packet ++ (9 ∷ [])))
 unfolding bytes depth classOf sortOf oscString osc.writeData osc.writeTags osc.writeMessage osc.writePacket bytesOutcome treeOutcome
-stream = record { answer = encodes.Written 16; outcome = formed p3.message p3.five p3.p3-tree refl; number = refl }
+stream = (record { answer = encodes.Written 16; outcome = formed p3.message p3.five p3.p3-tree refl; number = refl }, refl)
 
 -- a text that is not UTF-8: refusal 4, and any output is as it was
-not-utf8 : (out : List ℕ) → CMeets (osc-encode-string (0xFF ∷ []) out) 0x400_0000_0000_0000 out
+not-utf8 : (out : List ℕ) → CMeets (osc-encode-string (0xFF ∷ []) out) 0x400_0000_0000_0000 0 out
 unfolding stringOutcome
-not-utf8 out = record { answer = encodes.Refused (Unreadable NotUtf8); outcome = refl; number = refl }
+not-utf8 out = (record { answer = encodes.Refused (Unreadable NotUtf8); outcome = refl; number = refl }, refl)
 
 -- the bundle in a bundle: its own 76 bytes
-written : CMeets (osc-encode unframed p3.nested-table 7 p3.nested (nines 77)) 76 (p3.nested ++ (9 ∷ []))
+written : CMeets (osc-encode unframed p3.nested-table 7 p3.nested (nines 77)) 76 0 (p3.nested ++ (9 ∷ []))
 unfolding bytes depth classOf sortOf oscString oscBlob osc.writeData osc.writeTags osc.writeMessage osc.writeBundle osc.writeElements
     osc.writePacket bytesOutcome treeOutcome
-written = record { answer = encodes.Written 76; outcome = formed (p3.once 0) (p3.within 0) p3.nested-tree refl; number = refl }
+written = (record { answer = encodes.Written 76; outcome = formed (p3.once 0) (p3.within 0) p3.nested-tree refl; number = refl }, refl)
 
 -- the text é: 4 bytes
-text : CMeets (osc-encode-string (0xC3 ∷ 0xA9 ∷ []) (nines 5)) 4 (0xC3 ∷ 0xA9 ∷ 0 ∷ 0 ∷ 9 ∷ [])
+text : CMeets (osc-encode-string (0xC3 ∷ 0xA9 ∷ []) (nines 5)) 4 0 (0xC3 ∷ 0xA9 ∷ 0 ∷ 0 ∷ 9 ∷ [])
 unfolding oscString bytesOutcome stringOutcome
-text = record { answer = encodes.Written 4; outcome = refl; number = refl }
+text = (record { answer = encodes.Written 4; outcome = refl; number = refl }, refl)
 
 -- the hypotheses of `c-settled`: no other number and no other bytes
-written-only : (told : ℕ) (after : List ℕ) → CMeets (osc-encode unframed p3.nested-table 7 p3.nested (nines 77)) told after
-    → (told ≡ 76) × (after ≡ p3.nested ++ (9 ∷ []))
-written-only told after m = c-settled (osc-encode unframed p3.nested-table 7 p3.nested (nines 77)) told 76 after _ m written
+written-only : (told more : ℕ) (after : List ℕ) → CMeets (osc-encode unframed p3.nested-table 7 p3.nested (nines 77)) told more after
+    → (told ≡ 76) × (more ≡ 0) × (after ≡ p3.nested ++ (9 ∷ []))
+written-only told more after m = c-settled (osc-encode unframed p3.nested-table 7 p3.nested (nines 77)) told 76 more 0 after _ m written
 
-stream-only : (told : ℕ) (after : List ℕ) → CMeets (osc-encode prefixed (p3.table 2 2) 2 p3.packet (nines 17)) told after
-    → (told ≡ 16) × (after ≡ (0 ∷ 0 ∷ 0 ∷ 12 ∷ []) ++ (p3.packet ++ (9 ∷ [])))
-stream-only told after m = c-settled (osc-encode prefixed (p3.table 2 2) 2 p3.packet (nines 17)) told 16 after _ m stream
+stream-only : (told more : ℕ) (after : List ℕ) → CMeets (osc-encode prefixed (p3.table 2 2) 2 p3.packet (nines 17)) told more after
+    → (told ≡ 16) × (more ≡ 0) × (after ≡ (0 ∷ 0 ∷ 0 ∷ 12 ∷ []) ++ (p3.packet ++ (9 ∷ [])))
+stream-only told more after m = c-settled (osc-encode prefixed (p3.table 2 2) 2 p3.packet (nines 17)) told 16 more 0 after _ m stream
 
-text-only : (told : ℕ) (after : List ℕ) → CMeets (osc-encode-string (0xC3 ∷ 0xA9 ∷ []) (nines 5)) told after
-    → (told ≡ 4) × (after ≡ 0xC3 ∷ 0xA9 ∷ 0 ∷ 0 ∷ 9 ∷ [])
-text-only told after m = c-settled (osc-encode-string (0xC3 ∷ 0xA9 ∷ []) (nines 5)) told 4 after _ m text
+text-only : (told more : ℕ) (after : List ℕ) → CMeets (osc-encode-string (0xC3 ∷ 0xA9 ∷ []) (nines 5)) told more after
+    → (told ≡ 4) × (more ≡ 0) × (after ≡ 0xC3 ∷ 0xA9 ∷ 0 ∷ 0 ∷ 9 ∷ [])
+text-only told more after m = c-settled (osc-encode-string (0xC3 ∷ 0xA9 ∷ []) (nines 5)) told 4 more 0 after _ m text
 
 -- the hypotheses of `told-apart`, `string-told-apart` and `encoded-once`
 text-apart : EncodedParts (encodes.Written 4) 4
 unfolding text
-text-apart = string-told-apart (0xC3 ∷ 0xA9 ∷ []) (nines 5) 4 _ text
+text-apart = string-told-apart (0xC3 ∷ 0xA9 ∷ []) (nines 5) 4 _ (text .0)
 
 taken-apart : EncodedParts (encodes.Written 16) 16
 unfolding stream
-taken-apart = told-apart prefixed (p3.table 2 2) 2 p3.packet (nines 17) 16 _ stream
+taken-apart = told-apart prefixed (p3.table 2 2) 2 p3.packet (nines 17) 16 _ (stream .0)
 
 sixteen : (a : Encoded) → EncodedParts a 16 → a ≡ encodes.Written 16
-sixteen a p = encoded-once 16 a (encodes.Written 16) p taken-apart
+sixteen a p = encoded-once 16 a (encodes.Written 16) (omega arith) p taken-apart
 
 -- ---- `osc_pad`, `osc_look` and `osc_start`
 
 -- the next multiple of 4; none after the last
-next : CMeets (osc-pad 5) 8 []
-next = (refl, refl)
+next : CMeets (osc-pad 5) 8 0 []
+next = (refl, refl, refl)
 
-last : CMeets (osc-pad 0xffff_ffff_ffff_ffff) 14 []
-last = (refl, refl)
+last : CMeets (osc-pad 0xffff_ffff_ffff_ffff) 14 0 []
+last = (refl, refl, refl)
 
 -- 5 and 6 have one multiple, as `pad-once` asks
 five-six : padOf 5 ≡ padOf 6
 five-six = pad-once 5 6 refl
 
 -- the kind of a double that is no number; none of an empty table
-kind : CMeets (osc-look p3.nested-table 6) 100 []
+kind : CMeets (osc-look p3.nested-table 6) 100 0 []
 unfolding p3.nested-table number bytes size recordOf recordsOf kindAt zerosAt fieldAt ownRules classOf sortOf bareOf narrowOf valueBy lookAt
-kind = (refl, refl)
+kind = (refl, refl, refl)
 
-no-record : CMeets (osc-look [] 0) 0xB00_0000_0000_0000 []
+no-record : CMeets (osc-look [] 0) 0xB00_0000_0000_0000 0 []
 unfolding lookAt
-no-record = (refl, refl)
+no-record = (refl, refl, refl)
 
 -- the blob's size begins at 56, and a record that does not exist nowhere
 nested-small : (i : ℕ) → getD p3.nested-table i 0 < 256
 unfolding p3.nested-table bytes size recordOf recordsOf
 nested-small = p3.small-bytes p3.nested-table tt
 
-start : CMeets (osc-start p3.nested-table nested-small 4) 56 []
+start : CMeets (osc-start p3.nested-table nested-small 4) 56 0 []
 unfolding p3.nested-table number bytes size recordOf recordsOf fieldAt startedAt
-start = (refl, refl)
+start = (refl, refl, refl)
 
-no-start : CMeets (osc-start [] (λ i. omega arith) 0) 0xB00_0000_0000_0000 []
+no-start : CMeets (osc-start [] (λ i. omega arith) 0) 0xB00_0000_0000_0000 0 []
 unfolding startedAt
-no-start = (refl, refl)
+no-start = (refl, refl, refl)

@@ -1,4 +1,5 @@
--- What a decoder answers fits the bits that it has at the boundary, since a tree takes at least as many bytes as it has nodes.
+-- What a decoder answers fits the bits that it has at the boundary, since a tree takes at least as many bytes as it has nodes, and a field
+-- that was short begins in the input or right after it.
 use mathlib.Core.Path.{_≡_, sym, subst}
 use mathlib.Core.List.{List}
 use Prim.Native.Nat.{ℕ, _≤_}
@@ -11,17 +12,19 @@ use Rattle.answering.specs.Limits.{limited, decoded}
 use Rattle.answering.specs.declared.Decoded.{Decoded}
 use Rattle.decoder.proofs.Chosen.{by-decoded, by-trees}
 use Rattle.decoder.proofs.Sizes.{WholeIn, whole-in}
+use Rattle.decoder.proofs.Offsets.{WholeLow, whole-low}
 use Rattle.osc.specs.Answers.{Fits}
 
 module _ (capacity limit : ℕ) where
-  limited-fits : (n : ℕ) (w : Whole) → n ≤ longest → WholeIn n w → Fits n (limited capacity limit w)
-  limited-fits n (trees f left) h w = by-trees (Fits n) capacity limit f left (λ g. tt) (λ g. tt) (λ g k. (omega arith, omega arith))
-  limited-fits n waiting h w = h
-  limited-fits n (refusal k) h w = tt
+  limited-fits : (n : ℕ) (w : Whole) → n ≤ longest → WholeIn n w → WholeLow n w → Fits n (limited capacity limit w)
+  limited-fits n (trees f left) h w v =
+      by-trees (Fits n) capacity limit f left (λ g. omega arith) (λ g. omega arith) (λ g k. (omega arith, omega arith))
+  limited-fits n waiting h w v = h
+  limited-fits n (refusal k) h w v = omega arith
 
   -- what a decoder answers to a message fits
   pub fits : (framing : Framing) (msg : List ℕ) {r : Decoded} → r ≡ decoded (ruleOf framing) capacity limit msg → Fits (length msg) r
   fits framing msg e =
       subst (Fits (length msg)) (sym e)
-      (by-decoded (Fits (length msg)) (ruleOf framing) capacity limit msg (λ g. tt) (λ g. tt)
-      (λ g k. limited-fits (length msg) (ruleOf framing msg) k (whole-in framing msg)))
+      (by-decoded (Fits (length msg)) (ruleOf framing) capacity limit msg (λ g. omega arith) (λ g. omega arith)
+      (λ g k. limited-fits (length msg) (ruleOf framing msg) k (whole-in framing msg) (whole-low framing msg)))

@@ -1,17 +1,19 @@
--- A number that is told tells one answer. `decode_udp` and `decode_tcp` give no answer of 0 records and `decode_tcp` alone waits, so
+-- A number that is told tells one answer, with the offset beside it where a field was short. `decode_udp` and `decode_tcp` give no answer of 0 records and `decode_tcp` alone waits, so
 -- that count 0 with the whole input left is Waiting there, and no packets where `decode_tcp_vec` tells it.
 use mathlib.Core.Path.{_≡_, refl, ap, ap₂, sym, subst, _∙_}
 use mathlib.Core.List.{List}
 use Prim.Native.Nat.{ℕ, zero, suc, _+_, _≤_}
 use native.Mathlib.Omega.{arith}
 use lib.ListN.{length, drop}
-use Rattle.refusal.specs.Refusal.{numberOf, faultNumber}
+use Rattle.refusal.specs.Refusal.{fieldNumber, numberOf, offsetOf, faultNumber}
+use Rattle.refusal.specs.declared.Field.{Field}
+use Rattle.refusal.specs.declared.Field.the-variants.{Address, TypeText, Data, Padding, Head}
 use Rattle.refusal.specs.declared.Fault.{Fault}
-use Rattle.refusal.specs.declared.Fault.the-variants.{Empty, RunsOut, NotUtf8, BadStart, NotOpen, UnknownTag, NotScalar}
+use Rattle.refusal.specs.declared.Fault.the-variants.{Empty, Short, NotUtf8, BadStart, NotOpen, UnknownTag, NotScalar}
 use Rattle.refusal.specs.declared.Refusal.{Refusal}
 use Rattle.refusal.specs.declared.Refusal.the-variants.{TooLong, Unreadable, TooDeep, TableFull, BadTable, OutputShort, DepthLimit}
 use Rattle.refusal.specs.declared.Refusal.the-variants.{PadOverflow}
-use Rattle.refusal.proofs.Only.{number-tells}
+use Rattle.refusal.proofs.Only.{number-tells, number-alone}
 use Rattle.wire.specs.Pad.{padded, padOf}
 use Rattle.wire.specs.declared.Padded.{Padded}
 use Rattle.wire.specs.declared.Padded.the-variants as padding
@@ -30,8 +32,9 @@ use Rattle.answering.specs.declared.Decoded.the-variants as decodes
 use Rattle.decoder.proofs.Chosen.{by-decoded, by-trees}
 use Rattle.encoder.specs.declared.Encoded.{Encoded}
 use Rattle.encoder.specs.declared.Encoded.the-variants as encodes
-use Rattle.osc.specs.Answers.{decodedNumber, TellsDecoded, paddedNumber, refusalIn, countIn, Parts, EncodedParts}
-use Rattle.osc.specs.Boundary.{fewest, Waits, Answerable, ToldOnce}
+use Rattle.osc.specs.Answers.{decodedNumber, moreNumber, TellsDecoded, paddedNumber, refusalIn, countIn, offsetIn, Parts}
+use Rattle.osc.specs.Answers.{EncodedParts}
+use Rattle.osc.specs.Boundary.{fewest, Waits, Answerable, ToldOnce, ToldAlone}
 use Rattle.osc.proofs.Apart.{decoded-apart}
 use Rattle.osc.proofs.Fits.{fits}
 
@@ -93,9 +96,16 @@ answerable framing capacity limit msg =
 
 -- ---- the answer that a number tells
 
+field-some : (field : Field) → 1 ≤ fieldNumber field
+field-some Address = omega arith
+field-some TypeText = omega arith
+field-some Data = omega arith
+field-some Padding = omega arith
+field-some Head = omega arith
+
 fault-some : (k : Fault) → 1 ≤ faultNumber k
 fault-some Empty = omega arith
-fault-some RunsOut = omega arith
+fault-some (Short field at) = field-some field
 fault-some NotUtf8 = omega arith
 fault-some BadStart = omega arith
 fault-some NotOpen = omega arith
@@ -119,68 +129,93 @@ waits-some Udp w = absurd w
 waits-some Tcp w = omega arith
 waits-some TcpVec w = absurd w
 
--- two answers of a decoder to n bytes that have the parts of one number
-parts-once : (framing : Framing) (n x : ℕ) (d e : Decoded) → Answerable framing d → Answerable framing e → Parts n d x → Parts n e x → d ≡ e
-parts-once framing n x (decodes.Packets c l) (decodes.Packets c′ l′) a b p q =
-    ap₂ (λ (i j : ℕ). decodes.Packets i j) (omega arith) (omega arith)
-parts-once framing n x (decodes.Packets c l) decodes.Waiting a b p q = absurd (omega (arith, waits-some framing b))
-parts-once framing n x (decodes.Packets c l) (decodes.Refused r) a b p q = absurd (omega (arith, number-some r))
-parts-once framing n x decodes.Waiting (decodes.Packets c l) a b p q = absurd (omega (arith, waits-some framing a))
-parts-once framing n x decodes.Waiting decodes.Waiting a b p q = refl
-parts-once framing n x decodes.Waiting (decodes.Refused r) a b p q = absurd (omega (arith, number-some r))
-parts-once framing n x (decodes.Refused r) (decodes.Packets c l) a b p q = absurd (omega (arith, number-some r))
-parts-once framing n x (decodes.Refused r) decodes.Waiting a b p q = absurd (omega (arith, number-some r))
-parts-once framing n x (decodes.Refused r) (decodes.Refused s) a b p q =
-    ap (λ (i : Refusal). decodes.Refused i) (number-tells r s (omega arith))
+-- what is told of two refusals tells that they are one
+abbrev Telling : ℕ → ℕ → ℕ → Type 0
+Telling x m m′ =
+    (r s : Refusal) → refusalIn x ≡ numberOf r → refusalIn x ≡ numberOf s → offsetIn m ≡ offsetOf r → offsetIn m′ ≡ offsetOf s → r ≡ s
 
--- what a decoder tells: the answer may be given, and has the parts of the number
-told-parts : (framing : Framing) (msg table : List ℕ) (limit told : ℕ) (after : List ℕ)
-    → (t : TellsDecoded (ruleOf framing) msg table limit told after)
-    → Answerable framing (t .answer) × Parts (length msg) (t .answer) told
-told-parts framing msg table limit told after t =
+-- two answers of a decoder to n bytes that have the parts of one number
+parts-once : (framing : Framing) (n x m m′ : ℕ) (d e : Decoded) → Telling x m m′ → Answerable framing d → Answerable framing e
+    → Parts n d x m → Parts n e x m′ → d ≡ e
+parts-once framing n x m m′ (decodes.Packets c l) (decodes.Packets c′ l′) k a b p q =
+    ap₂ (λ (i j : ℕ). decodes.Packets i j) (omega arith) (omega arith)
+parts-once framing n x m m′ (decodes.Packets c l) decodes.Waiting k a b p q = absurd (omega (arith, waits-some framing b))
+parts-once framing n x m m′ (decodes.Packets c l) (decodes.Refused r) k a b p q = absurd (omega (arith, number-some r))
+parts-once framing n x m m′ decodes.Waiting (decodes.Packets c l) k a b p q = absurd (omega (arith, waits-some framing a))
+parts-once framing n x m m′ decodes.Waiting decodes.Waiting k a b p q = refl
+parts-once framing n x m m′ decodes.Waiting (decodes.Refused r) k a b p q = absurd (omega (arith, number-some r))
+parts-once framing n x m m′ (decodes.Refused r) (decodes.Packets c l) k a b p q = absurd (omega (arith, number-some r))
+parts-once framing n x m m′ (decodes.Refused r) decodes.Waiting k a b p q = absurd (omega (arith, number-some r))
+parts-once framing n x m m′ (decodes.Refused r) (decodes.Refused s) k a b p q =
+    ap (λ (i : Refusal). decodes.Refused i) (k r s (p .0) (q .0) (p .3) (q .3))
+
+-- what a decoder tells: the answer may be given, and has the parts of the number and the offset beside it
+told-parts : (framing : Framing) (msg table : List ℕ) (limit told more : ℕ) (after : List ℕ)
+    → (t : TellsDecoded (ruleOf framing) msg table limit told more after)
+    → Answerable framing (t .answer) × Parts (length msg) (t .answer) told more
+told-parts framing msg table limit told more after t =
     let e = t .decodes .answered in (
       subst (Answerable framing) (sym e) (answerable framing (capacity table) limit msg),
-      subst (Parts (length msg) (t .answer)) (sym (t .number))
-          (decoded-apart (length msg) (t .answer) (fits (capacity table) limit framing msg e)),
+      subst (λ (m : ℕ). Parts (length msg) (t .answer) told m) (sym (t .beside))
+          (subst (λ (x : ℕ). Parts (length msg) (t .answer) x (moreNumber (t .answer))) (sym (t .number))
+          (decoded-apart (length msg) (t .answer) (fits (capacity table) limit framing msg e))),
     )
 
--- a decoder does not tell two answers to as many bytes by one number
-pub decoded-once : ToldOnce
-decoded-once framing msg msg′ table table′ limit limit′ told after after′ e t u =
-    let x = told-parts framing msg table limit told after t in
-    let y = told-parts framing msg′ table′ limit′ told after′ u in
-    parts-once framing (length msg) told _ _ (x .0) (y .0) (x .1) (subst (λ (n : ℕ). Parts n (u .answer) told) (sym e) (y .1))
+-- two answers by one number, where that and the offsets tell refusals apart
+decoded-one : (framing : Framing) (msg msg′ table table′ : List ℕ) (limit limit′ told more more′ : ℕ) (after after′ : List ℕ)
+    → length msg ≡ length msg′ → Telling told more more′
+    → (t : TellsDecoded (ruleOf framing) msg table limit told more after)
+    → (u : TellsDecoded (ruleOf framing) msg′ table′ limit′ told more′ after′) → t .answer ≡ u .answer
+decoded-one framing msg msg′ table table′ limit limit′ told more more′ after after′ e k t u =
+    let x = told-parts framing msg table limit told more after t in
+    let y = told-parts framing msg′ table′ limit′ told more′ after′ u in
+    parts-once framing (length msg) told more more′ _ _ k (x .0) (y .0) (x .1)
+    (subst (λ (n : ℕ). Parts n (u .answer) told more′) (sym e) (y .1))
 
--- what it is that `osc_decode_tcp` answered Waiting: the whole input is left, and the table is as it was
-pub record WaitingTold (msg table : List ℕ) (limit told : ℕ) (after : List ℕ) : Type 0 where
+-- a decoder does not tell two answers to as many bytes by one number and one offset beside it
+pub decoded-once : ToldOnce
+decoded-once framing msg msg′ table table′ limit limit′ told more after after′ e t u =
+    decoded-one framing msg msg′ table table′ limit limit′ told more more after after′ e
+    (λ r s p q o o′. number-tells r s (sym p ∙ q) (sym o ∙ o′)) t u
+
+-- nor by one number alone, but where it is a refusal from 17 on
+pub decoded-alone : ToldAlone
+decoded-alone framing msg msg′ table table′ limit limit′ told more more′ after after′ e h t u =
+    decoded-one framing msg msg′ table table′ limit limit′ told more more′ after after′ e
+    (λ r s p q o o′. number-alone r s (sym p ∙ q) (subst (λ (n : ℕ). n ≤ 16) p h)) t u
+
+-- what it is that `osc_decode_tcp` answered Waiting: the whole input is left, nothing is told beside it, and the table is as it was
+pub record WaitingTold (msg table : List ℕ) (limit told more : ℕ) (after : List ℕ) : Type 0 where
   pub answer : decoded tcp (capacity table) limit msg ≡ decodes.Waiting
   pub whole : told ≡ length msg
+  pub beside : more ≡ 0
   pub left : after ≡ table
 
-none-waits : (n x : ℕ) (d : Decoded) → Answerable Tcp d → Parts n d x → refusalIn x ≡ 0 → countIn x ≡ 0 → d ≡ decodes.Waiting
-none-waits n x (decodes.Packets c l) a p h k = absurd (omega arith)
-none-waits n x decodes.Waiting a p h k = refl
-none-waits n x (decodes.Refused r) a p h k = absurd (omega (arith, number-some r))
+none-waits : (n x m : ℕ) (d : Decoded) → Answerable Tcp d → Parts n d x m → refusalIn x ≡ 0 → countIn x ≡ 0 → d ≡ decodes.Waiting
+none-waits n x m (decodes.Packets c l) a p h k = absurd (omega arith)
+none-waits n x m decodes.Waiting a p h k = refl
+none-waits n x m (decodes.Refused r) a p h k = absurd (omega (arith, number-some r))
 
 -- count 0 without a refusal is Waiting, where `osc_decode_tcp` tells it
-pub tcp-none-waits : (msg table : List ℕ) (limit told : ℕ) (after : List ℕ) → TellsDecoded tcp msg table limit told after
-    → refusalIn told ≡ 0 → countIn told ≡ 0 → WaitingTold msg table limit told after
-tcp-none-waits msg table limit told after t h k =
-    let x = told-parts Tcp msg table limit told after t in
-    let e = none-waits (length msg) told _ (x .0) (x .1) h k in
+pub tcp-none-waits : (msg table : List ℕ) (limit told more : ℕ) (after : List ℕ) → TellsDecoded tcp msg table limit told more after
+    → refusalIn told ≡ 0 → countIn told ≡ 0 → WaitingTold msg table limit told more after
+tcp-none-waits msg table limit told more after t h k =
+    let x = told-parts Tcp msg table limit told more after t in
+    let e = none-waits (length msg) told more _ (x .0) (x .1) h k in
     record {
       answer = sym (t .decodes .answered) ∙ e;
       whole = t .number ∙ ap (decodedNumber (length msg)) e;
+      beside = t .beside ∙ ap moreNumber e;
       left = t .decodes .left ∙ ap (λ (d : Decoded). tabled d (forestOf (tcp msg)) table) e;
     }
 
--- two answers of an encoder that have the parts of one number are one
-pub encoded-once : (x : ℕ) (a b : Encoded) → EncodedParts a x → EncodedParts b x → a ≡ b
-encoded-once x (encodes.Written n) (encodes.Written m) p q = ap (λ (i : ℕ). encodes.Written i) (omega arith)
-encoded-once x (encodes.Written n) (encodes.Refused r) p q = absurd (omega (arith, number-some r))
-encoded-once x (encodes.Refused r) (encodes.Written n) p q = absurd (omega (arith, number-some r))
-encoded-once x (encodes.Refused r) (encodes.Refused s) p q =
-    ap (λ (i : Refusal). encodes.Refused i) (number-tells r s (omega arith))
+-- two answers of an encoder that have the parts of one number are one; its refusals (`encodeOrder`, `stringOrder`) are below 17
+pub encoded-once : (x : ℕ) (a b : Encoded) → refusalIn x ≤ 16 → EncodedParts a x → EncodedParts b x → a ≡ b
+encoded-once x (encodes.Written n) (encodes.Written m) h p q = ap (λ (i : ℕ). encodes.Written i) (omega arith)
+encoded-once x (encodes.Written n) (encodes.Refused r) h p q = absurd (omega (arith, number-some r))
+encoded-once x (encodes.Refused r) (encodes.Written n) h p q = absurd (omega (arith, number-some r))
+encoded-once x (encodes.Refused r) (encodes.Refused s) h p q =
+    ap (λ (i : Refusal). encodes.Refused i) (number-alone r s (omega arith) (omega arith))
 
 -- `osc_pad` does not tell two answers by one number: 14 is no multiple of 4
 pub pad-once : (x y : ℕ) → paddedNumber (padOf x) ≡ paddedNumber (padOf y) → padOf x ≡ padOf y

@@ -4,7 +4,7 @@ use mathlib.Core.Bool.{cond}
 use mathlib.Core.List.{List}
 use Prim.Native.Nat.{ℕ, _+_, _*_, _/_, _%_, _≤_}
 use lib.ListN.{length}
-use Rattle.refusal.specs.Refusal.{numberOf}
+use Rattle.refusal.specs.Refusal.{numberOf, offsetOf}
 use Rattle.refusal.specs.declared.Refusal.{Refusal}
 use Rattle.wire.specs.Limits.{longest}
 use Rattle.wire.specs.Pad.{padOf}
@@ -36,17 +36,25 @@ decodedNumber n (decodes.Packets count left) = count * 0x1_0000_0000 + left
 decodedNumber n decodes.Waiting = n
 decodedNumber n (decodes.Refused r) = refusalNumber r
 
+-- what is told beside it: the offset of a field that was short (Ticket 2) in bits 32 to 47, and 0 beside every other answer
+abbrev pub moreNumber : Decoded → ℕ
+moreNumber (decodes.Packets count left) = 0
+moreNumber decodes.Waiting = 0
+moreNumber (decodes.Refused r) = offsetOf r * 0x1_0000_0000
+
 -- what an answer to n bytes holds has room in those bits
 abbrev pub Fits : ℕ → Decoded → Type 0
 Fits n (decodes.Packets count left) = (count ≤ longest) × (left ≤ longest)
 Fits n decodes.Waiting = n ≤ longest
-Fits n (decodes.Refused r) = Unit {0}
+Fits n (decodes.Refused r) = offsetOf r ≤ longest
 
--- a decoder's call, by its rule: it has an answer and leaves a table by the decoder's contract, and what is told is that answer
-pub record TellsDecoded (rule : List ℕ → Whole) (msg table : List ℕ) (depth told : ℕ) (after : List ℕ) : Type 0 where
+-- a decoder's call, by its rule: it has an answer and leaves a table by the decoder's contract, and what is told, also in `more`, is that
+-- answer
+pub record TellsDecoded (rule : List ℕ → Whole) (msg table : List ℕ) (depth told more : ℕ) (after : List ℕ) : Type 0 where
   pub answer : Decoded
   pub decodes : Decodes rule msg table depth answer after
   pub number : told ≡ decodedNumber (length msg) answer
+  pub beside : more ≡ moreNumber answer
 
 -- an encoder's answer: the bytes written in bits 0 to 31
 abbrev pub encodedNumber : Encoded → ℕ
@@ -119,11 +127,15 @@ countIn x = x / 0x1_0000_0000 % 0x100_0000
 abbrev pub lowIn : ℕ → ℕ
 lowIn x = x % 0x1_0000_0000
 
--- what the parts of a decoder's number say of its answer to n bytes
-abbrev pub Parts : ℕ → Decoded → ℕ → Type 0
-Parts n (decodes.Packets count left) x = (refusalIn x ≡ 0) × (countIn x ≡ count) × (lowIn x ≡ left)
-Parts n decodes.Waiting x = (refusalIn x ≡ 0) × (countIn x ≡ 0) × (lowIn x ≡ n)
-Parts n (decodes.Refused r) x = (refusalIn x ≡ numberOf r) × (countIn x ≡ 0) × (lowIn x ≡ 0)
+-- `osc_field`, of what is told beside the number: bits 32 to 47
+abbrev pub offsetIn : ℕ → ℕ
+offsetIn more = more / 0x1_0000_0000 % 0x1_0000
+
+-- what the parts of a decoder's number, and of what is told beside it, say of its answer to n bytes
+abbrev pub Parts : ℕ → Decoded → ℕ → ℕ → Type 0
+Parts n (decodes.Packets count left) x more = (refusalIn x ≡ 0) × (countIn x ≡ count) × (lowIn x ≡ left) × (offsetIn more ≡ 0)
+Parts n decodes.Waiting x more = (refusalIn x ≡ 0) × (countIn x ≡ 0) × (lowIn x ≡ n) × (offsetIn more ≡ 0)
+Parts n (decodes.Refused r) x more = (refusalIn x ≡ numberOf r) × (countIn x ≡ 0) × (lowIn x ≡ 0) × (offsetIn more ≡ offsetOf r)
 
 -- what the parts of an encoder's number say of its answer
 abbrev pub EncodedParts : Encoded → ℕ → Type 0

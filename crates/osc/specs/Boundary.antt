@@ -13,7 +13,7 @@ use Rattle.totals.specs.declared.Framing.the-variants.{Udp, Tcp, TcpVec}
 use Rattle.answering.specs.declared.Decoded.{Decoded}
 use Rattle.answering.specs.declared.Decoded.the-variants as decodes
 use Rattle.encoder.specs.Outcome.{encodeOrder, stringOrder, Encodes, EncodesString}
-use Rattle.osc.specs.Answers.{TellsDecoded, Tells, TellsPadded, TellsLooked, TellsStarted}
+use Rattle.osc.specs.Answers.{TellsDecoded, Tells, TellsPadded, TellsLooked, TellsStarted, refusalIn, offsetIn}
 
 -- a call from C and what it is handed: the three decoders by their framing, the two encoders of packets by their frame; `osc_start` tells
 -- four bytes as they stand, so that they are bytes is said
@@ -34,14 +34,15 @@ cLent (osc-pad pos) = []
 cLent (osc-look table index) = []
 cLent (osc-start table bytes index) = []
 
--- the contract of the function in src/lib.rt: the number that is told, and the lent bytes afterwards
-abbrev pub CMeets : CCall → ℕ → List ℕ → Type 0
-CMeets (osc-decode framing msg table depth) told after = TellsDecoded (ruleOf framing) msg table depth told after
-CMeets (osc-encode frame table count source out) told after = Tells (Encodes frame table count source out) told after
-CMeets (osc-encode-string text out) told after = Tells (EncodesString text out) told after
-CMeets (osc-pad pos) told after = TellsPadded pos told × (after ≡ [])
-CMeets (osc-look table index) told after = TellsLooked table index told × (after ≡ [])
-CMeets (osc-start table bytes index) told after = TellsStarted table index told × (after ≡ [])
+-- the contract of the function in src/lib.rt: the number that is told, what is told beside it in `more`, and the lent bytes afterwards; a
+-- function without `more` tells 0 there
+abbrev pub CMeets : CCall → ℕ → ℕ → List ℕ → Type 0
+CMeets (osc-decode framing msg table depth) told more after = TellsDecoded (ruleOf framing) msg table depth told more after
+CMeets (osc-encode frame table count source out) told more after = Tells (Encodes frame table count source out) told after × (more ≡ 0)
+CMeets (osc-encode-string text out) told more after = Tells (EncodesString text out) told after × (more ≡ 0)
+CMeets (osc-pad pos) told more after = TellsPadded pos told × (more ≡ 0) × (after ≡ [])
+CMeets (osc-look table index) told more after = TellsLooked table index told × (more ≡ 0) × (after ≡ [])
+CMeets (osc-start table bytes index) told more after = TellsStarted table index told × (more ≡ 0) × (after ≡ [])
 
 -- the refusals that document 01 has for the call, in the order in which they are given
 abbrev pub cRefusals : CCall → List ℕ
@@ -71,20 +72,25 @@ CAnswered (osc-pad pos) told = told % 4 ≡ 0
 CAnswered (osc-look table index) told = told < 256
 CAnswered (osc-start table bytes index) told = told < 0x1_0000_0000
 
--- how a call ends: an answer is told; or a refusal that document 01 lists for the call, and every lent byte is as before
-pub data CEnds (c : CCall) (told : ℕ) (after : List ℕ) : Type 0 where
-  told-answer : CAnswered c told → CEnds c told after
-  told-refusal : (n : ℕ) → among n (cRefusals c) ≡ true → told ≡ cRefused c n → after ≡ cLent c → CEnds c told after
+-- what is told beside the refusal with number n: an offset in bits 32 to 47, and with every number but 17 to 21 nothing
+abbrev pub Beside : ℕ → ℕ → Type 0
+Beside n more = (more ≡ offsetIn more * 0x1_0000_0000) × (n ≤ 16 → more ≡ 0)
 
--- a contract settles the number that is told and every lent byte: no second outcome meets it
+-- how a call ends: an answer is told, and nothing beside it; or a refusal that document 01 lists for the call, and every lent byte is as
+-- before
+pub data CEnds (c : CCall) (told more : ℕ) (after : List ℕ) : Type 0 where
+  told-answer : CAnswered c told → more ≡ 0 → CEnds c told more after
+  told-refusal : (n : ℕ) → among n (cRefusals c) ≡ true → told ≡ cRefused c n → Beside n more → after ≡ cLent c → CEnds c told more after
+
+-- a contract settles the number that is told, what is told beside it and every lent byte: no second outcome meets it
 abbrev pub CSettled : Type 0
 CSettled =
-    (c : CCall) (told told′ : ℕ) (after after′ : List ℕ) → CMeets c told after → CMeets c told′ after′
-    → (told ≡ told′) × (after ≡ after′)
+    (c : CCall) (told told′ more more′ : ℕ) (after after′ : List ℕ) → CMeets c told more after → CMeets c told′ more′ after′
+    → (told ≡ told′) × (more ≡ more′) × (after ≡ after′)
 
 -- demand 1 for the nine functions: whatever meets the contract ends so
 abbrev pub EndsListed : Type 0
-EndsListed = (c : CCall) (told : ℕ) (after : List ℕ) → CMeets c told after → CEnds c told after
+EndsListed = (c : CCall) (told more : ℕ) (after : List ℕ) → CMeets c told more after → CEnds c told more after
 
 -- and no refusal of a call is told as an answer of it is
 abbrev pub ToldApart : Type 0
@@ -110,11 +116,20 @@ Answerable framing (decodes.Packets count left) = fewest framing ≤ count
 Answerable framing decodes.Waiting = Waits framing
 Answerable framing (decodes.Refused r) = Unit {0}
 
--- a decoder does not tell two answers to as many bytes by one number
+-- a decoder does not tell two answers to as many bytes by one number and one offset beside it
 abbrev pub ToldOnce : Type 0
 ToldOnce =
-    (framing : Framing) (msg msg′ table table′ : List ℕ) (depth depth′ told : ℕ) (after after′ : List ℕ)
+    (framing : Framing) (msg msg′ table table′ : List ℕ) (depth depth′ told more : ℕ) (after after′ : List ℕ)
     → length msg ≡ length msg′
-    → (t : TellsDecoded (ruleOf framing) msg table depth told after)
-    → (t′ : TellsDecoded (ruleOf framing) msg′ table′ depth′ told after′)
+    → (t : TellsDecoded (ruleOf framing) msg table depth told more after)
+    → (t′ : TellsDecoded (ruleOf framing) msg′ table′ depth′ told more after′)
+    → t .answer ≡ t′ .answer
+
+-- nor by one number alone, but where it is a refusal from 17 on
+abbrev pub ToldAlone : Type 0
+ToldAlone =
+    (framing : Framing) (msg msg′ table table′ : List ℕ) (depth depth′ told more more′ : ℕ) (after after′ : List ℕ)
+    → length msg ≡ length msg′ → refusalIn told ≤ 16
+    → (t : TellsDecoded (ruleOf framing) msg table depth told more after)
+    → (t′ : TellsDecoded (ruleOf framing) msg′ table′ depth′ told more′ after′)
     → t .answer ≡ t′ .answer

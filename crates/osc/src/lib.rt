@@ -10,7 +10,7 @@ use wire::Padded;
 ghost use mathlib.Core.Path.{_≡_};
 ghost use Rattle.totals.specs.Framing.{udp, tcp, tcpVec, ruleOf};
 ghost use Rattle.encoder.specs.Outcome.{unframed, prefixed, Encodes, EncodesString};
-ghost use Rattle.osc.specs.Answers.{refusalNumber, decodedNumber, Fits, TellsDecoded, encodedNumber, Tells};
+ghost use Rattle.osc.specs.Answers.{refusalNumber, decodedNumber, moreNumber, Fits, TellsDecoded, encodedNumber, Tells};
 ghost use Rattle.osc.specs.Answers.{TellsPadded, TellsLooked, TellsStarted};
 
 // A refusal's number, in bits 56 to 63.
@@ -32,6 +32,18 @@ fn decoded_number(answer: Decoded, len: usize) -> u64
     }
 }
 
+// What a decoder tells beside it: the offset of a field that was short, in bits 32 to 47.
+fn more_number(answer: Decoded, len: usize) -> u64
+    requires { ⌜ Fits len answer ⌝ }
+    ensures { λ r. ⌜ r ≡ moreNumber answer ⌝ }
+{
+    match answer {
+        Decoded::Packets { count: _, left: _ } => 0,
+        Decoded::Waiting => 0,
+        Decoded::Refused(refusal) => refusal::offset_of(refusal) as u64 * 0x1_0000_0000,
+    }
+}
+
 // An encoder's answer.
 fn encoded_number(answer: Encoded) -> u64
     ensures { λ r. ⌜ r ≡ encodedNumber answer ⌝ }
@@ -42,44 +54,50 @@ fn encoded_number(answer: Encoded) -> u64
     }
 }
 
-// A decoder by its framing, told as a number.
-fn decode(framing: Framing, msg: &[u8], table: &mut [u8], depth: u64) -> u64
-    ensures { λ r. ⌜ TellsDecoded (ruleOf framing) (now (msg .entry)) (now (table .entry)) depth r (now (table .exit)) ⌝ }
+// A decoder by its framing, told as a number, and what is told beside it.
+fn decode(framing: Framing, msg: &[u8], table: &mut [u8], depth: u64, more: &mut u64) -> u64
+    ensures { λ r.
+        ⌜ TellsDecoded (ruleOf framing) (now (msg .entry)) (now (table .entry)) depth r (now (more .exit)) (now (table .exit)) ⌝ }
 {
-    decoded_number(
-        decoder::decode(framing, msg, table, depth as usize),
-        msg.len(),
-    )
+    let answer = decoder::decode(framing, msg, table, depth as usize);
+    *more = more_number(answer, msg.len());
+    decoded_number(answer, msg.len())
 }
 
-// `decode_udp`: the count in bits 32 to 55 and the bytes left in bits 0 to 31, or the refusal's number in bits 56 to 63.
+// `decode_udp`: the count in bits 32 to 55 and the bytes left in bits 0 to 31, or the refusal's number in bits 56 to 63. `more` is written
+// always: where a field was short (17 to 21) its offset in bits 32 to 47, and 0 otherwise.
 //
 // Ruled out: a refusal told in the bits of the bytes left; a byte of the table changed where a refusal is told.
 #[no_mangle]
-pub extern "C" fn osc_decode_udp(msg: &[u8], table: &mut [u8], depth: u64) -> u64
-    ensures { λ r. ⌜ TellsDecoded udp (now (msg .entry)) (now (table .entry)) depth r (now (table .exit)) ⌝ }
+pub extern "C" fn osc_decode_udp(msg: &[u8], table: &mut [u8], depth: u64, more: &mut u64) -> u64
+    ensures { λ r. ⌜ TellsDecoded udp (now (msg .entry)) (now (table .entry)) depth r (now (more .exit)) (now (table .exit)) ⌝ }
 {
-    decode(Framing::Udp, msg, table, depth)
+    decode(Framing::Udp, msg, table, depth, more)
 }
 
 // `decode_tcp`, told in the same way; Waiting is count 0 with the whole input left, since no other answer of it has 0 records.
 //
 // Ruled out: Waiting told as 0 bytes left; as many left as the table has bytes.
 #[no_mangle]
-pub extern "C" fn osc_decode_tcp(msg: &[u8], table: &mut [u8], depth: u64) -> u64
-    ensures { λ r. ⌜ TellsDecoded tcp (now (msg .entry)) (now (table .entry)) depth r (now (table .exit)) ⌝ }
+pub extern "C" fn osc_decode_tcp(msg: &[u8], table: &mut [u8], depth: u64, more: &mut u64) -> u64
+    ensures { λ r. ⌜ TellsDecoded tcp (now (msg .entry)) (now (table .entry)) depth r (now (more .exit)) (now (table .exit)) ⌝ }
 {
-    decode(Framing::Tcp, msg, table, depth)
+    decode(Framing::Tcp, msg, table, depth, more)
 }
 
 // `decode_tcp_vec`, told in the same way; it never waits, and count 0 with the whole input left is a list of no packets.
 //
 // Ruled out: the first packet of the list alone; the depth limit cut to 32 bits, so that 2^32 passes for 0.
 #[no_mangle]
-pub extern "C" fn osc_decode_tcp_vec(msg: &[u8], table: &mut [u8], depth: u64) -> u64
-    ensures { λ r. ⌜ TellsDecoded tcpVec (now (msg .entry)) (now (table .entry)) depth r (now (table .exit)) ⌝ }
+pub extern "C" fn osc_decode_tcp_vec(
+    msg: &[u8],
+    table: &mut [u8],
+    depth: u64,
+    more: &mut u64,
+) -> u64
+    ensures { λ r. ⌜ TellsDecoded tcpVec (now (msg .entry)) (now (table .entry)) depth r (now (more .exit)) (now (table .exit)) ⌝ }
 {
-    decode(Framing::TcpVec, msg, table, depth)
+    decode(Framing::TcpVec, msg, table, depth, more)
 }
 
 // `encode`: the bytes written in bits 0 to 31, or the refusal's number in bits 56 to 63.

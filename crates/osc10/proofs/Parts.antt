@@ -125,10 +125,10 @@ module _ (s : List ℕ) (base : ℕ) where
       ∙ simp (length-append, length-bytes, length-replicate) (omega arith) in
       let k = length-append bs more in
       let x : n ≡ number 4 (bs ++ more) = rw e (sym (read-written 4 n _ (omega arith))) in
-      let r : (p + 4 + n + 3) / 4 * 4 - p ≡ length bs = omega (arith, w .few, w .multiple) in
+      let r : (p + (4 + n) + 3) / 4 * 4 - p ≡ length bs = omega (arith, w .few, w .multiple) in
       record {
         item = argItem 98 (base + p + 4 - 4) (base + p + 4) n;
-        given = rw r at (blob-given (bs ++ more) 98 base p (omega arith) x (omega arith));
+        given = rw r at (blob-given (bs ++ more) 98 base p (omega arith) x (omega arith) (omega arith));
         is = record { kind = refl; numbers = range-at (blob-at w at) };
       }
   atom-read (as-char {x = x}) h more p z at low =

@@ -6,7 +6,8 @@ use native.Mathlib.Omega.{arith}
 use borrow.Author.Tests.{le-leb, lt-leb}
 use lib.ListN.{length, take, drop, length-drop}
 use Rattle.refusal.specs.declared.Fault.{Fault}
-use Rattle.refusal.specs.declared.Fault.the-variants.{RunsOut}
+use Rattle.refusal.specs.declared.Fault.the-variants.{Short}
+use Rattle.refusal.specs.declared.Field.the-variants.{Head}
 use Rattle.wire.proofs.Parts.{tail}
 use Rattle.node.specs.Forest.{Forest, nil, node, size}
 use Rattle.node.specs.declared.record.Item.{Item}
@@ -24,7 +25,7 @@ contents base l p = readElements base (drop 8 l) (p + 8)
 
 module _ (base start : ℕ) (l : List ℕ) (p : ℕ) where
   -- a bundle without its time tag
-  pub bundle-short : length l < 8 → readBundle base start l p ≡ fault RunsOut
+  pub bundle-short : length l < 8 → readBundle base start l p ≡ fault (Short Head p)
   unfolding readBundle bundleBy
   bundle-short h = rw (bundleBy, lt-leb 8 (length l) h)
 

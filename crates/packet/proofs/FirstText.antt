@@ -11,9 +11,10 @@ use lib.Dec.{eqb}
 use lib.ListN.{length, getD, take, drop, drop-of-length-le}
 use lib.Seq.{drop-cons}
 use Rattle.refusal.specs.declared.Fault.the-variants as faults
+use Rattle.refusal.specs.declared.Field.the-variants.{Address}
 use Rattle.wire.proofs.Choices.{by-test}
 use Rattle.node.specs.Tags.{messageKind}
-use Rattle.text.specs.Text.{readText, faultOf}
+use Rattle.text.specs.Text.{readText, faultIn}
 use Rattle.text.specs.declared.Text.{Text}
 use Rattle.text.specs.declared.Text.the-variants.{Found, Lacks}
 use Rattle.text.specs.declared.Lack.{Lack}
@@ -32,13 +33,13 @@ module _ (l : List ℕ) (p : ℕ) where
   start-empty h = rw (eq-eqb (length l) 0 h)
 
   module _ (h : length l ≡ 0 → ⊥) where
-    start-text : startBy l (readText l p) ≡ startOf l p
+    start-text : startBy l p (readText l p) ≡ startOf l p
     unfolding startOf
     start-text = rw (startOf, ne-eqb (length l) 0 h)
 
     -- a first text that is lacking is the packet's refusal
-    pub start-lacks : {k : Lack} → Lacks k ≡ readText l p → Refused (faultOf k) ≡ startOf l p
-    start-lacks e = ap (startBy l) e ∙ start-text
+    pub start-lacks : {k : Lack} → Lacks k ≡ readText l p → Refused (faultIn Address p k) ≡ startOf l p
+    start-lacks e = ap (startBy l p) e ∙ start-text
 
     module _ {n used : ℕ} (e : Found n used ≡ readText l p) where
       -- a text that a '/' leads is an address
@@ -64,7 +65,7 @@ pub start-within : (l : List ℕ) (p : ℕ) → StartIn (length l) (startOf l p)
 unfolding startOf
 start-within l p = by-test (StartIn (length l)) (eqb (length l) 0) (λ _. tt) (λ _. by-found (readText l p) refl)
   where
-    by-found : (t : Text) → t ≡ readText l p → StartIn (length l) (startBy l t)
+    by-found : (t : Text) → t ≡ readText l p → StartIn (length l) (startBy l p t)
     by-found (Lacks k) e = tt
     by-found (Found n used) e =
         let w = found-in l p e in

@@ -8,7 +8,8 @@ use native.Mathlib.Omega.{arith}
 use lib.Dec.{leb}
 use lib.ListN.{length, take, drop, length-drop, length-take}
 use Rattle.refusal.specs.declared.Fault.{Fault}
-use Rattle.refusal.specs.declared.Fault.the-variants.{RunsOut}
+use Rattle.refusal.specs.declared.Fault.the-variants.{Short}
+use Rattle.refusal.specs.declared.Field.the-variants.{Head}
 use Rattle.heads.specs.Heads.{sizeOf, messageItem, bundleItem}
 use Rattle.packet.specs.FirstText.{startOf}
 use Rattle.packet.specs.Packet.{Out, fault, one, Elements, after, readMessage, bundleWith, bundleBy}
@@ -30,7 +31,7 @@ bundle-cong : (start : ℕ) (es es' : List ℕ → ℕ → Elements) (l : List �
     → bundleBy start es l p ≡ bundleBy start es' l p
 unfolding bundleBy
 bundle-cong start es es' l p e =
-    ap (λ (k : Elements). cond (leb 8 (length l)) (bundleWith (bundleItem start l) k) (fault RunsOut)) e
+    ap (λ (k : Elements). cond (leb 8 (length l)) (bundleWith (bundleItem start l) k) (fault (Short Head p))) e
 
 held-cong : (pk pk' : List ℕ → ℕ → Out) (l : List ℕ) (p : ℕ) (s : ElementSize) → Agree pk pk' l → heldBy pk l p s ≡ heldBy pk' l p s
 held-cong pk pk' l p (size.Holds n) h = ap (filling n) (h _ _ (omega (arith, length-take n (drop 4 l), length-drop 4 l)))
@@ -140,6 +141,6 @@ module _ (base : ℕ) where
     element-holds e = ap (heldBy (λ m q. readPacket base m q) l p) (sym e)
 
     -- an element that is not all there
-    pub element-runs-out : size.RunsOut ≡ sizeOf l → readElement base l p ≡ fault RunsOut
+    pub element-runs-out : size.RunsOut ≡ sizeOf l → readElement base l p ≡ fault (Short Head p)
     unfolding readElement elementBy
     element-runs-out e = ap (heldBy (λ m q. readPacket base m q) l p) (sym e)

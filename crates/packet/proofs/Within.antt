@@ -5,9 +5,10 @@ use Prim.Native.Nat.{ℕ, zero, suc, _+_, _-_, _<_, _≤_}
 use native.Mathlib.Omega.{arith}
 use lib.ListN.{length, take, drop, length-drop, length-take}
 use Rattle.wire.proofs.Choices.{by-le}
+use Rattle.refusal.specs.declared.Field.the-variants.{TypeText}
 use Rattle.node.specs.Forest.{Forest, size}
 use Rattle.node.specs.declared.record.Item.{Item}
-use Rattle.text.specs.Text.{readText, faultOf}
+use Rattle.text.specs.Text.{readText, faultIn}
 use Rattle.text.specs.declared.Text.{Text}
 use Rattle.text.specs.declared.Text.the-variants.{Found, Lacks}
 use Rattle.text.specs.declared.Lack.{Lack}
@@ -59,7 +60,7 @@ module _ (base : ℕ) (item : Item) (l : List ℕ) (p : ℕ) where
   types-found e = sym (ap (typesThen base item l p) e)
 
   -- a message whose type text is lacking
-  pub types-lack : {k : Lack} → Lacks k ≡ readText l p → readMessage base item l p ≡ fault (faultOf k)
+  pub types-lack : {k : Lack} → Lacks k ≡ readText l p → readMessage base item l p ≡ fault (faultIn TypeText p k)
   unfolding readMessage
   types-lack e = sym (ap (typesThen base item l p) e)
 

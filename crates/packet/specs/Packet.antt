@@ -7,10 +7,11 @@ use Prim.Native.Nat.{ℕ, zero, suc, _+_}
 use lib.Dec.{leb}
 use lib.ListN.{length, take, drop}
 use Rattle.refusal.specs.declared.Fault.{Fault}
-use Rattle.refusal.specs.declared.Fault.the-variants.{Empty, RunsOut}
+use Rattle.refusal.specs.declared.Fault.the-variants.{Empty, Short}
+use Rattle.refusal.specs.declared.Field.the-variants.{TypeText, Head}
 use Rattle.node.specs.Forest.{Forest, nil, node}
 use Rattle.node.specs.declared.record.Item.{Item}
-use Rattle.text.specs.Text.{readText, faultOf}
+use Rattle.text.specs.Text.{readText, faultIn}
 use Rattle.text.specs.declared.Text.{Text}
 use Rattle.text.specs.declared.Text.the-variants.{Found, Lacks}
 use Rattle.arguments.specs.Arguments.{Args, refused, args, readArgs}
@@ -44,7 +45,7 @@ messageWith item (args kept used) = one item kept used
 
 -- the type text, then the data
 abbrev pub typesThen : ℕ → Item → List ℕ → ℕ → Text → Out
-typesThen base item l p (Lacks lack) = fault (faultOf lack)
+typesThen base item l p (Lacks lack) = fault (faultIn TypeText p lack)
 typesThen base item l p (Found m used) = after used (messageWith item (readArgs base (tagsIn (take m l)) (drop used l) (p + used)))
 
 -- what follows the address of the message with these own numbers
@@ -59,7 +60,7 @@ bundleWith item (upto inside used) = one item inside (8 + used)
 
 -- what follows the "#bundle" at offset `start`: an 8-byte time tag, then elements
 unfoldable pub bundleBy : ℕ → (List ℕ → ℕ → Elements) → List ℕ → ℕ → Out
-bundleBy start elements l p = cond (leb 8 (length l)) (bundleWith (bundleItem start l) (elements (drop 8 l) (p + 8))) (fault RunsOut)
+bundleBy start elements l p = cond (leb 8 (length l)) (bundleWith (bundleItem start l) (elements (drop 8 l) (p + 8))) (fault (Short Head p))
 
 -- an element's packet: it takes the whole element, and bytes left inside are dropped
 abbrev pub filling : ℕ → Out → Out
@@ -69,7 +70,7 @@ filling n (one item inside used) = one item inside n
 -- the bytes of an element hold one packet
 abbrev pub heldBy : (List ℕ → ℕ → Out) → List ℕ → ℕ → ElementSize → Out
 heldBy packet l p (size.Holds n) = filling n (packet (take n (drop 4 l)) (p + 4))
-heldBy packet l p size.RunsOut = fault RunsOut
+heldBy packet l p size.RunsOut = fault (Short Head p)
 
 -- an element: a size and that many bytes; `used` is the size
 unfoldable pub elementBy : (List ℕ → ℕ → Out) → List ℕ → ℕ → Out

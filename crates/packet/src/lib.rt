@@ -1,6 +1,7 @@
 // What a packet starts with. Packets, bundles and elements are definitions here (specs/Packet.antt): `measure` and `fill` read by them.
 use node::tags::MESSAGE;
 use refusal::Fault;
+use refusal::Field;
 use text::Text;
 ghost use mathlib.Core.Path.{_≡_};
 ghost use Prim.Native.Nat.{_+_, _≤_};
@@ -55,6 +56,6 @@ pub fn read_start(input: &[u8], pos: usize) -> Start
             }
             Start::Refused(Fault::BadStart)
         }
-        Text::Lacks(lack) => Start::Refused(text::fault_of(lack)),
+        Text::Lacks(lack) => Start::Refused(text::fault_in(Field::Address, pos, lack)),
     }
 }

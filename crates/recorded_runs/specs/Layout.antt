@@ -20,7 +20,7 @@ abbrev pub EndIn : List ℕ → ℕ → End → Type 0
 EndIn s at (At e) = Ends s at e
 EndIn s at Damaged = Unit
 
--- a case at the front of s: the operation, 8 bytes of number, 4 of room, two slices, 8 bytes of answer and the bytes written
+-- a case at the front of s: the operation, 8 bytes of number, 4 of room, two slices, 8 bytes of answer, 8 beside it and the bytes written
 pub record Laid (s : List ℕ) (c : Case) : Type 0 where
   pub operation : c .operation ≡ getD s 0 0
   pub known : c .operation < 9
@@ -30,7 +30,8 @@ pub record Laid (s : List ℕ) (c : Case) : Type 0 where
   pub first : Ends s 13 (c .first)
   pub second : Ends s (c .first) (c .second)
   pub due : c .due ≡ be 8 (drop (c .second) s)
-  pub written : Ends s (c .second + 8) (c .end)
+  pub more : c .more ≡ be 8 (drop (c .second + 8) s)
+  pub written : Ends s (c .second + 16) (c .end)
 
 -- a case that was found; nothing is said where there is none
 abbrev pub CaseIn : List ℕ → Found → Type 0

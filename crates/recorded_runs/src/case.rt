@@ -9,7 +9,8 @@ pub enum End {
     Damaged,
 }
 
-// A case: its first slice starts at 17, its second 4 after the first, and the bytes due 12 after the second.
+// A case: its first slice starts at 17, its second 4 after the first, and the bytes due 20 after the second. `more` is what a decoder
+// is to say beside its answer.
 pub struct Case {
     pub operation: u8,
     pub number: u64,
@@ -17,6 +18,7 @@ pub struct Case {
     pub first: usize,
     pub second: usize,
     pub due: u64,
+    pub more: u64,
     pub end: usize,
 }
 
@@ -58,10 +60,10 @@ pub fn find(s: &[u8]) -> Found
     let End::At(second) = end_of(s, first, 4096) else {
         return Found::Broken;
     };
-    if s.len() - second < 8 {
+    if s.len() - second < 16 {
         return Found::Broken;
     }
-    let End::At(end) = end_of(s, second + 8, 65536) else {
+    let End::At(end) = end_of(s, second + 16, 65536) else {
         return Found::Broken;
     };
     let operation = s[0];
@@ -79,6 +81,7 @@ pub fn find(s: &[u8]) -> Found
         first,
         second,
         due: be_u64(s, second),
+        more: be_u64(s, second + 8),
         end,
     })
 }

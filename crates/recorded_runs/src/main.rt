@@ -1,8 +1,8 @@
 // Replays the recorded answers of `answers.bin` through the C boundary, and says what was answered, how many there are and which differ.
 //
 // The file is a sequence of cases, its numbers big-endian: operation (1 byte), number (8), room (4), first slice (length in 4
-// bytes, and the bytes), second slice (the same), answer due (8), bytes due at the front of the buffer (as a slice). A program
-// has no exit status, so the last line is `N answers, 0 differences` just where the file is whole and no case differs.
+// bytes, and the bytes), second slice (the same), answer due (8), what is due beside it (8), bytes due at the front of the buffer (as a
+// slice). A program has no exit status, so the last line is `N answers, 0 differences` just where the file is whole and no case differs.
 mod case; // case.rt: the layout of a case
 mod replay; // replay.rt: the call of a case, and whether it leaves what is due
 mod tell; // tell.rt: what is said of the cases
@@ -15,17 +15,17 @@ ghost use Prim.Native.Nat.{_≤_, _<_};
 ghost use lib.ListN.{length};
 ghost use mathlib.Core.Path.{_≡_};
 
-// The tally: for each of the 9 operations, 18 counts, one for each answer (given, waiting, refused with 0 to 15); then the answers, those
+// The tally: for each of the 9 operations, 24 counts, one for each answer (given, waiting, refused with 0 to 21); then the answers, those
 // that differ, and the sums of what was answered and of what was lent.
-type Tally = [u64; 166];
+type Tally = [u64; 220];
 
-const ANSWERS: usize = 162;
+const ANSWERS: usize = 216;
 
-const DIFFERENCES: usize = 163;
+const DIFFERENCES: usize = 217;
 
-const ANSWERED: usize = 164;
+const ANSWERED: usize = 218;
 
-const LENT: usize = 165;
+const LENT: usize = 219;
 
 // Room for a file of 1,048,576 bytes and one more, which tells that a file is longer.
 fn file_space() -> [u8; 1048577]
@@ -34,17 +34,17 @@ fn file_space() -> [u8; 1048577]
     [0; 1048577]
 }
 
-// The place of an answer among the 18 of its operation. A refusal stands in bits 56 to 63, but for `pad`, whose 14 is no multiple of 4;
+// The place of an answer among the 24 of its operation. A refusal stands in bits 56 to 63, but for `pad`, whose 14 is no multiple of 4;
 // `decode_tcp` waits where its count, in bits 32 to 55, is 0.
 fn place(operation: u8, answer: u64) -> usize
-    ensures { λ r. ⌜ r < 18 ⌝ }
+    ensures { λ r. ⌜ r < 24 ⌝ }
 {
     if operation == 6 {
         return if answer == 14 { 16 } else { 0 };
     }
     let refusal = answer / 0x100_0000_0000_0000;
     if 0 < refusal {
-        return 2 + (refusal % 16) as usize;
+        return 2 + (refusal % 22) as usize;
     }
     if operation == 1 && answer < 0x1_0000_0000 {
         return 1;
@@ -54,7 +54,7 @@ fn place(operation: u8, answer: u64) -> usize
 
 // Adds to a sum of the tally.
 fn add_sum(tally: &mut Tally, at: usize, sum: u64)
-    requires { ⌜ at < 166 ⌝ }
+    requires { ⌜ at < 220 ⌝ }
 {
     tally[at] = std::num::wrapping_add_u64(tally[at], sum);
 }
@@ -71,7 +71,7 @@ fn judge(tally: &mut Tally, operation: u8, met: Met)
 {
     add(
         tally,
-        18 * operation as usize + place(operation, met.answer),
+        24 * operation as usize + place(operation, met.answer),
     );
     add(tally, ANSWERS);
     add_sum(tally, ANSWERED, met.answer);
@@ -132,7 +132,7 @@ fn say_all(tally: &Tally) {
 
 // Replays a file, and says what came of it.
 fn report(file: &[u8]) {
-    let mut tally = [0u64; 166];
+    let mut tally = [0u64; 220];
     let end = replay_all(file, &mut tally);
     say_all(&tally);
     fault(file.len(), end, tally[ANSWERS]);

@@ -8,6 +8,7 @@ ghost use Rattle.recorded_runs.specs.Compared.{Compared};
 pub enum Outcome {
     Right,
     OtherAnswer,
+    OtherField,
     OtherBytes,
     LaterByte,
 }
@@ -19,12 +20,19 @@ pub struct Met {
     pub outcome: Outcome,
 }
 
-// Makes the call of an operation.
-fn answer(operation: u8, number: u64, first: &[u8], second: &[u8], out: &mut [u8]) -> u64 {
+// Makes the call of an operation. A decoder says more beside its answer.
+fn answer(
+    operation: u8,
+    number: u64,
+    first: &[u8],
+    second: &[u8],
+    out: &mut [u8],
+    more: &mut u64,
+) -> u64 {
     match operation {
-        0 => osc::osc_decode_udp(first, out, number),
-        1 => osc::osc_decode_tcp(first, out, number),
-        2 => osc::osc_decode_tcp_vec(first, out, number),
+        0 => osc::osc_decode_udp(first, out, number, more),
+        1 => osc::osc_decode_tcp(first, out, number, more),
+        2 => osc::osc_decode_tcp_vec(first, out, number, more),
         3 => osc::osc_encode(first, number, second, out),
         4 => osc::osc_encode_tcp(first, number, second, out),
         5 => osc::osc_encode_string(first, out),
@@ -34,14 +42,17 @@ fn answer(operation: u8, number: u64, first: &[u8], second: &[u8], out: &mut [u8
     }
 }
 
-// Compares an answer and what the call left in the buffer with what is due.
+// Compares an answer, what is said beside it and what the call left in the buffer with what is due.
 //
-// Ruled out: a case that is right where a later byte is changed; one that is right where the bytes written differ.
-fn compare(answer: u64, due: u64, out: &[u8], written: &[u8]) -> Outcome
-    ensures { λ r. ⌜ Compared answer due (now (out .entry)) (now (written .entry)) r ⌝ }
+// Ruled out: a case that is right where a later byte is changed; one that is right where another field is said to be short.
+fn compare(answer: u64, due: u64, more: u64, field: u64, out: &[u8], written: &[u8]) -> Outcome
+    ensures { λ r. ⌜ Compared answer due more field (now (out .entry)) (now (written .entry)) r ⌝ }
 {
     if answer != due {
         return Outcome::OtherAnswer;
+    }
+    if more != field {
+        return Outcome::OtherField;
     }
     if !runs::begins(out, written) {
         return Outcome::OtherBytes;
@@ -59,6 +70,7 @@ fn replay_in(s: &[u8], case: Case, out: &mut [u8]) -> Met
     let first = case.first;
     let second = case.second;
     let end = case.end;
+    let mut more = 0u64;
     runs::fill(out);
     let answered = answer(
         case.operation,
@@ -66,8 +78,16 @@ fn replay_in(s: &[u8], case: Case, out: &mut [u8]) -> Met
         &s[17..first],
         &s[first + 4..second],
         out,
+        &mut more,
     );
-    let outcome = compare(answered, case.due, out, &s[second + 12..end]);
+    let outcome = compare(
+        answered,
+        case.due,
+        more,
+        case.more,
+        out,
+        &s[second + 20..end],
+    );
     Met {
         answer: answered,
         sum: runs::sum_of(out),

@@ -21,6 +21,7 @@ fn what(outcome: Outcome) {
     match outcome {
         Outcome::Right => false,
         Outcome::OtherAnswer => io::write_all(1, b"the answer differs"),
+        Outcome::OtherField => io::write_all(1, b"what is said beside the answer differs"),
         Outcome::OtherBytes => io::write_all(1, b"the bytes written differ"),
         Outcome::LaterByte => io::write_all(1, b"a later byte is changed"),
     }
@@ -39,16 +40,16 @@ pub fn difference(number: u64, operation: u8, outcome: Outcome) {
 
 // Says how often an operation gave each answer.
 fn count(operation: u8, tally: &[u64])
-    requires { ⌜ (operation < 9) × (162 ≤ length (now tally)) ⌝ }
+    requires { ⌜ (operation < 9) × (216 ≤ length (now tally)) ⌝ }
 {
     name(operation);
-    let from = 18 * operation as usize;
-    say_met(b"given waiting", &tally[from..from + 18]);
+    let from = 24 * operation as usize;
+    say_met(b"given waiting", &tally[from..from + 24]);
 }
 
 // Says it of every operation.
 pub fn counts(tally: &[u64])
-    requires { ⌜ 162 ≤ length (now tally) ⌝ }
+    requires { ⌜ 216 ≤ length (now tally) ⌝ }
 {
     let mut operation = 0;
     while operation < 9 {

@@ -1,15 +1,26 @@
--- The numbers of document 01's "Refusal numbers", one to each case.
-use Prim.Native.Nat.{ℕ}
+-- The numbers of document 01's "Refusal numbers", one to each case; 3 is five, by what was short, with the offset at which that field
+-- began (document 02, Ticket 2).
+use Prim.Native.Nat.{ℕ, _+_}
+use Rattle.refusal.specs.declared.Field.{Field}
+use Rattle.refusal.specs.declared.Field.the-variants.{Address, TypeText, Data, Padding, Head}
 use Rattle.refusal.specs.declared.Fault.{Fault}
-use Rattle.refusal.specs.declared.Fault.the-variants.{Empty, RunsOut, NotUtf8, BadStart, NotOpen, UnknownTag, NotScalar}
+use Rattle.refusal.specs.declared.Fault.the-variants.{Empty, Short, NotUtf8, BadStart, NotOpen, UnknownTag, NotScalar}
 use Rattle.refusal.specs.declared.Refusal.{Refusal}
 use Rattle.refusal.specs.declared.Refusal.the-variants.{TooLong, Unreadable, TooDeep, TableFull, BadTable, OutputShort, DepthLimit}
 use Rattle.refusal.specs.declared.Refusal.the-variants.{PadOverflow}
 
--- the refusals that bytes alone give: 2 to 8, in the table's order
+-- what was short: "17 address, 18 type text, 19 argument data, 20 padding, 21 prefix or a bundle's time tag"
+abbrev pub fieldNumber : Field → ℕ
+fieldNumber Address = 17
+fieldNumber TypeText = 18
+fieldNumber Data = 19
+fieldNumber Padding = 20
+fieldNumber Head = 21
+
+-- the refusals that bytes alone give: 2, 17 to 21 in the place of 3, and 4 to 8
 abbrev pub faultNumber : Fault → ℕ
 faultNumber Empty = 2
-faultNumber RunsOut = 3
+faultNumber (Short field at) = fieldNumber field
 faultNumber NotUtf8 = 4
 faultNumber BadStart = 5
 faultNumber NotOpen = 6
@@ -26,3 +37,34 @@ numberOf BadTable = 11
 numberOf OutputShort = 12
 numberOf DepthLimit = 13
 numberOf PadOverflow = 14
+
+-- "the offset at which that field began"; no other fault has one
+abbrev pub faultOffset : Fault → ℕ
+faultOffset Empty = 0
+faultOffset (Short field at) = at
+faultOffset NotUtf8 = 0
+faultOffset BadStart = 0
+faultOffset NotOpen = 0
+faultOffset UnknownTag = 0
+faultOffset NotScalar = 0
+
+-- the offset that is told with a refusal's number
+abbrev pub offsetOf : Refusal → ℕ
+offsetOf TooLong = 0
+offsetOf (Unreadable fault) = faultOffset fault
+offsetOf TooDeep = 0
+offsetOf TableFull = 0
+offsetOf BadTable = 0
+offsetOf OutputShort = 0
+offsetOf DepthLimit = 0
+offsetOf PadOverflow = 0
+
+-- the fault of a part that begins so many bytes further on: its field begins there
+abbrev pub movedBy : ℕ → Fault → Fault
+movedBy by Empty = Empty
+movedBy by (Short field at) = Short field (by + at)
+movedBy by NotUtf8 = NotUtf8
+movedBy by BadStart = BadStart
+movedBy by NotOpen = NotOpen
+movedBy by UnknownTag = UnknownTag
+movedBy by NotScalar = NotScalar

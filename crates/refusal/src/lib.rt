@@ -1,13 +1,29 @@
-// The refusals of document 01, in place of rosc's errors.rs: ours are numbered, and say nothing else.
+// The refusals of document 01, in place of rosc's errors.rs: ours are numbered, and say nothing else but, of a field that was short, where
+// it began (Ticket 2).
 ghost use mathlib.Core.Path.{_≡_};
-ghost use Rattle.refusal.specs.Refusal.{numberOf, faultNumber};
+ghost use Prim.Native.Nat.{_+_, _^_, _<_};
+ghost use Rattle.refusal.specs.Refusal.{numberOf, faultNumber, fieldNumber, offsetOf, faultOffset, movedBy};
+
+// What was short.
+pub enum Field {
+    // The address of a message, or a first text that is not known yet to be "#bundle".
+    Address,
+    // The type text of a message.
+    TypeText,
+    // The data of an argument, a blob's with its size.
+    Data,
+    // The padding after a text or a blob.
+    Padding,
+    // The prefix of a frame, or the time tag of a bundle.
+    Head,
+}
 
 // Why bytes are not a packet. Reading gives no other refusal.
 pub enum Fault {
     // A packet of no bytes.
     Empty,
-    // A field, NUL, padding or TCP prefix runs past the bytes there.
-    RunsOut,
+    // A field runs past the bytes there, NUL included; it begins at `at`.
+    Short { field: Field, at: usize },
     // Text is not UTF-8.
     NotUtf8,
     // The first string is neither '/'-led nor exactly "#bundle".
@@ -58,17 +74,81 @@ pub fn number_of(refusal: Refusal) -> u8
     }
 }
 
-// The number of a fault: the refusals 2 to 8.
+// The number of a fault: the refusals 2, 4 to 8, and 17 to 21.
 fn fault_number(fault: Fault) -> u8
     ensures { λ r. ⌜ r ≡ faultNumber fault ⌝ }
 {
     match fault {
         Fault::Empty => 2,
-        Fault::RunsOut => 3,
+        Fault::Short { field, at: _ } => field_number(field),
         Fault::NotUtf8 => 4,
         Fault::BadStart => 5,
         Fault::NotOpen => 6,
         Fault::UnknownTag => 7,
         Fault::NotScalar => 8,
+    }
+}
+
+// The number of a field that was short.
+fn field_number(field: Field) -> u8
+    ensures { λ r. ⌜ r ≡ fieldNumber field ⌝ }
+{
+    match field {
+        Field::Address => 17,
+        Field::TypeText => 18,
+        Field::Data => 19,
+        Field::Padding => 20,
+        Field::Head => 21,
+    }
+}
+
+// Where the field began that was short; 0 of every other refusal.
+//
+// Ruled out: the end of the field; another number than 0 for a refusal that tells its number only.
+pub fn offset_of(refusal: Refusal) -> usize
+    ensures { λ r. ⌜ r ≡ offsetOf refusal ⌝ }
+{
+    match refusal {
+        Refusal::TooLong => 0,
+        Refusal::Unreadable(fault) => fault_offset(fault),
+        Refusal::TooDeep => 0,
+        Refusal::TableFull => 0,
+        Refusal::BadTable => 0,
+        Refusal::OutputShort => 0,
+        Refusal::DepthLimit => 0,
+        Refusal::PadOverflow => 0,
+    }
+}
+
+// The same of a fault.
+fn fault_offset(fault: Fault) -> usize
+    ensures { λ r. ⌜ r ≡ faultOffset fault ⌝ }
+{
+    match fault {
+        Fault::Empty => 0,
+        Fault::Short { field: _, at } => at,
+        Fault::NotUtf8 => 0,
+        Fault::BadStart => 0,
+        Fault::NotOpen => 0,
+        Fault::UnknownTag => 0,
+        Fault::NotScalar => 0,
+    }
+}
+
+// A fault of a part that begins `by` bytes further on.
+//
+// Ruled out: a field that is short taken for another one; the part's place in the stead of the field's.
+pub fn moved(by: usize, fault: Fault) -> Fault
+    requires { ⌜ by + faultOffset fault < 2 ^ 64 ⌝ }
+    ensures { λ r. ⌜ r ≡ movedBy by fault ⌝ }
+{
+    match fault {
+        Fault::Empty => Fault::Empty,
+        Fault::Short { field, at } => Fault::Short { field, at: by + at },
+        Fault::NotUtf8 => Fault::NotUtf8,
+        Fault::BadStart => Fault::BadStart,
+        Fault::NotOpen => Fault::NotOpen,
+        Fault::UnknownTag => Fault::UnknownTag,
+        Fault::NotScalar => Fault::NotScalar,
     }
 }

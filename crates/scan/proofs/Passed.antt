@@ -6,7 +6,8 @@ use Prim.Native.Nat.{ℕ, _+_, _≤_}
 use native.Mathlib.Omega.{arith}
 use lib.Dec.{leb}
 use lib.ListN.{length}
-use Rattle.refusal.specs.declared.Fault.the-variants.{RunsOut, NotScalar}
+use Rattle.refusal.specs.declared.Fault.{Fault}
+use Rattle.refusal.specs.declared.Fault.the-variants.{NotScalar}
 use Rattle.wire.specs.Number.{number}
 use Rattle.node.specs.Tags.{isScalar}
 use Rattle.node.specs.declared.tags.Class.{Class}
@@ -28,25 +29,26 @@ used-chosen true x y z e = e
 used-chosen false x y z e = refl
 
 -- of an argument that is read only if n bytes are there
-used-there : (n : ℕ) (l : List ℕ) (x y : Arg) → usedOf x ≡ usedOf y → usedOf (having n l x) ≡ usedOf (having n l y)
-used-there n l x y e = used-chosen (leb n (length l)) x y (Refused RunsOut) e
+used-there : (n : ℕ) (l : List ℕ) (k : Fault) (x y : Arg) → usedOf x ≡ usedOf y → usedOf (having n l k x) ≡ usedOf (having n l k y)
+used-there n l k x y e = used-chosen (leb n (length l)) x y (Refused k) e
 
 -- of a text
-used-text : (tag o o′ : ℕ) (t : Text) → usedOf (textArg tag o t) ≡ usedOf (textArg tag o′ t)
-used-text tag o o′ (Found n used) = refl
-used-text tag o o′ (Lacks k) = refl
+used-text : (tag o o′ p : ℕ) (t : Text) → usedOf (textArg tag o p t) ≡ usedOf (textArg tag o′ p t)
+used-text tag o o′ p (Found n used) = refl
+used-text tag o o′ p (Lacks k) = refl
 
 -- how far an argument is read, and its fault, are the same for any two bases
 pub any-base : (tag : ℕ) (class : Class) (base base′ : ℕ) (l : List ℕ) (p : ℕ)
     → usedOf (readArg tag class base l p) ≡ usedOf (readArg tag class base′ l p)
 unfolding readArg
-any-base tag Four base base′ l p = used-there 4 l _ _ refl
-any-base tag Eight base base′ l p = used-there 8 l _ _ refl
+any-base tag Four base base′ l p = used-there 4 l _ _ _ refl
+any-base tag Eight base base′ l p = used-there 8 l _ _ _ refl
 any-base tag Bare base base′ l p = refl
-any-base tag String base base′ l p = used-text tag (base + p) (base′ + p) (readText l p)
-any-base tag Blob base base′ l p = used-there 4 l _ _ (used-there (reach p (4 + number 4 l)) l _ _ refl)
+any-base tag String base base′ l p = used-text tag (base + p) (base′ + p) p (readText l p)
+any-base tag Blob base base′ l p =
+    used-there 4 l _ _ _ (used-there (4 + number 4 l) l _ _ _ (used-there (reach p (4 + number 4 l)) l _ _ _ refl))
 any-base tag Scalar base base′ l p =
-    used-there 4 l _ _
+    used-there 4 l _ _ _
     (used-chosen (isScalar (number 4 l))
     (Given (argItem tag (base + p) (number 4 l) 0) 4) (Given (argItem tag (base′ + p) (number 4 l) 0) 4) (Refused NotScalar) refl)
 any-base tag Unknown base base′ l p = refl

@@ -6,6 +6,7 @@ use node::tags::Class;
 use node::tags::Sort;
 use node::tags::sort_of;
 use refusal::Fault;
+use refusal::Field;
 ghost use mathlib.Core.Path.{_≡_};
 ghost use Prim.Native.Nat.{_+_, _≤_, max};
 ghost use lib.ListN.{length};
@@ -38,12 +39,15 @@ pub enum Back {
     },
 }
 
-// `n` bytes, where the data has them.
-fn pass_bytes(input: &[u8], n: usize) -> Scanned
-    ensures { λ r. ⌜ ((item : Item) → r ≡ usedOf (having n (now (input .entry)) (Arg.Given item n))) ⌝ }
+// `n` bytes, where the data at `pos` has them.
+fn pass_bytes(input: &[u8], n: usize, pos: usize) -> Scanned
+    ensures { λ r. ⌜ ((item : Item) → r ≡ usedOf (having n (now (input .entry)) (Fault.Short Field.Data pos) (Arg.Given item n))) ⌝ }
 {
     if input.len() < n {
-        return Scanned::Refused(Fault::RunsOut);
+        return Scanned::Refused(Fault::Short {
+            field: Field::Data,
+            at: pos,
+        });
     }
     Scanned::Used(n)
 }
@@ -54,8 +58,8 @@ fn pass_arg(tag: u8, class: Class, input: &[u8], pos: usize) -> Scanned
     ensures { λ r. ⌜ r ≡ usedOf (readArg tag class 0 (now (input .entry)) pos) ⌝ }
 {
     match class {
-        Class::Four => pass_bytes(input, 4),
-        Class::Eight => pass_bytes(input, 8),
+        Class::Four => pass_bytes(input, 4, pos),
+        Class::Eight => pass_bytes(input, 8, pos),
         Class::Bare => Scanned::Used(0),
         _ => match read_checked(tag, class, input, 0, pos) {
             Arg::Given { item: _, used } => Scanned::Used(used),

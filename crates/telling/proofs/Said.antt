@@ -12,6 +12,7 @@ use lib.Signed.{_<ℤ_, ltZ, ltZ-no, nonNeg, yes-nonNeg, clashℤ}
 use mir.Syntax.{w64}
 use mir.Val.{SFits, toZ, ofZ}
 use mir.Facts.{toZ-ofZ}
+use Rattle.refusal.specs.declared.Field.the-variants as field
 use Rattle.refusal.specs.declared.Fault.the-variants as fault
 use Rattle.refusal.specs.declared.Refusal.{Refusal}
 use Rattle.refusal.specs.declared.Refusal.the-variants as refusal
@@ -49,7 +50,11 @@ pub refused-said : (r : Refusal) (text : List ℕ) → saidBy (refusedAs r) text
 unfolding saidBy refusedLine filledIn pieceOf takenBy
 refused-said refusal.TooLong text = refl
 refused-said (refusal.Unreadable fault.Empty) text = refl
-refused-said (refusal.Unreadable fault.RunsOut) text = refl
+refused-said (refusal.Unreadable (fault.Short field.Address at)) text = refl
+refused-said (refusal.Unreadable (fault.Short field.TypeText at)) text = refl
+refused-said (refusal.Unreadable (fault.Short field.Data at)) text = refl
+refused-said (refusal.Unreadable (fault.Short field.Padding at)) text = refl
+refused-said (refusal.Unreadable (fault.Short field.Head at)) text = refl
 refused-said (refusal.Unreadable fault.NotUtf8) text = refl
 refused-said (refusal.Unreadable fault.BadStart) text = refl
 refused-said (refusal.Unreadable fault.NotOpen) text = refl
@@ -96,7 +101,7 @@ encoded-said (encoded.Written n) = refl
 encoded-said (encoded.Refused r) = refused-said r []
 
 -- the version
-pub version-said : (version : List ℕ) → saidBy (with 42 0 0 0 0 0 0) version ≡ versionLine version
+pub version-said : (version : List ℕ) → saidBy (with 49 0 0 0 0 0 0) version ≡ versionLine version
 unfolding saidBy filledIn pieceOf takenBy
 version-said version = refl
 
@@ -143,7 +148,7 @@ abbrev bare : List ℕ
 bare = 12 ∷ 13 ∷ 14 ∷ 15 ∷ []
 
 -- a value of such a case has no words
-pub bare-as : (i e : ℕ) (v : OscType) → OneOf bare (tagOf kinds.the-type v) → with 18 i e 0 0 0 0 ≡ valueAs i e v
+pub bare-as : (i e : ℕ) (v : OscType) → OneOf bare (tagOf kinds.the-type v) → with 25 i e 0 0 0 0 ≡ valueAs i e v
 bare-as i e (value.Message x y) h = absurd (miss bare 0 tt h)
 bare-as i e (value.Bundle x) h = absurd (miss bare 1 tt h)
 bare-as i e (value.Int x) h = absurd (miss bare 2 tt h)
@@ -163,11 +168,11 @@ bare-as i e value.Array h = refl
 
 -- ---- signs
 
-below : (i e : ℕ) (z : ℤ) → z <ℤ pos 0 → with 20 i (natAbs z) e 0 0 0 ≡ signedAs i e z
+below : (i e : ℕ) (z : ℤ) → z <ℤ pos 0 → with 27 i (natAbs z) e 0 0 0 ≡ signedAs i e z
 below i e (pos n) h = clashℤ h (record { le = le→leb 0 n (omega arith) })
 below i e (negsuc n) h = refl
 
-above : (i e : ℕ) (z : ℤ) → T (nonNeg z) → with 19 i (natAbs z) e 0 0 0 ≡ signedAs i e z
+above : (i e : ℕ) (z : ℤ) → T (nonNeg z) → with 26 i (natAbs z) e 0 0 0 ≡ signedAs i e z
 above i e (pos n) h = refl
 above i e (negsuc n) h = absurd h
 
@@ -180,14 +185,14 @@ module _ (i e : ℕ) {n : ℕ} {z : ℤ} (f : SFits w64 z) (q : n ≡ natAbs (re
   number = q ∙ ap natAbs (toZ-ofZ f)
 
   -- a number that the machine finds below 0 is written with a sign
-  pub with-sign : ltZ (read z) (pos 0) ≡ true → with 20 i n e 0 0 0 ≡ signedAs i e z
+  pub with-sign : ltZ (read z) (pos 0) ≡ true → with 27 i n e 0 0 0 ≡ signedAs i e z
   with-sign h =
-      ap (λ (m : ℕ). with 20 i m e 0 0 0) number
+      ap (λ (m : ℕ). with 27 i m e 0 0 0) number
       ∙ below i e z (subst (λ (y : ℤ). y <ℤ pos 0) (toZ-ofZ f) (record { lt = subst T (sym h) tt }))
 
   -- another without
-  pub without-sign : ltZ (read z) (pos 0) ≡ false → with 19 i n e 0 0 0 ≡ signedAs i e z
+  pub without-sign : ltZ (read z) (pos 0) ≡ false → with 26 i n e 0 0 0 ≡ signedAs i e z
   without-sign h =
       let l : T (not (ltZ (read z) (pos 0))) = subst (λ (t : Bool). T (not t)) (sym h) tt in
-      ap (λ (m : ℕ). with 19 i m e 0 0 0) number
+      ap (λ (m : ℕ). with 26 i m e 0 0 0) number
       ∙ above i e z (subst (λ (y : ℤ). T (nonNeg y)) (toZ-ofZ f) (yes-nonNeg {z = read z} (ltZ-no {a = read z} {b = pos 0} l)))

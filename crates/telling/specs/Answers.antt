@@ -3,7 +3,7 @@ use mathlib.Core.List.{List, [], _∷_}
 use Prim.Native.Nat.{ℕ}
 use Prim.Native.String.{String}
 use lib.ListN.{getD}
-use Rattle.refusal.specs.Refusal.{numberOf}
+use Rattle.refusal.specs.Refusal.{numberOf, offsetOf}
 use Rattle.refusal.specs.declared.Refusal.{Refusal}
 use Rattle.answering.specs.declared.Decoded.{Decoded}
 use Rattle.answering.specs.declared.Decoded.the-variants as decoded
@@ -11,17 +11,21 @@ use Rattle.encoder.specs.declared.Encoded.{Encoded}
 use Rattle.encoder.specs.declared.Encoded.the-variants as encoded
 use Rattle.telling.specs.Forms.{line}
 
--- the words of document 01's "Refusal numbers", each at the place of its number (those of 9 are Ticket 4's); none has the number 0
+-- the words of document 01's "Refusal numbers", each at the place of its number (those of 9 are Ticket 4's, those from 17 on Ticket 2's);
+-- none has the number 0, 3, 15 or 16
 abbrev pub refusedForms : List String
 refusedForms =
     "\n" ∷ "refused %: decode input over 65,535 bytes, or encoded result (prefix included) over it\n" ∷ "refused %: a packet of no bytes\n"
-    ∷ "refused %: a field, NUL, padding or TCP prefix runs past the bytes there\n" ∷ "refused %: text is not UTF-8\n"
+    ∷ "\n" ∷ "refused %: text is not UTF-8\n"
     ∷ "refused %: first string is neither /-led nor exactly #bundle\n" ∷ "refused %: ] with no array open\n"
     ∷ "refused %: unknown type tag\n" ∷ "refused %: c is not a scalar number\n"
     ∷ "refused %: bundles and arrays nested deeper than the limit\n"
     ∷ "refused %: the result has more records than the capacity\n"
     ∷ "refused %: table not well formed, or a record asked for does not exist\n" ∷ "refused %: output slice shorter than the result\n"
-    ∷ "refused %: depth limit over 64\n" ∷ "refused %: pad of a position over 2^64 - 4\n" ∷ []
+    ∷ "refused %: depth limit over 64\n" ∷ "refused %: pad of a position over 2^64 - 4\n" ∷ "\n" ∷ "\n"
+    ∷ "refused %: the address at offset % is not all there\n" ∷ "refused %: the type text at offset % is not all there\n"
+    ∷ "refused %: the argument data at offset % is not all there\n" ∷ "refused %: the padding at offset % is not all there\n"
+    ∷ "refused %: the prefix or time tag at offset % is not all there\n" ∷ []
 
 -- how many packets were read, their records, and the bytes that were not read
 abbrev pub packetsForm : String
@@ -39,9 +43,9 @@ writtenForm = "written: % bytes\n"
 abbrev pub versionForm : String
 versionForm = "osc ~\n"
 
--- a refusal: its number and its words
+-- a refusal: its number and its words, with the offset of a field that was short
 unfoldable pub refusedLine : Refusal → List ℕ
-refusedLine refusal = line (getD refusedForms (numberOf refusal) "") (numberOf refusal ∷ []) []
+refusedLine refusal = line (getD refusedForms (numberOf refusal) "") (numberOf refusal ∷ offsetOf refusal ∷ []) []
 
 -- a decoder's answer to an input of so many packets and bytes
 abbrev pub decodedLine : ℕ → ℕ → Decoded → List ℕ

@@ -6,7 +6,7 @@ use Prim.Native.String.{String}
 use lib.Dec.{eqb}
 use lib.IntN.{ℤ, pos, negsuc}
 use lib.ListN.{length, getD, drop}
-use Rattle.refusal.specs.Refusal.{numberOf}
+use Rattle.refusal.specs.Refusal.{numberOf, offsetOf}
 use Rattle.refusal.specs.declared.Refusal.{Refusal}
 use Rattle.values.specs.declared.look.Looked.{Looked}
 use Rattle.values.specs.declared.look.Looked.the-variants as looked
@@ -47,44 +47,44 @@ saidBy l text = filledIn text (l .a ∷ l .b ∷ l .c ∷ l .d ∷ l .e ∷ l .f
 abbrev pub with : ℕ → ℕ → ℕ → ℕ → ℕ → ℕ → ℕ → Line
 with form a b c d e f = record { form = form; a = a; b = b; c = c; d = d; e = e; f = f }
 
--- a refusal: its form stands at its number
+-- a refusal: its form stands at its number, and takes its offset too where it has one
 abbrev pub refusedAs : Refusal → Line
-refusedAs refusal = with (numberOf refusal) (numberOf refusal) 0 0 0 0 0
+refusedAs refusal = with (numberOf refusal) (numberOf refusal) (offsetOf refusal) 0 0 0 0
 
 -- a decoder's answer
 abbrev pub decodedAs : ℕ → ℕ → Decoded → Line
-decodedAs packets bytes (decoded.Packets count left) = with 15 packets count left 0 0 0
-decodedAs packets bytes decoded.Waiting = with 16 bytes 0 0 0 0 0
+decodedAs packets bytes (decoded.Packets count left) = with 22 packets count left 0 0 0
+decodedAs packets bytes decoded.Waiting = with 23 bytes 0 0 0 0 0
 decodedAs packets bytes (decoded.Refused refusal) = refusedAs refusal
 
 -- an encoder's answer
 abbrev pub encodedAs : Encoded → Line
-encodedAs (encoded.Written n) = with 17 n 0 0 0 0 0
+encodedAs (encoded.Written n) = with 24 n 0 0 0 0 0
 encodedAs (encoded.Refused refusal) = refusedAs refusal
 
 -- a number with its sign
 abbrev pub signedAs : ℕ → ℕ → ℤ → Line
-signedAs i e (pos n) = with 19 i n e 0 0 0
-signedAs i e (negsuc n) = with 20 i (suc n) e 0 0 0
+signedAs i e (pos n) = with 26 i n e 0 0 0
+signedAs i e (negsuc n) = with 27 i (suc n) e 0 0 0
 
 -- what each kind of value holds
 abbrev pub valueAs : ℕ → ℕ → OscType → Line
-valueAs i e (value.Message offset n) = with 21 i offset n e 0 0
-valueAs i e (value.Bundle t) = with 22 i (t .seconds) (t .fractional) e 0 0
+valueAs i e (value.Message offset n) = with 28 i offset n e 0 0
+valueAs i e (value.Bundle t) = with 29 i (t .seconds) (t .fractional) e 0 0
 valueAs i e (value.Int z) = signedAs i e z
-valueAs i e (value.Float bits x) = with 23 i bits e 0 0 0
-valueAs i e (value.String offset n) = with 21 i offset n e 0 0
-valueAs i e (value.Blob offset n) = with 21 i offset n e 0 0
-valueAs i e (value.Time t) = with 22 i (t .seconds) (t .fractional) e 0 0
+valueAs i e (value.Float bits x) = with 30 i bits e 0 0 0
+valueAs i e (value.String offset n) = with 28 i offset n e 0 0
+valueAs i e (value.Blob offset n) = with 28 i offset n e 0 0
+valueAs i e (value.Time t) = with 29 i (t .seconds) (t .fractional) e 0 0
 valueAs i e (value.Long z) = signedAs i e z
-valueAs i e (value.Double bits x) = with 24 i (bits / 0x1_0000_0000) (bits % 0x1_0000_0000) e 0 0
-valueAs i e (value.Char x) = with 19 i x e 0 0 0
-valueAs i e (value.Color c) = with 25 i (c .red) (c .green) (c .blue) (c .alpha) e
-valueAs i e (value.Midi m) = with 25 i (m .port) (m .status) (m .data1) (m .data2) e
-valueAs i e (value.Bool x) = with 18 i e 0 0 0 0
-valueAs i e value.Nil = with 18 i e 0 0 0 0
-valueAs i e value.Inf = with 18 i e 0 0 0 0
-valueAs i e value.Array = with 18 i e 0 0 0 0
+valueAs i e (value.Double bits x) = with 31 i (bits / 0x1_0000_0000) (bits % 0x1_0000_0000) e 0 0
+valueAs i e (value.Char x) = with 26 i x e 0 0 0
+valueAs i e (value.Color c) = with 32 i (c .red) (c .green) (c .blue) (c .alpha) e
+valueAs i e (value.Midi m) = with 32 i (m .port) (m .status) (m .data1) (m .data2) e
+valueAs i e (value.Bool x) = with 25 i e 0 0 0 0
+valueAs i e value.Nil = with 25 i e 0 0 0 0
+valueAs i e value.Inf = with 25 i e 0 0 0 0
+valueAs i e value.Array = with 25 i e 0 0 0 0
 
 -- what `look` answers
 abbrev pub lookedAs : ℕ → ℕ → Looked → Line
@@ -93,7 +93,7 @@ lookedAs i e (looked.Refused refusal) = refusedAs refusal
 
 -- what `start_of` answers
 abbrev pub startedAs : Started → Line
-startedAs (started.At start) = with 43 start 0 0 0 0 0
+startedAs (started.At start) = with 50 start 0 0 0 0 0
 startedAs (started.Refused refusal) = refusedAs refusal
 
 -- the place of a trouble among the others
@@ -117,7 +117,7 @@ placeOf trouble.NoTable = 15
 
 -- a trouble: its form stands at its place after the others
 abbrev pub troubleAs : Trouble → ℕ → Line
-troubleAs trouble number = with (26 + placeOf trouble) number 0 0 0 0 0
+troubleAs trouble number = with (33 + placeOf trouble) number 0 0 0 0 0
 
 -- the first line of a text, with its end (10)
 unfoldable pub lineOf : List ℕ → List ℕ

@@ -10,17 +10,18 @@ use decoder::Decoded;
 use encoder::Encoded;
 use refusal::Refusal;
 use refusal::number_of;
+use refusal::offset_of;
 ghost use mathlib.Core.Path.{_≡_};
 ghost use Rattle.telling.specs.Forms.{Says};
 ghost use Rattle.telling.specs.Answers.{decodedLine, encodedLine, versionLine};
 ghost use Rattle.telling.specs.CodeTable.{refusedAs, decodedAs, encodedAs};
 
-// A refusal: its number and its words.
+// A refusal: its number and its words, with the offset of a field that was short.
 pub fn refused_line(refusal: Refusal) -> Line
     ensures { λ r. ⌜ r ≡ refusedAs refusal ⌝ }
 {
     let n = number_of(refusal);
-    formed(n as usize, n as u64, 0, 0, 0, 0, 0)
+    formed(n as usize, n as u64, offset_of(refusal) as u64, 0, 0, 0, 0)
 }
 
 // A decoder's answer to an input of so many packets and bytes.

@@ -16,11 +16,11 @@ pub struct Line {
     pub f: u64,
 }
 
-// The forms, a line to each: those of the refusals stand at their numbers, and line 0 is empty.
-const FORMS: [u8; 1746] = *b"
+// The forms, a line to each: those of the refusals stand at their numbers, and a line whose number no refusal has is empty.
+const FORMS: [u8; 1955] = *b"
 refused %: decode input over 65,535 bytes, or encoded result (prefix included) over it
 refused %: a packet of no bytes
-refused %: a field, NUL, padding or TCP prefix runs past the bytes there
+
 refused %: text is not UTF-8
 refused %: first string is neither /-led nor exactly #bundle
 refused %: ] with no array open
@@ -32,6 +32,13 @@ refused %: table not well formed, or a record asked for does not exist
 refused %: output slice shorter than the result
 refused %: depth limit over 64
 refused %: pad of a position over 2^64 - 4
+
+
+refused %: the address at offset % is not all there
+refused %: the type text at offset % is not all there
+refused %: the argument data at offset % is not all there
+refused %: the padding at offset % is not all there
+refused %: the prefix or time tag at offset % is not all there
 packets: %, records: %, bytes left: %
 waiting: % bytes, nothing read
 written: % bytes
@@ -63,34 +70,34 @@ osc ~
 start %
 ";
 
-pub const PACKETS: usize = 15;
+pub const PACKETS: usize = 22;
 
-pub const WAITING: usize = 16;
+pub const WAITING: usize = 23;
 
-pub const WRITTEN: usize = 17;
+pub const WRITTEN: usize = 24;
 
-pub const BARE: usize = 18;
+pub const BARE: usize = 25;
 
-pub const NUMBER: usize = 19;
+pub const NUMBER: usize = 26;
 
-pub const NEGATIVE: usize = 20;
+pub const NEGATIVE: usize = 27;
 
-pub const RANGE: usize = 21;
+pub const RANGE: usize = 28;
 
-pub const TIME: usize = 22;
+pub const TIME: usize = 29;
 
-pub const SINGLE: usize = 23;
+pub const SINGLE: usize = 30;
 
-pub const DOUBLE: usize = 24;
+pub const DOUBLE: usize = 31;
 
-pub const FOUR: usize = 25;
+pub const FOUR: usize = 32;
 
 // The first of the forms of troubles, which stand in the order of `Trouble`.
-pub const TROUBLES: usize = 26;
+pub const TROUBLES: usize = 33;
 
-pub const VERSION: usize = 42;
+pub const VERSION: usize = 49;
 
-pub const START: usize = 43;
+pub const START: usize = 50;
 
 // A line of a form and as many numbers as one has.
 pub fn formed(form: usize, a: u64, b: u64, c: u64, d: u64, e: u64, f: u64) -> Line

@@ -49,7 +49,7 @@ fn two(form: usize, index: u64, a: u32, b: u32, end: u64) -> Line
 
 // The two halves of 64 bits.
 fn halves(index: u64, bits: u64, end: u64) -> Line
-    ensures { λ r. ⌜ r ≡ with 24 index (bits / 0x1_0000_0000) (bits % 0x1_0000_0000) end 0 0 ⌝ }
+    ensures { λ r. ⌜ r ≡ with 31 index (bits / 0x1_0000_0000) (bits % 0x1_0000_0000) end 0 0 ⌝ }
 {
     formed(
         DOUBLE,
@@ -64,7 +64,7 @@ fn halves(index: u64, bits: u64, end: u64) -> Line
 
 // Four bytes as numbers.
 fn four(index: u64, a: u8, b: u8, c: u8, d: u8, end: u64) -> Line
-    ensures { λ r. ⌜ r ≡ with 25 index a b c d end ⌝ }
+    ensures { λ r. ⌜ r ≡ with 32 index a b c d end ⌝ }
 {
     formed(FOUR, index, a as u64, b as u64, c as u64, d as u64, end)
 }

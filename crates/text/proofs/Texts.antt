@@ -50,7 +50,7 @@ module _ (l : List ℕ) (p n : ℕ) (e : n ≡ untilNul l) where
   no-nul h = rw (← e, le-ltb n (length l) (omega arith))
 
   -- a NUL, and fewer bytes than the padding takes
-  pub no-padding : n < length l → length l < (p + n + 4) / 4 * 4 - p → Lacks Padding ≡ readText l p
+  pub no-padding : n < length l → length l < (p + n + 4) / 4 * 4 - p → Lacks (Padding (p + n + 1)) ≡ readText l p
   unfolding readText
   no-padding h k = rw (← e, lt-ltb n (length l) h, lt-leb (reach p (n + 1)) (length l) (rw reached at k))
 

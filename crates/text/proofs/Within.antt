@@ -1,14 +1,18 @@
--- A text that was found lies in its part, and is UTF-8.
+-- A text that was found lies in its part, and is UTF-8; what a text lacks begins in its part or right after it.
 use mathlib.Core.Path.{_≡_, sym, subst}
 use mathlib.Core.Bool.{true}
 use mathlib.Core.List.{List}
 use Prim.Native.Nat.{ℕ, _+_, _<_, _≤_}
 use native.Mathlib.Omega.{arith}
+use borrow.Author.Tests.{ltb-true}
 use lib.Dec.{ltb}
 use lib.ListN.{length, take}
+use Rattle.refusal.specs.Refusal.{faultOffset}
+use Rattle.refusal.specs.declared.Field.{Field}
 use Rattle.wire.proofs.Choices.{by-test, by-le}
 use Rattle.utf8.specs.Derive.{utf8}
-use Rattle.text.specs.Text.{reach, untilNul, readText}
+use Rattle.text.specs.Text.{reach, untilNul, readText, faultIn}
+use Rattle.text.specs.declared.Lack.{Lack}
 use Rattle.text.specs.declared.Text.{Text}
 use Rattle.text.specs.declared.Text.the-variants.{Found, Lacks}
 
@@ -30,3 +34,23 @@ text-within l p =
 -- the same of one that was found
 pub found-in : {n used : ℕ} (l : List ℕ) (p : ℕ) → Found n used ≡ readText l p → (n < used) × (used ≤ length l) × (utf8 (take n l) ≡ true)
 found-in l p e = subst (TextIn l) (sym e) (text-within l p)
+
+-- what a text lacks, whichever field it is, begins no later than its part ends
+abbrev LackLow : ℕ → ℕ → Text → Type 0
+LackLow p m (Found n used) = Unit {0}
+LackLow p m (Lacks lack) = (field : Field) → faultOffset (faultIn field p lack) ≤ p + m
+
+-- every text does
+lacks-within : (l : List ℕ) (p : ℕ) → LackLow p (length l) (readText l p)
+unfolding readText
+lacks-within l p =
+    by-test (LackLow p (length l)) (ltb (untilNul l) (length l))
+    (λ h. by-le (LackLow p (length l)) (reach p (untilNul l + 1)) (length l)
+    (λ k. by-test (LackLow p (length l)) (utf8 (take (untilNul l) l)) (λ e. tt) (λ e field. omega arith))
+    (λ k field. omega (arith, ltb-true (untilNul l) (length l) h)))
+    (λ h field. omega arith)
+
+-- the same of one that lacks something
+pub lacks-low : {lack : Lack} (field : Field) (l : List ℕ) (p : ℕ) → Lacks lack ≡ readText l p
+    → faultOffset (faultIn field p lack) ≤ p + length l
+lacks-low field l p e = subst (LackLow p (length l)) (sym e) (lacks-within l p) field

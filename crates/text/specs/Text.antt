@@ -5,7 +5,9 @@ use Prim.Native.Nat.{ℕ, suc, _+_, _-_}
 use lib.Dec.{eqb, leb, ltb}
 use lib.ListN.{length, take}
 use Rattle.refusal.specs.declared.Fault.{Fault}
-use Rattle.refusal.specs.declared.Fault.the-variants.{RunsOut, NotUtf8}
+use Rattle.refusal.specs.declared.Fault.the-variants.{Short, NotUtf8}
+use Rattle.refusal.specs.declared.Field.{Field}
+use Rattle.refusal.specs.declared.Field.the-variants as fields
 use Rattle.wire.specs.Pad.{padded}
 use Rattle.utf8.specs.Derive.{utf8}
 use Rattle.text.specs.declared.Text.{Text}
@@ -23,17 +25,18 @@ untilNul (b ∷ l) = cond (eqb b 0) 0 (suc (untilNul l))
 abbrev pub reach : ℕ → ℕ → ℕ
 reach p n = padded (p + n) - p
 
--- the text at the front of l, which stands at position p: a missing NUL or padding comes before the UTF-8 test
+-- the text at the front of l, which stands at position p: a missing NUL or padding comes before the UTF-8 test; padding begins after the
+-- NUL (Ticket 2)
 unfoldable pub readText : List ℕ → ℕ → Text
 readText l p =
     cond (ltb (untilNul l) (length l))
     (cond (leb (reach p (untilNul l + 1)) (length l))
     (cond (utf8 (take (untilNul l) l)) (Found (untilNul l) (reach p (untilNul l + 1))) (Lacks Utf8))
-    (Lacks Padding))
+    (Lacks (Padding (p + untilNul l + 1))))
     (Lacks Nul)
 
--- "Missing NUL or padding (3) comes before the UTF-8 test (4)": the fault of each
-abbrev pub faultOf : Lack → Fault
-faultOf Nul = RunsOut
-faultOf Padding = RunsOut
-faultOf Utf8 = NotUtf8
+-- the fault of a text at position p that is this field: "a missing NUL belongs to its text", and padding is a field of its own (Ticket 2)
+abbrev pub faultIn : Field → ℕ → Lack → Fault
+faultIn field p Nul = Short field p
+faultIn field p (Padding at) = Short fields.Padding at
+faultIn field p Utf8 = NotUtf8

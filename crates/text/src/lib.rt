@@ -1,19 +1,20 @@
 // An OSC string: its bytes up to the first NUL, the NUL, and padding to a multiple of 4 (decoder.rs, `read_osc_string`).
 use refusal::Fault;
+use refusal::Field;
 ghost use mathlib.Core.Path.{_≡_};
 ghost use Prim.Native.Nat.{_+_, _≤_};
 ghost use lib.Dec.{ltb};
 ghost use lib.ListN.{length};
 ghost use Rattle.wire.specs.Limits.{longest};
 ghost use Rattle.text.specs.CodePlain.{special, plainOf, Passed};
-ghost use Rattle.text.specs.Text.{untilNul, readText, faultOf};
+ghost use Rattle.text.specs.Text.{untilNul, readText, faultIn};
 
-// What a text lacks. The three are kept apart, though two have one number today.
+// What a text lacks.
 pub enum Lack {
     // There is no NUL.
     Nul,
-    // There are fewer bytes than the padding takes.
-    Padding,
+    // There are fewer bytes than the padding takes, which begins at position `at`.
+    Padding { at: usize },
     // The bytes are not UTF-8.
     Utf8,
 }
@@ -25,13 +26,18 @@ pub enum Text {
     Lacks(Lack),
 }
 
-// The fault that a packet has by a text that lacks something.
-pub fn fault_of(lack: Lack) -> Fault
-    ensures { λ r. ⌜ r ≡ faultOf lack ⌝ }
+// The fault that a packet has by a text at `pos` that is this field and lacks something: a missing NUL belongs to its text.
+//
+// Ruled out: 20 for a text without a NUL; padding that is short told as the text, or at the text's place.
+pub fn fault_in(field: Field, pos: usize, lack: Lack) -> Fault
+    ensures { λ r. ⌜ r ≡ faultIn field pos lack ⌝ }
 {
     match lack {
-        Lack::Nul => Fault::RunsOut,
-        Lack::Padding => Fault::RunsOut,
+        Lack::Nul => Fault::Short { field, at: pos },
+        Lack::Padding { at } => Fault::Short {
+            field: Field::Padding,
+            at,
+        },
         Lack::Utf8 => Fault::NotUtf8,
     }
 }
@@ -122,7 +128,8 @@ pub fn read_osc_string(input: &[u8], pos: usize) -> Text
     }
     let used = (pos + length + 4) / 4 * 4 - pos;
     if input.len() < used {
-        return Text::Lacks(Lack::Padding);
+        let at = pos + length + 1;
+        return Text::Lacks(Lack::Padding { at });
     }
     if length == plain {
         return Text::Found {

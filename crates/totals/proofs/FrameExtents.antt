@@ -9,8 +9,10 @@ use borrow.Author.Tests.{le-leb, lt-leb, leb-true, leb-false}
 use lib.Dec.{leb, leb·zero}
 use lib.ListN.{length, drop, length-drop}
 use lib.Seq.{drop-drop}
+use Rattle.refusal.specs.Refusal.{faultOffset, movedBy}
 use Rattle.refusal.specs.declared.Fault.{Fault}
-use Rattle.refusal.specs.declared.Fault.the-variants as faults
+use Rattle.refusal.specs.declared.Fault.the-variants.{Short}
+use Rattle.refusal.specs.declared.Field.the-variants.{Head}
 use Rattle.wire.proofs.Choices.{by-test, by-le, by-both}
 use Rattle.node.specs.Forest.{Forest, nil, node, size, depth, level}
 use Rattle.node.specs.declared.record.Item.{Item}
@@ -47,7 +49,8 @@ module _ (base : ℕ) (l : List ℕ) where
   frame-waits limit e = ap (λ x. frameExtent limit (frameWith base l x)) e
 
   -- a prefix that is not all there is refused
-  pub frame-runs-out : (limit : ℕ) → prefix.RunsOut ≡ prefixOf l → Packet (Refused faults.RunsOut) ≡ frameExtent limit (readFrame base l)
+  pub frame-runs-out : (limit : ℕ) → prefix.RunsOut ≡ prefixOf l → Packet (Refused (Short Head 0))
+      ≡ frameExtent limit (readFrame base l)
   unfolding readFrame extent
   frame-runs-out limit e = ap (λ x. frameExtent limit (frameWith base l x)) e
 
@@ -137,7 +140,7 @@ module _ (limit base : ℕ) (l : List ℕ) (c : ℕ) (deep : Bool) where
   abbrev onwardPacket : Extent → Total
   onwardPacket (Tree n next) = added (c + n) deep (totalOf limit (following base l next))
   onwardPacket (Deep next) = added c true (totalOf limit (following base l next))
-  onwardPacket (Refused k) = total.Refused k
+  onwardPacket (Refused k) = total.Refused (movedBy base k)
 
   abbrev onward : FrameExtent → Total
   onward Waiting = added c deep (total.Trees 0 (length l))
@@ -149,7 +152,7 @@ module _ (limit base : ℕ) (l : List ℕ) (c : ℕ) (deep : Bool) where
       ∙ ap (added c deep) (sym (no-trees limit (length l)))
   by-frame (read (fault k)) e = ap (λ (w : Whole). added c deep (totalOf limit w)) (frames-by base l e) ∙ added-refused deep
     where
-      added-refused : (t : Bool) → added c t (total.Refused k) ≡ total.Refused k
+      added-refused : (t : Bool) → added c t (total.Refused (movedBy base k)) ≡ total.Refused (movedBy base k)
       added-refused true = refl
       added-refused false = refl
   by-frame (read (one item f u)) e =
@@ -171,7 +174,7 @@ module _ (limit base : ℕ) (l : List ℕ) (c : ℕ) (deep : Bool) where
 abbrev PacketIn : ℕ → Extent → Type 0
 PacketIn m (Tree n next) = (n + 4 ≤ next) × (next ≤ m)
 PacketIn m (Deep next) = (4 ≤ next) × (next ≤ m)
-PacketIn m (Refused k) = Unit {0}
+PacketIn m (Refused k) = faultOffset k ≤ m
 
 abbrev FrameExtentIn : ℕ → FrameExtent → Type 0
 FrameExtentIn m Waiting = Unit {0}
@@ -180,7 +183,7 @@ FrameExtentIn m (Packet x) = PacketIn m x
 frame-extent-in : (limit m : ℕ) (x : Frame) → FrameIn m x → FrameExtentIn m (frameExtent limit x)
 unfolding extent
 frame-extent-in limit m wait w = tt
-frame-extent-in limit m (read (fault k)) w = tt
+frame-extent-in limit m (read (fault k)) w = w
 frame-extent-in limit m (read (one item f u)) w =
     by-test (PacketIn m) (leb (level (item .kind) (depth f)) limit) (λ _. omega arith) (λ _. omega arith)
 
@@ -208,7 +211,8 @@ totalling-start limit msg h =
     }
 
 -- an empty input is refused
-pub empty-list : (limit : ℕ) (msg : List ℕ) → length msg ≡ 0 → total.Refused faults.RunsOut ≡ totalOf limit (tcpVec msg)
+pub empty-list : (limit : ℕ) (msg : List ℕ) → length msg ≡ 0
+    → total.Refused (Short Head 0) ≡ totalOf limit (tcpVec msg)
 unfolding tcpVec readFrames framesAt readFrame prefixOf
 empty-list limit [] h = refl
 empty-list limit (x ∷ msg) h = absurd (omega arith)
@@ -256,6 +260,10 @@ module _ (limit : ℕ) (msg : List ℕ) (at c : ℕ) (deep : Bool) (w : Totallin
     pub totalling-waits : {r : Total} → x ≡ Waiting → r ≡ added c deep (total.Trees 0 (length msg - at)) → r ≡ totalOf limit (tcpVec msg)
     totalling-waits z f = f ∙ sym (by-next ∙ ap (onward limit at (drop at msg) c deep) z ∙ rw (length-drop at msg))
 
-    -- at a frame that is refused
-    pub totalling-refused : {k : Fault} → x ≡ Packet (Refused k) → total.Refused k ≡ totalOf limit (tcpVec msg)
-    totalling-refused z = sym (by-next ∙ ap (onward limit at (drop at msg) c deep) z)
+    -- the fault of a frame begins in the input or right after it
+    pub totalling-low : {k : Fault} → x ≡ Packet (Refused k) → at + faultOffset k ≤ length msg
+    totalling-low z = omega (arith, packet-extent-in limit at (drop at msg) (sym z ∙ frame-here), length-drop at msg)
+
+    -- at a frame that is refused: its offset is added to its fault's place
+    pub totalling-refused : {k j : Fault} → x ≡ Packet (Refused k) → j ≡ movedBy at k → total.Refused j ≡ totalOf limit (tcpVec msg)
+    totalling-refused z m = rw m (sym (by-next ∙ ap (onward limit at (drop at msg) c deep) z))

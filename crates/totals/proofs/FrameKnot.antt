@@ -7,6 +7,7 @@ use Prim.Native.Nat.{ℕ, zero, suc, _+_, _-_, _<_, _≤_}
 use native.Mathlib.Omega.{arith}
 use lib.Dec.{leb}
 use lib.ListN.{length, drop, length-drop}
+use Rattle.refusal.specs.Refusal.{faultOffset}
 use Rattle.node.specs.Forest.{nil, node, size}
 use Rattle.heads.specs.Heads.{prefixOf}
 use Rattle.packet.specs.Packet.{Out, fault, one, after, readPacket}
@@ -14,22 +15,25 @@ use Rattle.heads.specs.declared.Prefix.{Prefix}
 use Rattle.heads.specs.declared.Prefix.the-variants as prefix
 use Rattle.heads.proofs.Heads.{PrefixIn, prefix-within}
 use Rattle.packet.proofs.Within.{Within, packet-in}
+use Rattle.packet.proofs.Faults.{OutLow, packet-low}
 use Rattle.totals.specs.Framing.{Whole, trees, Frame, wait, read, frameWith, readFrame, before, afterFrame, framesAt, readFrames}
 
--- a frame of m bytes takes its prefix and a byte for each node
+-- a frame of m bytes takes its prefix and a byte for each node; a fault begins in it or right after it
 abbrev pub FrameIn : ℕ → Frame → Type 0
 FrameIn m wait = Unit {0}
-FrameIn m (read (fault k)) = Unit {0}
+FrameIn m (read (fault k)) = faultOffset k ≤ m
 FrameIn m (read (one item f u)) = (5 + size f ≤ u) × (u ≤ m)
 
-after-in : (m : ℕ) (o : Out) → 4 ≤ m → Within (m - 4) o → FrameIn m (read (after 4 o))
-after-in m (fault k) h w = tt
-after-in m (one item f u) h w = omega arith
+after-in : (m : ℕ) (o : Out) → 4 ≤ m → Within (m - 4) o → OutLow (4 + (m - 4)) o → FrameIn m (read (after 4 o))
+after-in m (fault k) h w v = omega arith
+after-in m (one item f u) h w v = omega arith
 
 with-in : (base : ℕ) (l : List ℕ) (x : Prefix) → PrefixIn (length l) x → FrameIn (length l) (frameWith base l x)
-with-in base l prefix.Ready w = after-in (length l) (readPacket base (drop 4 l) 4) w (rw length-drop at (packet-in base (drop 4 l) 4))
+with-in base l prefix.Ready w =
+    after-in (length l) (readPacket base (drop 4 l) 4) w (rw length-drop at (packet-in base (drop 4 l) 4))
+    (rw length-drop at (packet-low base (drop 4 l) 4))
 with-in base l prefix.Waiting w = tt
-with-in base l prefix.RunsOut w = tt
+with-in base l prefix.RunsOut w = omega arith
 
 -- a frame lies in its input
 pub frame-in : (base : ℕ) (l : List ℕ) → FrameIn (length l) (readFrame base l)

@@ -5,7 +5,9 @@ use Prim.Native.Nat.{ℕ, zero, suc, _+_, _-_}
 use lib.Dec.{leb}
 use lib.ListN.{length, drop}
 use Rattle.refusal.specs.declared.Fault.{Fault}
-use Rattle.refusal.specs.declared.Fault.the-variants.{RunsOut}
+use Rattle.refusal.specs.Refusal.{movedBy}
+use Rattle.refusal.specs.declared.Fault.the-variants.{Short}
+use Rattle.refusal.specs.declared.Field.the-variants.{Head}
 use Rattle.node.specs.Forest.{Forest, nil, node}
 use Rattle.node.specs.declared.record.Item.{Item}
 use Rattle.heads.specs.Heads.{prefixOf}
@@ -39,7 +41,7 @@ pub data Frame : Type 0 where
 abbrev pub frameWith : ℕ → List ℕ → Prefix → Frame
 frameWith base l prefix.Ready = read (after 4 (readPacket base (drop 4 l) 4))
 frameWith base l prefix.Waiting = wait
-frameWith base l prefix.RunsOut = read (fault RunsOut)
+frameWith base l prefix.RunsOut = read (fault (Short Head 0))
 
 -- rule 6: the frame at the front of l, which stands at offset `base` of the call's input
 unfoldable pub readFrame : ℕ → List ℕ → Frame
@@ -60,9 +62,10 @@ before item inside (trees rest left) = trees (node item inside rest) left
 before item inside waiting = waiting
 before item inside (refusal k) = refusal k
 
--- the list whose first frame holds this packet: it ends where nothing is left
+-- the list whose first frame holds this packet: it ends where nothing is left. A fault is told from the frame's prefix on, and the frame's
+-- offset is added once, here (Ticket 2)
 abbrev pub afterPacket : (ℕ → List ℕ → Whole) → ℕ → List ℕ → Out → Whole
-afterPacket go base l (fault k) = refusal k
+afterPacket go base l (fault k) = refusal (movedBy base k)
 afterPacket go base l (one item inside used) =
     cond (leb (length l) used) (trees (node item inside nil) 0) (before item inside (go (base + used) (drop used l)))
 
@@ -73,7 +76,7 @@ afterFrame go base l (read o) = afterPacket go base l o
 
 -- the frames of l: at most n of them. The line for 0 is never met, since a frame takes a byte at least (proofs/FrameKnot.antt: frames-eq).
 unfoldable pub framesAt : ℕ → ℕ → List ℕ → Whole
-framesAt zero base l = refusal RunsOut
+framesAt zero base l = refusal (Short Head base)
 framesAt (suc n) base l = afterFrame (λ b m. framesAt n b m) base l (readFrame base l)
 
 -- a list of frames; proofs/FrameKnot.antt: readFrames base l ≡ afterFrame readFrames base l (readFrame base l)

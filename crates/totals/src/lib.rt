@@ -2,6 +2,8 @@
 use heads::Prefix;
 use measure::Extent;
 use refusal::Fault;
+use refusal::Field;
+use refusal::moved;
 ghost use mathlib.Core.Path.{_≡_};
 ghost use Prim.Native.Nat.{ℕ, _≤_};
 ghost use lib.ListN.{length};
@@ -82,7 +84,10 @@ fn measure_tcp_vec(msg: &[u8], depth: usize) -> Total
     ensures { λ r. ⌜ r ≡ totalOf depth (tcpVec (now (msg .entry))) ⌝ }
 {
     if msg.len() == 0 {
-        return Total::Refused(Fault::RunsOut);
+        return Total::Refused(Fault::Short {
+            field: Field::Head,
+            at: 0,
+        });
     }
     let mut at = 0;
     let mut count = 0;
@@ -99,7 +104,7 @@ fn measure_tcp_vec(msg: &[u8], depth: usize) -> Total
                     deep = true;
                     at += next;
                 }
-                Extent::Refused(fault) => return Total::Refused(fault),
+                Extent::Refused(fault) => return Total::Refused(moved(at, fault)),
             },
         }
     }
@@ -124,6 +129,9 @@ fn measure_frame(input: &[u8], depth: usize) -> FrameExtent
     match heads::read_prefix(input) {
         Prefix::Ready => FrameExtent::Packet(measure::measure_packet(&input[4..], 4, depth)),
         Prefix::Waiting => FrameExtent::Waiting,
-        Prefix::RunsOut => FrameExtent::Packet(Extent::Refused(Fault::RunsOut)),
+        Prefix::RunsOut => FrameExtent::Packet(Extent::Refused(Fault::Short {
+            field: Field::Head,
+            at: 0,
+        })),
     }
 }

@@ -1,8 +1,9 @@
 //! The static library's functions as they are, over lent slices: what include/osc.h declares. The only unsafe code.
 //!
 //! A decoder's answer has the refusal's number in bits 56 to 63 (0 where there is an answer), the count of records in bits 32
-//! to 55 and the input bytes left over in bits 0 to 31; Waiting is count 0 with the whole input left. An encoder's answer has
-//! that number and, in bits 0 to 31, the bytes written.
+//! to 55 and the input bytes left over in bits 0 to 31; Waiting is count 0 with the whole input left. A decoder also writes more,
+//! in every case: for the refusals 17 to 21 bits 32 to 47 are where the field began that was short, and all else is 0. An
+//! encoder's answer has the refusal's number and, in bits 0 to 31, the bytes written.
 //!
 //! The functions of the crate's root take these answers apart and are what a program should call.
 #![allow(unsafe_code)]
@@ -13,9 +14,30 @@ use crate::value::{Color, Midi, Time, Value};
 
 mod c {
     extern "C" {
-        pub fn osc_decode_udp(msg: *const u8, len: usize, table: *mut u8, table_len: usize, depth: u64) -> u64;
-        pub fn osc_decode_tcp(msg: *const u8, len: usize, table: *mut u8, table_len: usize, depth: u64) -> u64;
-        pub fn osc_decode_tcp_vec(msg: *const u8, len: usize, table: *mut u8, table_len: usize, depth: u64) -> u64;
+        pub fn osc_decode_udp(
+            msg: *const u8,
+            len: usize,
+            table: *mut u8,
+            table_len: usize,
+            depth: u64,
+            more: *mut u64,
+        ) -> u64;
+        pub fn osc_decode_tcp(
+            msg: *const u8,
+            len: usize,
+            table: *mut u8,
+            table_len: usize,
+            depth: u64,
+            more: *mut u64,
+        ) -> u64;
+        pub fn osc_decode_tcp_vec(
+            msg: *const u8,
+            len: usize,
+            table: *mut u8,
+            table_len: usize,
+            depth: u64,
+            more: *mut u64,
+        ) -> u64;
         #[rustfmt::skip]
         pub fn osc_encode(
             table: *const u8,
@@ -43,23 +65,23 @@ mod c {
     }
 }
 
-// SAFETY, of every call of `c` below: each pointer is that of a slice which lives through the call, with that slice's length;
-// what may be written is lent by `&mut`, so nothing else names it; the functions keep no pointer, and are proved for every
+// SAFETY, of every call of `c` below: each pointer is that of a slice which lives through the call, with that slice's length,
+// or of a number that lives as long; what may be written is lent by `&mut`, so nothing else names it; the functions keep no pointer, and are proved for every
 // input.
 
 /// `osc_decode_udp`: one packet from all of a UDP packet.
-pub fn decode_udp(msg: &[u8], table: &mut [u8], depth: u64) -> u64 {
-    unsafe { c::osc_decode_udp(msg.as_ptr(), msg.len(), table.as_mut_ptr(), table.len(), depth) }
+pub fn decode_udp(msg: &[u8], table: &mut [u8], depth: u64, more: &mut u64) -> u64 {
+    unsafe { c::osc_decode_udp(msg.as_ptr(), msg.len(), table.as_mut_ptr(), table.len(), depth, more) }
 }
 
 /// `osc_decode_tcp`: the first packet of a TCP stream.
-pub fn decode_tcp(msg: &[u8], table: &mut [u8], depth: u64) -> u64 {
-    unsafe { c::osc_decode_tcp(msg.as_ptr(), msg.len(), table.as_mut_ptr(), table.len(), depth) }
+pub fn decode_tcp(msg: &[u8], table: &mut [u8], depth: u64, more: &mut u64) -> u64 {
+    unsafe { c::osc_decode_tcp(msg.as_ptr(), msg.len(), table.as_mut_ptr(), table.len(), depth, more) }
 }
 
 /// `osc_decode_tcp_vec`: the packets of a TCP stream.
-pub fn decode_tcp_vec(msg: &[u8], table: &mut [u8], depth: u64) -> u64 {
-    unsafe { c::osc_decode_tcp_vec(msg.as_ptr(), msg.len(), table.as_mut_ptr(), table.len(), depth) }
+pub fn decode_tcp_vec(msg: &[u8], table: &mut [u8], depth: u64, more: &mut u64) -> u64 {
+    unsafe { c::osc_decode_tcp_vec(msg.as_ptr(), msg.len(), table.as_mut_ptr(), table.len(), depth, more) }
 }
 
 /// `osc_encode`: the packet of `count` records.
@@ -115,11 +137,13 @@ impl<'a> Nodes<'a> {
     /// What a decoder gives, and the number of input bytes left over.
     #[inline]
     pub fn decode(by: Decoder, msg: &'a [u8], table: &'a mut [u8], depth: u64) -> Result<(Nodes<'a>, usize), Refusal> {
-        let answer = Refusal::settle(match by {
-            Decoder::Udp => decode_udp(msg, table, depth),
-            Decoder::Tcp => decode_tcp(msg, table, depth),
-            Decoder::TcpVec => decode_tcp_vec(msg, table, depth),
-        })?;
+        let mut more = 0;
+        let answer = match by {
+            Decoder::Udp => decode_udp(msg, table, depth, &mut more),
+            Decoder::Tcp => decode_tcp(msg, table, depth, &mut more),
+            Decoder::TcpVec => decode_tcp_vec(msg, table, depth, &mut more),
+        };
+        let answer = Refusal::settle(answer, more)?;
         let count = (answer >> 32) as usize;
         Ok((Nodes { records: &table.as_chunks().0[..count], source: msg }, answer as u32 as usize))
     }
@@ -127,7 +151,7 @@ impl<'a> Nodes<'a> {
     /// A table from anywhere, if it is well formed. The encoder's first test is that, and 11 is given for nothing else; with no
     /// room to write to it ends in another refusal.
     pub fn check(table: &'a [u8], count: usize, source: &'a [u8]) -> Result<Nodes<'a>, Refusal> {
-        match Refusal::settle(encode(table, count as u64, source, &mut [])) {
+        match Refusal::settle(encode(table, count as u64, source, &mut []), 0) {
             Err(Refusal::BadTable) => Err(Refusal::BadTable),
             _ => Ok(Nodes { records: &table.as_chunks().0[..count], source }),
         }

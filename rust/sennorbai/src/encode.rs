@@ -71,5 +71,5 @@ pub fn pad(pos: u64) -> Result<u64, Refusal> {
 
 /// The bytes that an encoder wrote, by its answer.
 fn written(answer: u64, out: &mut [u8]) -> Result<&[u8], Refusal> {
-    Refusal::settle(answer).map(|answer| &out[..answer as u32 as usize])
+    Refusal::settle(answer, 0).map(|answer| &out[..answer as u32 as usize])
 }

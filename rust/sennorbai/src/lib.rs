@@ -32,7 +32,7 @@
 //!
 //! Depth counts bundles and arrays together: a bundle is one level and so is an array, along the deepest path of a tree; a message
 //! adds none. A decoder is told how deep its trees may be, at most [`DEEPEST`]; an encoder takes a tree of that depth and none
-//! deeper. So no call goes deeper than that either: each ends within 33,488 bytes of stack, whatever it is given.
+//! deeper. So no call goes deeper than that either: each ends within 35,616 bytes of stack, whatever it is given.
 #![cfg_attr(not(feature = "std"), no_std)]
 #![deny(missing_docs, unsafe_code)]
 
@@ -51,6 +51,6 @@ pub use builder::{BuildError, Builder};
 pub use decode::{decode_tcp, decode_tcp_vec, decode_udp, Decoded};
 pub use encode::{encode, encode_string, encode_tcp, pad};
 pub use limits::{DEEPEST, LONGEST, MOST, RECORD};
-pub use refusal::Refusal;
+pub use refusal::{Field, Refusal};
 pub use table::{look, start_of, Packet, Packets, Record, Records, Siblings, Table};
 pub use value::{Color, Midi, Time, Value};

@@ -2,53 +2,102 @@
 
 use core::fmt;
 
-/// A refusal of document 01. It changes no byte of what was lent.
+/// A refusal of document 01 and its tickets. It changes no byte of what was lent.
+///
+/// Where a field was short, it says which and where that field began. There is no refusal 3: 17 to 21 stand in its place.
 ///
 /// ```
-/// use sennorbai::Refusal;
+/// use sennorbai::{decode_udp, Field, Refusal, DEEPEST};
 ///
 /// assert_eq!(Refusal::Empty.number(), 2);
 /// assert_eq!(Refusal::Empty.to_string(), "2: a packet of no bytes");
+///
+/// let refusal = decode_udp(b"/\0\0\0", &mut [], DEEPEST).unwrap_err();
+/// assert_eq!(refusal, Refusal::Short { field: Field::TypeText, at: 4 });
+/// assert_eq!(refusal.number(), 18);
+/// assert_eq!(refusal.to_string(), "18: the type text that begins at byte 4 is not all there");
 /// ```
 #[derive(Clone, Copy, Debug, PartialEq, Eq, PartialOrd, Ord, Hash)]
-#[repr(u8)]
 pub enum Refusal {
     /// The input of a decoder or the result of an encoder is over [`LONGEST`](crate::LONGEST) bytes.
-    TooLong = 1,
+    TooLong,
     /// A packet of no bytes.
-    Empty = 2,
-    /// A field, NUL, padding or TCP prefix runs past the bytes there.
-    RunsOut = 3,
+    Empty,
     /// Text is not UTF-8.
-    NotUtf8 = 4,
+    NotUtf8,
     /// The first string is neither `/`-led nor exactly `#bundle`.
-    BadStart = 5,
+    BadStart,
     /// `]` with no array open.
-    NotOpen = 6,
+    NotOpen,
     /// An unknown type tag.
-    UnknownTag = 7,
+    UnknownTag,
     /// A `c` that is not a scalar number.
-    NotScalar = 8,
+    NotScalar,
     /// Bundles and arrays are nested deeper than the limit: together, along one path of the tree.
-    TooDeep = 9,
+    TooDeep,
     /// The result has more records than the table has room for.
-    TableFull = 10,
+    TableFull,
     /// The table is not well formed, or a record asked for does not exist.
-    BadTable = 11,
+    BadTable,
     /// The output slice is shorter than the result.
-    OutputShort = 12,
+    OutputShort,
     /// A depth limit over [`DEEPEST`](crate::DEEPEST).
-    DepthLimit = 13,
+    DepthLimit,
     /// [`pad`](crate::pad) of a position over 2^64 − 4.
-    PadOverflow = 14,
+    PadOverflow,
+    /// A field runs past the bytes there.
+    Short {
+        /// What was short.
+        field: Field,
+        /// Where it began, counted from the first byte of the call's input.
+        at: u32,
+    },
+}
+
+/// What was short, of a [`Refusal::Short`].
+#[derive(Clone, Copy, Debug, PartialEq, Eq, PartialOrd, Ord, Hash)]
+pub enum Field {
+    /// The address of a message, its NUL included. A first text is that until it is known to be `#bundle`.
+    Address,
+    /// The type text of a message, its NUL included.
+    TypeText,
+    /// The data of an argument, all of it as one field: a text with its NUL, or a blob with its size. Its padding is not in it.
+    Data,
+    /// The padding after a text or a blob.
+    Padding,
+    /// The prefix of a frame in a stream, or the time tag of a bundle.
+    Head,
+}
+
+impl Field {
+    /// The number of the refusal, 17 to 21.
+    pub const fn number(self) -> u8 {
+        match self {
+            Field::Address => 17,
+            Field::TypeText => 18,
+            Field::Data => 19,
+            Field::Padding => 20,
+            Field::Head => 21,
+        }
+    }
+
+    /// What it is called.
+    pub const fn words(self) -> &'static str {
+        match self {
+            Field::Address => "the address",
+            Field::TypeText => "the type text",
+            Field::Data => "the argument data",
+            Field::Padding => "the padding",
+            Field::Head => "the prefix or time tag",
+        }
+    }
 }
 
 impl Refusal {
-    /// Every refusal, in the order of the numbers.
-    pub const ALL: [Refusal; 14] = [
+    /// Every refusal, in the order of the numbers; of a field that was short, the one that began at byte 0.
+    pub const ALL: [Refusal; 18] = [
         Refusal::TooLong,
         Refusal::Empty,
-        Refusal::RunsOut,
         Refusal::NotUtf8,
         Refusal::BadStart,
         Refusal::NotOpen,
@@ -60,21 +109,48 @@ impl Refusal {
         Refusal::OutputShort,
         Refusal::DepthLimit,
         Refusal::PadOverflow,
+        Refusal::Short { field: Field::Address, at: 0 },
+        Refusal::Short { field: Field::TypeText, at: 0 },
+        Refusal::Short { field: Field::Data, at: 0 },
+        Refusal::Short { field: Field::Padding, at: 0 },
+        Refusal::Short { field: Field::Head, at: 0 },
     ];
 
-    /// Document 01's number, 1 to 14.
+    /// Its number: 1, 2 and 4 to 14 are document 01's, and 17 to 21 Ticket 2's.
     pub const fn number(self) -> u8 {
-        self as u8
+        match self {
+            Refusal::TooLong => 1,
+            Refusal::Empty => 2,
+            Refusal::NotUtf8 => 4,
+            Refusal::BadStart => 5,
+            Refusal::NotOpen => 6,
+            Refusal::UnknownTag => 7,
+            Refusal::NotScalar => 8,
+            Refusal::TooDeep => 9,
+            Refusal::TableFull => 10,
+            Refusal::BadTable => 11,
+            Refusal::OutputShort => 12,
+            Refusal::DepthLimit => 13,
+            Refusal::PadOverflow => 14,
+            Refusal::Short { field, .. } => field.number(),
+        }
     }
 
-    /// Document 01's words for when it is given; those of 9 are Ticket 4's.
+    /// Where the field began that was short, counted from the first byte of the call's input; none for every other refusal.
+    pub const fn offset(self) -> Option<u32> {
+        match self {
+            Refusal::Short { at, .. } => Some(at),
+            _ => None,
+        }
+    }
+
+    /// Document 01's words for when it is given; those of 9 are Ticket 4's, and those of 17 to 21 say what was short.
     pub const fn words(self) -> &'static str {
         match self {
             Refusal::TooLong => {
                 "decode input over 65,535 bytes, or encoded result (prefix included) over it; `encode_string` likewise"
             }
             Refusal::Empty => "a packet of no bytes",
-            Refusal::RunsOut => "a field, NUL, padding or TCP prefix runs past the bytes there",
             Refusal::NotUtf8 => "text is not UTF-8",
             Refusal::BadStart => "first string is neither `/`-led nor exactly `#bundle`",
             Refusal::NotOpen => "`]` with no array open",
@@ -86,22 +162,37 @@ impl Refusal {
             Refusal::OutputShort => "output slice shorter than the result",
             Refusal::DepthLimit => "depth limit over 64",
             Refusal::PadOverflow => "`pad` of a position over 2^64 − 4",
+            Refusal::Short { field, .. } => field.words(),
         }
     }
 
-    /// The library's answer, or the refusal whose number stands in its bits 56 to 63.
+    /// The library's answer, or the refusal whose number stands in its bits 56 to 63. A decoder has said more beside it: where a
+    /// field began that was short, in bits 32 to 47.
     #[inline]
-    pub(crate) fn settle(answer: u64) -> Result<u64, Refusal> {
+    pub(crate) fn settle(answer: u64, more: u64) -> Result<u64, Refusal> {
         match answer >> 56 {
             0 => Ok(answer),
-            number => Err(Refusal::ALL[number as usize - 1]),
+            number => Err(Refusal::of(number as u8, (more >> 32) as u16 as u32)),
+        }
+    }
+
+    /// The refusal of a number that the library gives.
+    fn of(number: u8, at: u32) -> Refusal {
+        match Refusal::ALL.into_iter().find(|refusal| refusal.number() == number) {
+            Some(Refusal::Short { field, .. }) => Refusal::Short { field, at },
+            Some(refusal) => refusal,
+            None => unreachable!("the library gives no refusal {number}"),
         }
     }
 }
 
 impl fmt::Display for Refusal {
     fn fmt(&self, f: &mut fmt::Formatter<'_>) -> fmt::Result {
-        write!(f, "{}: {}", self.number(), self.words())
+        let (number, words) = (self.number(), self.words());
+        match self.offset() {
+            Some(at) => write!(f, "{number}: {words} that begins at byte {at} is not all there"),
+            None => write!(f, "{number}: {words}"),
+        }
     }
 }
 

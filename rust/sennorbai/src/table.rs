@@ -300,7 +300,7 @@ impl fmt::Debug for Siblings<'_> {
 /// assert_eq!(look(&table, 1), Err(Refusal::BadTable));
 /// ```
 pub fn look(table: &[u8], index: usize) -> Result<u8, Refusal> {
-    Refusal::settle(boundary::look(table, index as u64)).map(|answer| answer as u8)
+    Refusal::settle(boundary::look(table, index as u64), 0).map(|answer| answer as u8)
 }
 
 /// The start of the record at `index` of any table, as [`Record::start`] has it: nothing else of the record is looked at.
@@ -313,5 +313,5 @@ pub fn look(table: &[u8], index: usize) -> Result<u8, Refusal> {
 /// assert_eq!(start_of(&table, 1), Err(Refusal::BadTable));
 /// ```
 pub fn start_of(table: &[u8], index: usize) -> Result<usize, Refusal> {
-    Refusal::settle(boundary::start(table, index as u64)).map(|answer| answer as usize)
+    Refusal::settle(boundary::start(table, index as u64), 0).map(|answer| answer as usize)
 }

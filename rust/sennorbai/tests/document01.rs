@@ -1,8 +1,8 @@
 //! Document 01's examples, limits and refusals over lent buffers; depth as Ticket 4 has it.
 
 use sennorbai::{
-    decode_tcp, decode_tcp_vec, decode_udp, encode, encode_string, encode_tcp, look, pad, Builder, Decoded, Refusal, Table,
-    Time, Value, DEEPEST, LONGEST, RECORD,
+    decode_tcp, decode_tcp_vec, decode_udp, encode, encode_string, encode_tcp, look, pad, Builder, Decoded, Field, Refusal,
+    Table, Time, Value, DEEPEST, LONGEST, RECORD,
 };
 
 /// Bytes from hex digits with spaces between.
@@ -23,7 +23,7 @@ fn udp(digits: &str) -> Result<(String, usize), Refusal> {
 fn examples_that_are_refused() {
     let cases = [
         ("", 2),
-        ("2F000000", 3),
+        ("2F000000", 18),
         ("2F610000 2C5D0000", 6),
         ("2F610000 2C780000", 7),
         ("2F610000 2C630000 0000D800", 8),
@@ -62,7 +62,8 @@ fn example_3_byte_for_byte() {
 #[test]
 fn examples_13_and_14() {
     let mut table = [0xAA; 64];
-    assert_eq!(decode_tcp(&hex("00000008 2F610000"), &mut table, DEEPEST).unwrap_err(), Refusal::RunsOut);
+    let refusal = Refusal::Short { field: Field::TypeText, at: 8 };
+    assert_eq!(decode_tcp(&hex("00000008 2F610000"), &mut table, DEEPEST).unwrap_err(), refusal);
     assert!(matches!(decode_tcp(&hex("00000009 2F610000"), &mut table, DEEPEST), Ok(Decoded::Waiting)));
     let list = decode_tcp_vec(b"\0\0\0\x09/a\0\0", &mut table, DEEPEST).unwrap();
     assert_eq!((list.count(), list.left(), list.roots().count()), (0, 8, 0));
@@ -254,12 +255,53 @@ fn values_of_every_kind() {
 
 #[test]
 fn refusals_print_number_and_words() {
-    for (index, refusal) in Refusal::ALL.into_iter().enumerate() {
-        assert_eq!(refusal.number() as usize, index + 1);
-        assert_eq!(refusal.to_string(), format!("{}: {}", index + 1, refusal.words()));
+    let numbers = [1, 2, 4, 5, 6, 7, 8, 9, 10, 11, 12, 13, 14, 17, 18, 19, 20, 21];
+    assert_eq!(Refusal::ALL.map(Refusal::number), numbers);
+    assert!(Refusal::ALL.is_sorted());
+    for refusal in Refusal::ALL {
+        let (number, words) = (refusal.number(), refusal.words());
+        let short = if number > 16 { " that begins at byte 0 is not all there" } else { "" };
+        assert_eq!(refusal.to_string(), format!("{number}: {words}{short}"));
+        assert_eq!(refusal.offset(), if number > 16 { Some(0) } else { None });
         let error: &dyn std::error::Error = &refusal;
         assert!(error.source().is_none());
     }
     assert_eq!(Refusal::TooDeep.to_string(), "9: bundles and arrays nested deeper than the limit");
     assert_eq!(Refusal::DepthLimit.to_string(), "13: depth limit over 64");
+    let refusal = Refusal::Short { field: Field::Data, at: 65_532 };
+    assert_eq!(refusal.to_string(), "19: the argument data that begins at byte 65532 is not all there");
+}
+
+#[test]
+fn short_fields() {
+    let mut table = [0xAA; 8 * RECORD];
+    for (number, at, input) in [
+        (17, 0, "2F61"),
+        (17, 0, "23"),
+        (20, 2, "2F00"),
+        (20, 2, "2F0000"),
+        (18, 4, "2F000000"),
+        (18, 4, "2F610000 2C6969"),
+        (20, 6, "2F610000 2C0000"),
+        (19, 8, "2F610000 2C620000 00000003 6162"),
+        (20, 13, "2F610000 2C620000 00000001 61"),
+        (19, 8, "2F610000 2C730000 616263"),
+        (21, 8, "2362756E 646C6500 00000000"),
+    ] {
+        let refusal = decode_udp(&hex(input), &mut table, DEEPEST).unwrap_err();
+        assert_eq!((refusal.number(), refusal.offset()), (number, Some(at)), "{input}");
+    }
+    for (field, at, input) in [
+        (Field::Head, 0, ""),
+        (Field::Head, 0, "0000"),
+        (Field::Head, 16, "0000000C 2F610000 2C690000 00000007 0000"),
+        (Field::Address, 20, "0000000C 2F610000 2C690000 00000007 00000004 2F616263"),
+    ] {
+        let refusal = decode_tcp_vec(&hex(input), &mut table, DEEPEST).unwrap_err();
+        assert_eq!(refusal, Refusal::Short { field, at }, "{input}");
+    }
+    // What a bundle swallows is told by no refusal.
+    let swallowed = hex("2362756E 646C6500 00000000 00000001 00000004 2F616263");
+    assert_eq!(decode_udp(&swallowed, &mut [0; RECORD], DEEPEST).unwrap().left(), 8);
+    assert_eq!(table, [0xAA; 8 * RECORD]);
 }

@@ -5,7 +5,8 @@ use mathlib.Core.List.{List}
 use Prim.Native.Nat.{ℕ, zero, suc, _+_}
 use lib.Dec.{eqb, ltb}
 use lib.ListN.{length, drop}
-use Rattle.refusal.specs.declared.Fault.the-variants.{Empty, RunsOut, NotUtf8, BadStart, NotOpen, UnknownTag, NotScalar}
+use Rattle.refusal.specs.declared.Field.the-variants as field
+use Rattle.refusal.specs.declared.Fault.the-variants.{Empty, Short, NotUtf8, BadStart, NotOpen, UnknownTag, NotScalar}
 use Rattle.wire.specs.Pad.{padOf}
 use Rattle.utf8.specs.Derive.{utf8}
 use Rattle.wire.specs.Limits.{longest, deepest}
@@ -83,7 +84,11 @@ limited-listed : (b : Bool) (capacity limit : ℕ) (w : Whole) → MayWait b w �
 limited-listed b capacity limit (trees f left) h = by-trees (Decoding b) capacity limit f left (λ g. refl) (λ g. refl) (λ g k. tt)
 limited-listed b capacity limit waiting h = h
 limited-listed b capacity limit (refusal Empty) h = refl
-limited-listed b capacity limit (refusal RunsOut) h = refl
+limited-listed b capacity limit (refusal (Short field.Address at)) h = refl
+limited-listed b capacity limit (refusal (Short field.TypeText at)) h = refl
+limited-listed b capacity limit (refusal (Short field.Data at)) h = refl
+limited-listed b capacity limit (refusal (Short field.Padding at)) h = refl
+limited-listed b capacity limit (refusal (Short field.Head at)) h = refl
 limited-listed b capacity limit (refusal NotUtf8) h = refl
 limited-listed b capacity limit (refusal BadStart) h = refl
 limited-listed b capacity limit (refusal NotOpen) h = refl

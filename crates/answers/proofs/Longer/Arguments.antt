@@ -17,12 +17,15 @@ use Rattle.node.specs.declared.tags.Class.{Class}
 use Rattle.node.specs.declared.tags.Class.the-variants.{Four, Eight, Bare, Text as String, Blob, Scalar, Unknown}
 use Rattle.node.specs.declared.tags.Sort.{Sort}
 use Rattle.node.specs.declared.tags.Sort.the-variants.{Opens, Closes, Leaf}
-use Rattle.text.specs.Text.{untilNul, reach, readText, faultOf}
+use Rattle.text.specs.Text.{untilNul, reach, readText, faultIn}
 use Rattle.text.specs.declared.Text.{Text}
 use Rattle.text.specs.declared.Text.the-variants.{Found, Lacks}
 use Rattle.text.specs.declared.Lack.the-variants.{Utf8}
 use Rattle.argument.specs.Argument.{argItem, having, textArg, readArg}
 use Rattle.arguments.specs.Arguments.{Args, refused, args, later, argTaken, arrayItem, Open, waits, act, readTags, readArgs}
+use Rattle.refusal.specs.declared.Fault.the-variants.{Short}
+use Rattle.refusal.specs.declared.Field.{Field}
+use Rattle.refusal.specs.declared.Field.the-variants.{Data, Padding}
 use Rattle.argument.specs.declared.Arg.{Arg}
 use Rattle.argument.specs.declared.Arg.the-variants.{Given, Refused}
 use Rattle.answers.specs.Words.{Mendable}
@@ -32,7 +35,7 @@ use Rattle.argument.proofs.Within.{given-within}
 -- a text that was found stays, and so does a fault that no bytes mend
 abbrev pub KeptText : Text → Text → Type 0
 KeptText (Found n used) t = t ≡ Found n used
-KeptText (Lacks lack) t = (Mendable (faultOf lack) → ⊥) → t ≡ Lacks lack
+KeptText (Lacks lack) t = (field : Field) (p : ℕ) → (Mendable (faultIn field p lack) → ⊥) → t ≡ Lacks lack
 
 -- so does an argument
 abbrev KeptArg : Arg → Arg → Type 0
@@ -63,7 +66,7 @@ module _ (more : List ℕ) where
 
   same-text : (t : Text) → KeptText t t
   same-text (Found n used) = refl
-  same-text (Lacks lack) = λ s. refl
+  same-text (Lacks lack) = λ field p s. refl
 
   -- a text is found again, or lacks UTF-8 again
   pub text-longer : (l : List ℕ) (p : ℕ) → KeptText (readText l p) (readText (l ++ more) p)
@@ -77,19 +80,20 @@ module _ (more : List ℕ) where
       let padding = le-leb (reach p (n + 1)) (length (l ++ more)) (omega (arith, length-append l more)) in
       rw (readText, nul-longer l j, nul, padding, take-append-le n l more (omega arith))
       (same-text (cond (utf8 (take n l)) (Found n (reach p (n + 1))) (Lacks Utf8))))
-      (λ k s. absurd (s tt)))
-      (λ h s. absurd (s tt))
+      (λ k field q s. absurd (s tt)))
+      (λ h field q s. absurd (s tt))
 
   -- ---- one argument
 
-  having-longer : (n : ℕ) (l : List ℕ) (x y : Arg) → (n ≤ length l → KeptArg x y) → KeptArg (having n l x) (having n (l ++ more) y)
-  having-longer n l x y h =
-      by-le (λ z. KeptArg z (having n (l ++ more) y)) n (length l)
+  having-longer : (n : ℕ) (l : List ℕ) (field : Field) (at : ℕ) (x y : Arg) → (n ≤ length l → KeptArg x y)
+      → KeptArg (having n l (Short field at) x) (having n (l ++ more) (Short field at) y)
+  having-longer n l field at x y h =
+      by-le (λ z. KeptArg z (having n (l ++ more) (Short field at) y)) n (length l)
       (λ g. rw (le-leb n (length (l ++ more)) (omega (arith, length-append l more))) (h g)) (λ g s. absurd (s tt))
 
-  text-arg-longer : (tag offset : ℕ) (t t' : Text) → KeptText t t' → KeptArg (textArg tag offset t) (textArg tag offset t')
-  text-arg-longer tag offset (Found n used) t' e = rw e
-  text-arg-longer tag offset (Lacks lack) t' e = λ s. rw (e s)
+  text-arg-longer : (tag offset p : ℕ) (t t' : Text) → KeptText t t' → KeptArg (textArg tag offset p t) (textArg tag offset p t')
+  text-arg-longer tag offset p (Found n used) t' e = rw e
+  text-arg-longer tag offset p (Lacks lack) t' e = λ s. rw (e Data p s)
 
   same-arg : (x : Arg) → KeptArg x x
   same-arg (Given item used) = refl
@@ -98,19 +102,22 @@ module _ (more : List ℕ) where
   arg-longer : (tag : ℕ) (class : Class) (base : ℕ) (l : List ℕ) (p : ℕ)
       → KeptArg (readArg tag class base l p) (readArg tag class base (l ++ more) p)
   unfolding readArg
-  arg-longer tag Four base l p = having-longer 4 l _ _ (λ h. rw (number-longer 4 l h))
+  arg-longer tag Four base l p = having-longer 4 l Data p _ _ (λ h. rw (number-longer 4 l h))
   arg-longer tag Eight base l p =
-      having-longer 8 l _ _ (λ h. let h4 : 4 ≤ length l = omega arith in
+      having-longer 8 l Data p _ _ (λ h. let h4 : 4 ≤ length l = omega arith in
       rw (number-longer 4 l h4, drop-append-le 4 l more h4, number-longer 4 (drop 4 l) (omega (arith, length-drop 4 l))))
   arg-longer tag Bare base l p = refl
-  arg-longer tag String base l p = text-arg-longer tag (base + p) (readText l p) (readText (l ++ more) p) (text-longer l p)
+  arg-longer tag String base l p = text-arg-longer tag (base + p) p (readText l p) (readText (l ++ more) p) (text-longer l p)
   arg-longer tag Blob base l p =
       let n = number 4 l in
-      having-longer 4 l (having (reach p (4 + n)) l (Given (argItem tag (base + p) (base + (p + 4)) n) (reach p (4 + n)))) _
-      (λ h. rw (number-longer 4 l h) (having-longer (reach p (4 + n)) l _ _ (λ k. refl)))
+      let padded = having (reach p (4 + n)) l (Short Padding (p + (4 + n)))
+      (Given (argItem tag (base + p) (base + (p + 4)) n) (reach p (4 + n))) in
+      having-longer 4 l Data p (having (4 + n) l (Short Data p) padded) _
+      (λ h. rw (number-longer 4 l h)
+      (having-longer (4 + n) l Data p padded _ (λ j. having-longer (reach p (4 + n)) l Padding (p + (4 + n)) _ _ (λ k. refl))))
   arg-longer tag Scalar base l p =
       let n = number 4 l in
-      having-longer 4 l _ _
+      having-longer 4 l Data p _ _
       (λ h. rw (number-longer 4 l h) (same-arg (cond (isScalar n) (Given (argItem tag (base + p) n 0) 4) (Refused NotScalar))))
   arg-longer tag Unknown base l p = λ s. refl
 

@@ -4,7 +4,8 @@ use mathlib.Core.Path.{_≡_, refl, sym, _∙_}
 use mathlib.Core.List.{List, [], _∷_, _++_}
 use Prim.Native.Nat.{ℕ}
 use native.Mathlib.Omega.{arith}
-use Rattle.refusal.specs.declared.Fault.the-variants.{Empty, RunsOut, BadStart, UnknownTag}
+use Rattle.refusal.specs.declared.Fault.the-variants.{Empty, Short, BadStart, UnknownTag}
+use Rattle.refusal.specs.declared.Field.the-variants.{TypeText}
 use Rattle.refusal.specs.declared.Refusal.the-variants.{Unreadable}
 use Rattle.wire.specs.Number.{number}
 use Rattle.node.specs.Forest.{size, depth, snoc}
@@ -123,7 +124,7 @@ none-mended = (refl, refl)
 abbrev short : List ℕ
 short = 0x2F ∷ 0 ∷ 0 ∷ 0 ∷ []
 
-short-mended : (answerTo udp 0 short (blank 1) ≡ Refused (Unreadable RunsOut))
+short-mended : (answerTo udp 0 short (blank 1) ≡ Refused (Unreadable (Short TypeText 4)))
     × (answerTo udp 0 (short ++ (0 ∷ 0 ∷ 0 ∷ 0 ∷ [])) (blank 1) ≡ Packets 1 0)
 unfolding number size depth snoc classOf sortOf readText readArg readTags startOf sizeOf readMessage bundleBy elementBy elementsBy packetBy
     packetAt readPacket udp decoded

@@ -28,7 +28,7 @@ module _ {k : Fault} where
       (λ h c p. no-packets p) e
 
   -- a refusal of 2 to 8 is given for what the input is read as
-  read-refused : (rule : List ℕ → Whole) (capacity limit : ℕ) (msg : List ℕ) → decoded rule capacity limit msg ≡ Refused (Unreadable k)
+  pub read-refused : (rule : List ℕ → Whole) (capacity limit : ℕ) (msg : List ℕ) → decoded rule capacity limit msg ≡ Refused (Unreadable k)
       → rule msg ≡ refusal k
   read-refused rule capacity limit msg =
       by-decoded (λ r. r ≡ Refused (Unreadable k) → rule msg ≡ refusal k) rule capacity limit msg

@@ -8,6 +8,7 @@ use borrow.Author.Tests.{le-leb, ne-eqb}
 use lib.ListN.{length, take, drop, length-append, length-drop, List·getD-append}
 use lib.Seq.{take-append-le, drop-append-le}
 use Rattle.refusal.specs.declared.Fault.{Fault}
+use Rattle.refusal.specs.declared.Field.the-variants.{Address, TypeText}
 use Rattle.wire.specs.Number.{number}
 use Rattle.node.specs.Tags.{messageKind, bundleKind}
 use Rattle.node.specs.Forest.{Forest, nil, node}
@@ -85,7 +86,7 @@ module _ (base : ℕ) (more : List ℕ) where
 
   types-grow : (item : Item) → item .kind ≡ messageKind → (l : List ℕ) (p : ℕ) (t t' : Text) → t ≡ readText l p → KeptText t t'
       → Grows (typesThen base item l p t) (typesThen base item (l ++ more) p t')
-  types-grow item k l p (Lacks lack) t' e s = was-refused (λ m. ap (typesThen base item (l ++ more) p) (s m))
+  types-grow item k l p (Lacks lack) t' e s = was-refused (λ m. ap (typesThen base item (l ++ more) p) (s TypeText p m))
   types-grow item k l p (Found m used) t' e s =
       let w = found-in l p e in
       let tags = tagsIn (take m l) in
@@ -173,11 +174,11 @@ module _ (base : ℕ) (more : List ℕ) where
       (λ h. rw (startOf, ne-eqb (length (l ++ more)) 0 (omega (arith, length-append l more)))
       (by-text (readText l p) (readText (l ++ more) p) refl (text-longer more l p)))
     where
-      by-text : (t t' : Text) → t ≡ readText l p → KeptText t t' → KeptStart (startBy l t) (startBy (l ++ more) t')
-      by-text (Lacks lack) t' e s = λ m. rw (s m)
+      by-text : (t t' : Text) → t ≡ readText l p → KeptText t t' → KeptStart (startBy l p t) (startBy (l ++ more) p t')
+      by-text (Lacks lack) t' e s = λ m. rw (s Address p m)
       by-text (Found n used) t' e s =
           let w = found-in l p e in
-          rw (s, List·getD-append l more 0 0 (omega arith), take-append-le n l more (omega arith)) (same-start (startBy l (Found n used)))
+          rw (s, List·getD-append l more 0 0 (omega arith), take-append-le n l more (omega arith)) (same-start (startBy l p (Found n used)))
 
   -- a packet goes on: a message is the same, a bundle begins with the same elements, and a fault that no bytes mend is the same
   pub packet-grows : (l : List ℕ) (p : ℕ) → Grows (readPacket base l p) (readPacket base (l ++ more) p)

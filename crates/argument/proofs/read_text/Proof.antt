@@ -17,7 +17,7 @@ returns-2 : tie.Need-returns-2
 returns-2 c =
     let p2 = c .before .before in
     let p4 = p2 .before .before in
-    text-lacks _ _ _ _ (sym (p2 .lack .given .1) ∙ p4 .read-osc-string .ensures) (c .fault-of .ensures)
+    text-lacks _ _ _ _ (sym (p2 .lack .given .1) ∙ p4 .read-osc-string .ensures) (c .fault-in .ensures)
 
 pub read-text-spec : {M : Type 1} → statement M
 read-text-spec =

@@ -123,7 +123,7 @@ module _ {s : List ℕ} (base : ℕ) {l : List ℕ} (p : ℕ) (at : At s (base +
   leaf-sound Bare tag t = (refl, of-among (λ k. rangeOk s (argItem k (base + p) 0 0) ≡ true) tag bares (refl, (refl, (refl, (refl, tt)))) t)
   leaf-sound String tag t = by-text (readText l p) refl
     where
-      by-text : (x : Text) → x ≡ readText l p → LeafSound s String (textArg tag (base + p) x)
+      by-text : (x : Text) → x ≡ readText l p → LeafSound s String (textArg tag (base + p) p x)
       by-text (Found n used) e =
           let w = found-in l p e in
           (refl, text-range tag (ap (λ (k : ℕ). among k (messageKind ∷ 115 ∷ [])) t) at (omega arith) (w .2))
@@ -131,8 +131,10 @@ module _ {s : List ℕ} (base : ℕ) {l : List ℕ} (p : ℕ) (at : At s (base +
   leaf-sound Blob tag t =
       let n = number 4 l in
       by-le (LeafSound s Blob) 4 (length l)
-      (λ h. by-le (LeafSound s Blob) (reach p (4 + n)) (length l)
+      (λ h. by-le (LeafSound s Blob) (4 + n) (length l)
+      (λ j. by-le (LeafSound s Blob) (reach p (4 + n)) (length l)
       (λ k. (refl, rw (t, le-leb (base + (p + 4) + n) (length s) (omega (arith, at .within)))))
+      (λ _. tt))
       (λ _. tt))
       (λ _. tt)
   leaf-sound Scalar tag t =

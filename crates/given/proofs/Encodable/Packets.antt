@@ -108,7 +108,7 @@ module _ {s : List ℕ} (small : Bytes s) (low : length s < 256 ^ 4) (base : ℕ
   packet-by-sound es {l} p at h =
       by-test (λ x. OutSound s (startedBy base es l p x)) (eqb (length l) 0) (λ _. tt) (λ _. by-text (readText l p) refl)
     where
-      by-text : (t : Text) → t ≡ readText l p → OutSound s (startedBy base es l p (startBy l t))
+      by-text : (t : Text) → t ≡ readText l p → OutSound s (startedBy base es l p (startBy l p t))
       by-text (Lacks k) e = tt
       by-text (Found n used) e =
           let w = found-in l p e in

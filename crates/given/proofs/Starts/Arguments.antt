@@ -55,14 +55,16 @@ leaf-start base l p Eight tag t =
 leaf-start base l p Bare tag t = no-range _ (of-among (λ k. rangedKind k ≡ false) tag bares (refl, (refl, (refl, (refl, tt)))) t)
 leaf-start base l p String tag t = by-text (readText l p)
   where
-    by-text : (x : Text) → LeafStart (textArg tag (base + p) x)
+    by-text : (x : Text) → LeafStart (textArg tag (base + p) p x)
     by-text (Found n used) = record { text = λ _. refl; blob = λ e. absurd (omega arith) }
     by-text (Lacks k) = tt
 leaf-start base l p Blob tag t =
     let none : among tag (messageKind ∷ 115 ∷ []) ≡ false = ap (λ (k : ℕ). among k (messageKind ∷ 115 ∷ [])) t in
     by-le LeafStart 4 (length l)
+    (λ _. by-le LeafStart (4 + number 4 l) (length l)
     (λ _. by-le LeafStart (reach p (4 + number 4 l)) (length l)
     (λ _. record { text = λ e. absurd (true≢false (sym e ∙ none)); blob = λ _. omega arith }) (λ _. tt))
+    (λ _. tt))
     (λ _. tt)
 leaf-start base l p Scalar tag t =
     by-le LeafStart 4 (length l)

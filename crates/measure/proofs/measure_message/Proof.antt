@@ -119,7 +119,7 @@ returns-3 : tie.Need-returns-3
 returns-3 c =
     let p2 = c .before .before in
     let p4 = p2 .before .before in
-    λ base offset n. ap Refused (c .fault-of .ensures)
+    λ base offset n. ap Refused (c .fault-in .ensures)
     ∙ refused-is _ _ (types-lack base (messageItem offset n) _ _ (sym (p2 .lack .given .1) ∙ (p4 .read-osc-string .ensures)))
 
 pub measure-message-spec : {M : Type 1} → statement M

@@ -49,7 +49,7 @@ returns-5 c =
     let p2 = c .before .before in
     let p4 = p2 .before .before in
     let p5 = p4 .before in
-    ap Refused (c .fault-of .ensures) ∙ start-lacks _ _ (p5 .if1 .left) (sym (p2 .lack .given .1) ∙ (p4 .read-osc-string .ensures))
+    ap Refused (c .fault-in .ensures) ∙ start-lacks _ _ (p5 .if1 .left) (sym (p2 .lack .given .1) ∙ (p4 .read-osc-string .ensures))
 
 pub read-start-spec : {M : Type 1} → statement M
 read-start-spec =

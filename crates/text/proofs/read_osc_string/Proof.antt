@@ -87,6 +87,8 @@ read-osc-string-spec =
     (λ c. search needs)
     (λ c. search needs)
     (λ c. search needs)
+    (λ c. search needs)
+    (λ c. search needs)
     returns-2
     returns-3
     (λ c. search needs)

@@ -1,7 +1,7 @@
 -- `totals::measure_tcp_vec` meets its contract. The invariant: the whole total is what is counted so far, and the total
 -- of what is left.
 use Rattle.totals.proofs.FrameExtents.{Totalling, empty-list, totalling-start, totalling-tree, totalling-deep, totalling-waits}
-use Rattle.totals.proofs.FrameExtents.{totalling-refused, totalling-end}
+use Rattle.totals.proofs.FrameExtents.{totalling-low, totalling-refused, totalling-end}
 use Rattle.totals.specs.declared.FrameExtent.the-variants.{Packet}
 use Rattle.wire.proofs.Parts.{tail}
 use native.Mathlib.Omega.{arith}
@@ -125,17 +125,33 @@ loop-again-2 c =
     (tail (a .msg .now) (p9 .loop .at)) (p6 .measure-frame .ensures (p9 .loop .at))
     (p4 .extent .given .1 ∙ ap Packet (p1 .extent3 .given .1)) .1
 
-returns-3 : tie.Need-returns-3 Inv-loop μ-loop
-returns-3 c =
+moved-requires : tie.Need-moved-requires Inv-loop μ-loop
+moved-requires c κs =
     let p1 = c .before in
     let p4 = p1 .before .before .before in
     let p6 = p4 .before .before in
     let p8 = p6 .before .before in
     let p9 = p8 .before in
     let a = p9 .before .before .before .args in
-    totalling-refused (a .depth) (a .msg .now) (p9 .loop .at) (p9 .loop .count) (p9 .loop .deep) (p9 .loop .inv) (p8 .loop-test .taken)
-    (tail (a .msg .now) (p9 .loop .at)) (p6 .measure-frame .ensures (p9 .loop .at))
-    (p4 .extent .given .1 ∙ ap Packet (p1 .extent4 .given .1))
+    omega (
+      arith,
+      totalling-low (a .depth) (a .msg .now) (p9 .loop .at) (p9 .loop .count) (p9 .loop .deep) (p9 .loop .inv) (p8 .loop-test .taken)
+          (tail (a .msg .now) (p9 .loop .at)) (p6 .measure-frame .ensures (p9 .loop .at))
+          (p4 .extent .given .1 ∙ ap Packet (p1 .extent4 .given .1)),
+      p9 .before .before .before .pre,
+    )
+
+returns-3 : tie.Need-returns-3 Inv-loop μ-loop
+returns-3 c =
+    let p2 = c .before .before in
+    let p5 = p2 .before .before .before in
+    let p7 = p5 .before .before in
+    let p9 = p7 .before .before in
+    let p10 = p9 .before in
+    let a = p10 .before .before .before .args in
+    totalling-refused (a .depth) (a .msg .now) (p10 .loop .at) (p10 .loop .count) (p10 .loop .deep) (p10 .loop .inv)
+    (p9 .loop-test .taken) (tail (a .msg .now) (p10 .loop .at)) (p7 .measure-frame .ensures (p10 .loop .at))
+    (p5 .extent .given .1 ∙ ap Packet (p2 .extent4 .given .1)) (c .moved .ensures)
 
 returns-4 : tie.Need-returns-4 Inv-loop μ-loop
 returns-4 c =
@@ -171,6 +187,7 @@ measure-tcp-vec-spec =
     loop-less-2
     loop-again-2
     (λ c. search needs)
+    moved-requires
     returns-3
     (λ c κs. search needs)
     returns-4)

@@ -72,20 +72,23 @@ fn hex(bytes: &[u8]) -> String {
     bytes.iter().take(400).map(|b| format!("{b:02X}")).collect()
 }
 
-/// What the boundary must answer, and the bytes that must stand at the front of the room; all others stay as they were.
+/// What the boundary must answer, what a decoder must say beside it, and the bytes that must stand at the front of the room; all
+/// others stay as they were.
 #[derive(Clone, Debug)]
 pub struct Due {
     pub answer: u64,
+    pub more: u64,
     pub wrote: Vec<u8>,
 }
 
 impl Due {
     pub fn new() -> Due {
-        Due { answer: 0, wrote: Vec::new() }
+        Due { answer: 0, more: 0, wrote: Vec::new() }
     }
 
     pub fn refuse(&mut self, number: u8) {
         self.answer = (number as u64) << 56;
+        self.more = 0;
         self.wrote.clear();
     }
 

@@ -101,7 +101,7 @@ impl Case {
             Call::Tcp => 1 + r.below(2),
             _ => 1 + r.below(4),
         };
-        let packet = match r.below(43) {
+        let packet = match r.below(45) {
             0 if r.one_in(20) => edges::deepest(r),
             1 if r.one_in(8) => {
                 self.asked.first = edges::longest(r, frames > 0);
@@ -112,6 +112,7 @@ impl Case {
             10..=11 => edges::character(r, &mut self.seen),
             12 => edges::nested(r),
             13..=14 => edges::arrays(r),
+            19..=20 => edges::cut_bundle(r),
             15..=18 if peers.any() => peers.one(r, &mut self.seen),
             _ => {
                 inputs::structured(r, frames, &mut self.asked.first);

@@ -132,6 +132,23 @@ pub fn nested(r: &mut Random) -> Vec<u8> {
     chain(r, levels, last)
 }
 
+/// A bundle that is cut off in its first text or time tag, alone or as an element that may stand at an odd place.
+pub fn cut_bundle(r: &mut Random) -> Vec<u8> {
+    let whole = b"#bundle\0\0\0\0\0\0\0\0\x01";
+    let cut = &whole[..r.pick(&[1, 6, 7, 8, 8, 8, 9, 12, 15])];
+    if r.one_in(2) {
+        return cut.to_vec();
+    }
+    let mut bytes = whole.to_vec();
+    let odd = r.below(4);
+    bytes.extend_from_slice(&(8 + odd as u32).to_be_bytes());
+    bytes.extend_from_slice(b"/\0\0\0,\0\0\0");
+    bytes.extend_from_slice(&[0; 3][..odd]);
+    bytes.extend_from_slice(&(cut.len() as u32).to_be_bytes());
+    bytes.extend_from_slice(cut);
+    bytes
+}
+
 /// Arrays nested around the limit, alone or in nested bundles.
 pub fn arrays(r: &mut Random) -> Vec<u8> {
     let levels = r.pick(&[0, 1, 2, 3, 62, 63, 64, 64, 65, 65, 66]);

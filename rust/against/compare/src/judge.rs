@@ -1,6 +1,7 @@
 //! What the port must answer, from what the crate gives and document 01's limits.
 
 use crate::ask::{Asked, Call, Due};
+use crate::fields::{self, Fault};
 use crate::met::{Rule, Seen};
 use crate::oracle::{self, Depth, Told};
 use crate::rules;
@@ -13,35 +14,56 @@ pub const LONGEST: usize = 65_535;
 /// The deepest nesting of bundles and arrays together.
 pub const DEEPEST: u64 = 64;
 
-/// What the crate makes of an input: the number of its refusal or 0, how deep its packets are, the bytes left over, how deep
-/// what it lost would be, and the rules that were at work.
+/// What is made of an input: the number of its refusal or 0, what is said beside it, how deep the crate's packets are, the bytes
+/// left over, how deep what it lost would be, and the rules that were at work.
 #[derive(Default)]
 pub struct Found {
     pub refusal: u8,
+    more: u64,
     pub depth: Depth,
     pub left: usize,
     lost: Lost,
     seen: Seen,
 }
 
-/// Asks the crate to decode; the table of its packets goes to `table`.
+/// Asks the crate to decode; the table of its packets goes to `table`. Where it refuses, the reader of fields says what was short.
 pub fn find(call: Call, input: &[u8], table: &mut Vec<u8>) -> Found {
     table.clear();
     let mut seen = Seen::default();
+    let read = fields::read(call, input);
     match oracle::decode(call, input, &mut seen) {
-        Told::Refused(refusal) => Found { refusal, seen, ..Found::default() },
+        Told::Refused(class) => {
+            let (fault, frame) = read.expect_err("an input that the crate refuses");
+            assert_eq!(fault.class(), class, "the reader of fields and the crate refuse otherwise: {input:02X?}");
+            short(fault, frame, &mut seen);
+            Found { refusal: fault.number(), more: fault.more(), seen, ..Found::default() }
+        }
         Told::Waiting => {
+            assert_eq!(read, Ok(input.len()), "the crate waits, and the reader of fields does not: {input:02X?}");
             seen.note(Rule::WaitingFirst);
             Found { left: input.len(), seen, ..Found::default() }
         }
         Told::Packets(packets, left) => {
+            assert_eq!(read, Ok(left), "the reader of fields reads otherwise than the crate: {input:02X?}");
             let prefix = if call == Call::Udp { 0 } else { 4 };
             let lost = walk::table(input, prefix, &packets, left, table, &mut seen);
             seen.note_if(Rule::WaitingFirst, packets.is_empty());
             seen.note_if(Rule::WaitingLater, call == Call::TcpVec && left > 0 && !packets.is_empty());
-            Found { refusal: 0, depth: oracle::depth(&packets), left, lost, seen }
+            Found { depth: oracle::depth(&packets), left, lost, seen, ..Found::default() }
         }
     }
+}
+
+/// Notes what was short.
+fn short(fault: Fault, frame: usize, seen: &mut Seen) {
+    let Fault::Short { at, what, .. } = fault else { return };
+    seen.note(what.rule);
+    if let Some(of) = what.of {
+        seen.note(of);
+    }
+    seen.note_if(Rule::ShortLaterPrefix, frame > 0 && at == frame);
+    seen.note_if(Rule::ShortLater, frame > 0 && at > frame);
+    seen.note_if(Rule::ShortLaterOdd, !frame.is_multiple_of(4) && at > frame);
 }
 
 /// What a decoder must answer, in order: 13, 1, the crate's refusal, 9, 10, the crate's table, which is in `due` already.
@@ -56,6 +78,7 @@ pub fn decode(asked: &Asked, found: &Found, due: &mut Due, seen: &mut Seen) {
     } else if found.refusal > 0 {
         seen.add(found.seen);
         due.refuse(found.refusal);
+        due.more = found.more;
     } else if found.depth.both > limit {
         too_deep(found.depth, limit, seen);
         due.refuse(9);
@@ -67,6 +90,7 @@ pub fn decode(asked: &Asked, found: &Found, due: &mut Due, seen: &mut Seen) {
         deep_enough(found, limit, seen);
         seen.note_if(Rule::CapacityExact, count == asked.room / RECORD && count > 0);
         due.answer = ((count as u64) << 32) | found.left as u64;
+        due.more = 0;
     }
 }
 
@@ -90,6 +114,7 @@ fn deep_enough(found: &Found, limit: u64, seen: &mut Seen) {
 /// What an encoder must write where the room is ample: the crate's bytes in `due`, or a refusal, in order 11, 9, 1.
 pub fn encode(asked: &Asked, due: &mut Due, seen: &mut Seen) {
     due.answer = 0;
+    due.more = 0;
     due.wrote.clear();
     if let Err(rule) = rules::well_formed(&asked.first, asked.number, &asked.second) {
         seen.note(rule);
@@ -115,6 +140,7 @@ pub fn encode(asked: &Asked, due: &mut Due, seen: &mut Seen) {
 /// What `encode_string` must write where the room is ample: 4, 1, the crate's bytes.
 pub fn encode_string(asked: &Asked, due: &mut Due, seen: &mut Seen) {
     due.answer = 0;
+    due.more = 0;
     due.wrote.clear();
     match std::str::from_utf8(&asked.first) {
         Ok(text) => due.wrote = encoder::encode_string(text),
@@ -151,6 +177,7 @@ pub fn fit(asked: &Asked, due: &mut Due, seen: &mut Seen) {
 
 /// What `pad` must answer: the crate's, and 14 where the crate overflows.
 pub fn pad(asked: &Asked, due: &mut Due, seen: &mut Seen) {
+    due.more = 0;
     due.wrote.clear();
     let last = u64::MAX - 3;
     seen.note_if(Rule::PadTop, asked.number <= last && asked.number > last - 16);
@@ -159,6 +186,7 @@ pub fn pad(asked: &Asked, due: &mut Due, seen: &mut Seen) {
 
 /// What `start` must answer: the last number of a record, whatever else it says, and 11 where there is no such record.
 pub fn start(asked: &Asked, due: &mut Due, seen: &mut Seen) {
+    due.more = 0;
     due.wrote.clear();
     match asked.first.chunks_exact(RECORD).nth(asked.number as usize) {
         Some(record) => due.answer = word(record, 16) as u64,
@@ -171,6 +199,7 @@ pub fn start(asked: &Asked, due: &mut Due, seen: &mut Seen) {
 
 /// What `look` must answer.
 pub fn look(asked: &Asked, due: &mut Due, seen: &mut Seen) {
+    due.more = 0;
     due.wrote.clear();
     match rules::look(&asked.first, asked.number) {
         Ok(kind) => due.answer = kind as u64,

@@ -1,5 +1,5 @@
 //! Feeds rosc and the port the same inputs and compares every result: accept or refuse and the class of refusal, tree, bytes
-//! left, bytes written and bytes not written.
+//! left, bytes written and bytes not written. Which field was short, and where it began, is judged by a reader of its own.
 //!
 //!     cargo run --release --offline -p compare -- --cases N --seed S
 //!
@@ -14,6 +14,7 @@ mod ask;
 mod cases;
 mod compat;
 mod edges;
+mod fields;
 mod inputs;
 mod judge;
 mod met;

@@ -26,12 +26,38 @@ rules! {
     EndsShort 1 "element ends its bundle: 1 to 3 bytes",
     EndsPast 1 "element ends its bundle: its size runs past",
     Ends2 1 "element ends its bundle: 2",
-    Ends3 1 "element ends its bundle: 3",
     Ends4 1 "element ends its bundle: 4",
     Ends5 1 "element ends its bundle: 5",
     Ends6 1 "element ends its bundle: 6",
     Ends7 1 "element ends its bundle: 7",
     Ends8 1 "element ends its bundle: 8",
+    Ends17 1 "element ends its bundle: 17",
+    Ends18 1 "element ends its bundle: 18",
+    Ends19 1 "element ends its bundle: 19",
+    Ends20 1 "element ends its bundle: 20",
+    Ends21 1 "element ends its bundle: 21",
+    ShortAddress 1 "short: an address without NUL",
+    ShortStart 1 "short: a first text without NUL that may be #bundle",
+    ShortTypesNone 1 "short: no type text",
+    ShortTypes 1 "short: a type text without NUL",
+    ShortNumber 1 "short: data of 4 or 8 bytes",
+    ShortText 1 "short: a text argument without NUL",
+    ShortBlobSize 1 "short: a blob's size",
+    ShortBlobBytes 1 "short: a blob's bytes",
+    ShortPaddingNone 1 "short: padding, none of it there",
+    ShortPaddingPart 1 "short: padding, a part of it there",
+    ShortAddressPadding 1 "short: padding of an address",
+    ShortTypesPadding 1 "short: padding of a type text",
+    ShortTextPadding 1 "short: padding of a text argument",
+    ShortBlobPadding 1 "short: padding of a blob",
+    ShortBundlePadding 1 "short, in an element: padding of #bundle",
+    ShortTagNone 1 "short: no time tag",
+    ShortTag 1 "short: a time tag that is cut",
+    ShortPrefixNone 1 "short: no prefix, the input is empty",
+    ShortPrefix 1 "short: a prefix that is cut",
+    ShortLaterPrefix 1 "short: a later prefix that is cut",
+    ShortLater 1 "short: a field in a later frame",
+    ShortLaterOdd 1 "short: a field in a frame at no multiple of 4",
     LeftOver 1 "bytes left over",
     Several 1 "several packets",
     WaitingFirst 1 "Waiting",
@@ -153,8 +179,9 @@ pub const CALLS: [&str; 9] = ["udp", "tcp", "tcp_vec", "encode", "encode_tcp", "
 /// How many of the calls `rosc_compat` has: all but the last two.
 const SHARED: usize = 7;
 
-/// Numbers of refusals, 0 for an answer.
-const REFUSALS: usize = 15;
+/// Numbers of refusals, 0 for an answer; those that nothing gives, and the crate's 3, are met by no call of the boundary.
+const REFUSALS: usize = 22;
+const NONE_GIVES: [usize; 3] = [3, 15, 16];
 
 /// How often each call gave each number.
 type Answers = [[u64; REFUSALS]; CALLS.len()];
@@ -207,7 +234,7 @@ impl Met {
     /// Every count with its name and how many times more seldom than usual it may be met.
     fn lines(&self) -> Vec<(String, u64, u64)> {
         let mut lines = Vec::new();
-        for refusal in 1..REFUSALS {
+        for refusal in (1..REFUSALS).filter(|refusal| !NONE_GIVES.contains(refusal)) {
             let times = self.answers.iter().map(|call| call[refusal]).sum();
             lines.push((format!("refusal {refusal}"), 1, times));
         }

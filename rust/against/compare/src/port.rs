@@ -45,21 +45,24 @@ impl Bench {
         self.room.extend_from_slice(&self.pattern[there..]);
     }
 
-    fn call(&mut self, asked: &Asked) -> u64 {
+    /// The answer, and what a decoder has said beside it; 0 of another call.
+    fn call(&mut self, asked: &Asked) -> (u64, u64) {
+        let mut more = if asked.call.decodes() { u64::MAX } else { 0 };
         let first = &self.first[GUARD..GUARD + asked.first.len()];
         let second = &self.second[GUARD..GUARD + asked.second.len()];
         let room = &mut self.room[GUARD..GUARD + asked.room];
-        match asked.call {
-            Call::Udp => boundary::decode_udp(first, room, asked.number),
-            Call::Tcp => boundary::decode_tcp(first, room, asked.number),
-            Call::TcpVec => boundary::decode_tcp_vec(first, room, asked.number),
+        let answer = match asked.call {
+            Call::Udp => boundary::decode_udp(first, room, asked.number, &mut more),
+            Call::Tcp => boundary::decode_tcp(first, room, asked.number, &mut more),
+            Call::TcpVec => boundary::decode_tcp_vec(first, room, asked.number, &mut more),
             Call::Encode => boundary::encode(first, asked.number, second, room),
             Call::EncodeTcp => boundary::encode_tcp(first, asked.number, second, room),
             Call::EncodeString => boundary::encode_string(first, room),
             Call::Pad => boundary::pad(asked.number),
             Call::Look => boundary::look(first, asked.number),
             Call::Start => boundary::start(first, asked.number),
-        }
+        };
+        (answer, more)
     }
 
     /// The first record of the table that a decoder wrote, or the one past the last that has room, whose start is told otherwise
@@ -80,28 +83,29 @@ impl Bench {
         self.grow(asked.room);
         lend(&mut self.first, &self.pattern[..GUARD], &asked.first);
         lend(&mut self.second, &self.pattern[..GUARD], &asked.second);
-        let answer = self.call(asked);
+        let (answer, more) = self.call(asked);
         let (wrote, whole) = (GUARD + due.wrote.len(), asked.room + 2 * GUARD);
         let guard = &self.pattern[..GUARD];
         let same = answer == due.answer
+            && more == due.more
             && self.room[..GUARD] == *guard
             && self.room[GUARD..wrote] == *due.wrote
             && self.room[wrote..whole] == self.pattern[wrote..whole]
             && self.other_start(asked, due).is_none()
             && kept(&self.first, guard, &asked.first)
             && kept(&self.second, guard, &asked.second);
-        let words = if same { None } else { Some(self.words(asked, due, answer)) };
+        let words = if same { None } else { Some(self.words(asked, due, answer, more)) };
         let dirty = if same { wrote } else { whole };
         self.room[..dirty].copy_from_slice(&self.pattern[..dirty]);
         words
     }
 
-    fn words(&self, asked: &Asked, due: &Due, answer: u64) -> String {
+    fn words(&self, asked: &Asked, due: &Due, answer: u64, more: u64) -> String {
         let due_at = |at: usize| *due.wrote.get(at.wrapping_sub(GUARD)).unwrap_or(&self.pattern[at]);
         let other = (0..asked.room + 2 * GUARD).find(|at| self.room[*at] != due_at(*at));
         let read = !kept(&self.first, &self.pattern[..GUARD], &asked.first)
             || !kept(&self.second, &self.pattern[..GUARD], &asked.second);
-        let mut words = format!("due {:#x}, told {answer:#x}", due.answer);
+        let mut words = format!("due {:#x} and {:#x}, told {answer:#x} and {more:#x}", due.answer, due.more);
         if let Some(at) = other {
             words += &format!(
                 ", byte {} of the room is {:#x} and not {:#x}",

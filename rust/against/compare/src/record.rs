@@ -12,7 +12,7 @@ use std::fs;
 use std::path::Path;
 
 /// The longest case in the file, the most room that it needs, and how many random cases are looked at.
-const LONGEST_CASE: usize = 360;
+const LONGEST_CASE: usize = 368;
 const MOST_ROOM: usize = 640;
 const LOOKED_AT: u64 = 400_000;
 /// The short cases are looked at in steps.
@@ -46,6 +46,28 @@ const NESTED: &[(Call, u64, &[u8])] = &[
     (Call::Udp, 0, b"/a\0\0,[[T]][T\0\0"),
     (Call::Udp, 2, b"#bundle\0\0\0\0\0\0\0\0\x01\0\0\0\x08/a\0\0,[]\0"),
     (Call::Udp, 1, b"#bundle\0\0\0\0\0\0\0\0\x01\0\0\0\x08/a\0\0,[]\0"),
+];
+
+/// Inputs that tell the readings of Ticket 2 apart: which field was short, and where it began.
+#[rustfmt::skip]
+const SHORT: &[(Call, &[u8])] = &[
+    (Call::Udp, b"#"),
+    (Call::Udp, b"#bundle"),
+    (Call::Udp, b"#bundle\0\0\0\0\0\0\0\0"),
+    (Call::Udp, b"/\0"),
+    (Call::Udp, b"/\0\0"),
+    (Call::Udp, b"/a\0\0,\0"),
+    (Call::Udp, b"/a\0\0,s\0\0abc"),
+    (Call::Udp, b"/a\0\0,s\0\0a\0"),
+    (Call::Udp, b"/a\0\0,b\0\0\0\0"),
+    (Call::Udp, b"/a\0\0,b\0\0\0\0\0\x02a"),
+    (Call::Udp, b"/a\0\0,b\0\0\0\0\0\x01a"),
+    (Call::Udp, b"/a\0\0,t\0\0\0\0\0\x01"),
+    (Call::Tcp, b"\0\0\0"),
+    (Call::TcpVec, b""),
+    (Call::TcpVec, b"\0\0\0\x0C/a\0\0,i\0\0\0\0\0\x07\0\0"),
+    (Call::TcpVec, b"\0\0\0\x0C/a\0\0,i\0\0\0\0\0\x07\0\0\0\x04/abc"),
+    (Call::TcpVec, b"\0\0\0\0#bundle\0\0\0\0\0\0\0\0\x01\0\0\0\x09/a\0\0,\0\0\0X\0\0\0\0/\0\0X"),
 ];
 
 /// What a case adds: its answer, its rules, kinds and sizes. Each is kept up to a quota.
@@ -124,7 +146,7 @@ impl Sample {
     fn offer(&mut self, case: &Case) {
         let (asked, due) = (&case.asked, &case.due);
         let all = buckets(asked, due, case.seen);
-        let size = 29 + asked.first.len() + asked.second.len() + due.wrote.len() + 4;
+        let size = 37 + asked.first.len() + asked.second.len() + due.wrote.len() + 4;
         let adds = all.iter().any(|bucket| self.full.get(bucket).copied().unwrap_or(0) < bucket.quota());
         if size > LONGEST_CASE || asked.room > MOST_ROOM || !adds {
             return;
@@ -144,6 +166,7 @@ impl Sample {
         self.slice(&asked.first);
         self.slice(&asked.second);
         self.bytes.extend_from_slice(&due.answer.to_be_bytes());
+        self.bytes.extend_from_slice(&due.more.to_be_bytes());
         self.slice(&due.wrote);
     }
 
@@ -157,7 +180,7 @@ impl Sample {
 fn choose(seed: u64) -> Sample {
     let mut sample = Sample { bytes: Vec::new(), cases: 0, longest: 0, most_room: 0, met: Met::new(), full: HashMap::new() };
     let mut case = Case::new();
-    let examples = EXAMPLES.iter().map(|(call, input)| (*call, DEEPEST, *input));
+    let examples = EXAMPLES.iter().chain(SHORT).map(|(call, input)| (*call, DEEPEST, *input));
     for (call, limit, input) in examples.chain(NESTED.iter().copied()) {
         case.roomy(call, limit, input);
         sample.offer(&case);
@@ -209,9 +232,10 @@ const HEAD: &str = "# The recorded answers
 
 data/answers.bin holds a sample of the answers of rosc 0.11.4, built unchanged, as document 01 has them: its packets as node
 tables, its errors as numbers, and document 01's limits, rules of a table and of a record on top. Where each item began is
-found by a walk over the input that the crate's packets lead. The port had no part in it. The sample is chosen for coverage:
-a case is kept if it adds an answer, rule, kind, length or limit that is not there often enough. Document 01's examples P1 to
-P14 come first, and after them those that tell the readings of Ticket 4 apart. What needs long slices (refusal 1, tables of
+found by a walk over the input that the crate's packets lead; which field was short, and where it began, by a reader of its own,
+which agrees with the crate on the class of every refusal. The port had no part in it. The sample is chosen for coverage: a case
+is kept if it adds an answer, rule, kind, length or limit that is not there often enough. Document 01's examples P1 to P14 come
+first, and after them those that tell the readings of Ticket 2 and of Ticket 4 apart. What needs long slices (refusal 1, tables of
 depth 64) is not here: the program limit_runs has it.
 ";
 
@@ -228,6 +252,7 @@ Cases one after another, all numbers big-endian.
 | 4, n | length and bytes of the input, table or text; none for `pad` |
 | 4, n | length and bytes of the source, for `encode` and `encode_tcp` |
 | 8 | the answer, as include/osc.h has it |
+| 8 | what a decoder says beside it, as include/osc.h has it; 0 for the other calls |
 | 4, n | length and bytes that must stand at the front of the room; all others there are unchanged |
 
 ## What is met

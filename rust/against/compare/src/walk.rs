@@ -2,6 +2,7 @@
 //! that is led by the crate's packets. It decides nothing; it only finds offsets, and notes which rules were at work. What it
 //! finds is held to the crate: an item's value stands where it begins, and the crate confirms how far a message was read.
 
+use crate::fields::{self, Fault};
 use crate::met::{Rule, Seen};
 use crate::oracle;
 use crate::reached::Reached;
@@ -15,6 +16,21 @@ pub struct Lost {
     pub arrays: u64,
     pub open: u64,
 }
+
+/// Why an element ends its bundle, by the refusal that it would be alone.
+const ENDS: [(u8, Rule); 11] = [
+    (2, Rule::Ends2),
+    (4, Rule::Ends4),
+    (5, Rule::Ends5),
+    (6, Rule::Ends6),
+    (7, Rule::Ends7),
+    (8, Rule::Ends8),
+    (17, Rule::Ends17),
+    (18, Rule::Ends18),
+    (19, Rule::Ends19),
+    (20, Rule::Ends20),
+    (21, Rule::Ends21),
+];
 
 pub struct Walk<'a> {
     input: &'a [u8],
@@ -231,12 +247,14 @@ impl Walk<'_> {
         }
         self.around -= 1;
         if self.at < end {
-            self.ended(&self.input[self.at..end]);
+            self.ended(end);
         }
     }
 
-    /// Notes why the element at the front of these bytes ended its bundle.
-    fn ended(&mut self, rest: &[u8]) {
+    /// Notes why the element at this place ended its bundle, whose bytes end at `end`.
+    fn ended(&mut self, end: usize) {
+        let rest = &self.input[self.at..end];
+        let fault = fields::element(self.input, self.base, self.at, end).expect("an element that ends its bundle");
         self.seen.note(Rule::ElementEnds);
         if rest.len() < 4 {
             return self.seen.note(Rule::EndsShort);
@@ -248,9 +266,12 @@ impl Walk<'_> {
         // Padding is counted as for the whole input only where the element stands at a multiple of 4.
         if (self.at + 4 - self.base).is_multiple_of(4) {
             let error = decoder::decode_udp(&rest[4..4 + size]).expect_err("an element that ends its bundle");
-            let number = oracle::number_of(&error) as usize;
-            let rules = [Rule::Ends2, Rule::Ends3, Rule::Ends4, Rule::Ends5, Rule::Ends6, Rule::Ends7, Rule::Ends8];
-            self.seen.note(rules[number - 2]);
+            assert_eq!(fault.class(), oracle::number_of(&error), "an element ends its bundle otherwise: {rest:02X?}");
+        }
+        let number = fault.number();
+        self.seen.note(ENDS.iter().find(|(ends, _)| *ends == number).expect("a refusal of reading").1);
+        if let Fault::Short { what: fields::What { of: Some(Rule::ShortBundlePadding), .. }, .. } = fault {
+            self.seen.note(Rule::ShortBundlePadding);
         }
     }
 }

@@ -10,7 +10,7 @@ use std::{error, fmt, string};
 pub enum OscError {
     /// Text is not UTF-8 (4). It holds the error of a text that stands for the one in the packet.
     StringError(string::FromUtf8Error),
-    /// The bytes run out (3).
+    /// The bytes run out (17 to 21).
     ReadError(ErrorKind),
     /// A character that a parser does not take. Nothing here gives it.
     BadChar(char),
@@ -50,7 +50,7 @@ impl From<Refusal> for OscError {
     fn from(refusal: Refusal) -> OscError {
         match refusal {
             Refusal::Empty => OscError::BadPacket("Empty packet."),
-            Refusal::RunsOut => OscError::ReadError(ErrorKind::Eof),
+            Refusal::Short { .. } => OscError::ReadError(ErrorKind::Eof),
             Refusal::NotUtf8 => not_utf8(),
             Refusal::BadStart => OscError::BadPacket("Invalid message address or bundle tag"),
             Refusal::NotOpen => OscError::BadMessage("Encountered ] outside array"),

@@ -18,9 +18,10 @@
 //!   neither limit.
 //!   [`encoder::encode_into`], [`encoder::encode_into_tcp`] and [`encoder::encode_string`] have no place for a refusal and write
 //!   what rosc writes, past the limits by plain Rust that is not proved.
-//! - The library tells a refusal's number and no more. So [`OscError::ReadError`] always holds [`ErrorKind::Eof`], where nom's
-//!   kind is `Eof` or `Tag`; the words of an unknown type tag do not name the tag; and [`OscError::StringError`] holds the error
-//!   of a text that stands for the one in the packet.
+//! - The library tells a refusal's number and, of a field that was short, where it began, for which rosc's error has no place:
+//!   the refusals 17 to 21 are one error here. So [`OscError::ReadError`] always holds [`ErrorKind::Eof`], where nom's kind is
+//!   `Eof` or `Tag`; the words of an unknown type tag do not name the tag; and [`OscError::StringError`] holds the error of a
+//!   text that stands for the one in the packet.
 //! - `OscError` does not implement the traits of nom, and the module `address` is not here.
 //! - No call panics, memory apart. Where rosc does: a time tag before 1970 is printed, and converted into the `SystemTime`
 //!   before that year; [`encoder::pad`] of a position over 2^64 − 4 is 0, as in a release build of rosc.

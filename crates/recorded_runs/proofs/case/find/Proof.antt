@@ -23,7 +23,8 @@ be-u64-requires c κs =
 
 returns-7 : tie.Need-returns-7
 returns-7 c =
-    let p2 = c .before .before in
+    let p1 = c .before in
+    let p2 = p1 .before .before in
     let p4 = p2 .before .before in
     let p7 = p4 .before .before .before in
     let p9 = p7 .before .before in
@@ -34,12 +35,13 @@ returns-7 c =
     record {
       operation = refl;
       known = omega (arith, p2 .before .if2 .left);
-      number = c .before .be-u64 .ensures;
+      number = p1 .before .be-u64 .ensures;
       room = p4 .be-u32 .ensures;
       small = omega (arith, p2 .if3 .left);
       first = found _ _ _ _ (p16 .first .given .1) (p18 .end-of .ensures);
       second = found _ _ _ _ (p12 .second .given .1) (p14 .end-of2 .ensures);
-      due = c .be-u642 .ensures;
+      due = p1 .be-u642 .ensures;
+      more = c .be-u643 .ensures;
       written = found _ _ _ _ (p7 .end .given .1) (p9 .end-of3 .ensures);
     }
 
@@ -67,6 +69,8 @@ find-spec =
     (λ c. search needs)
     (λ c. search needs)
     be-u64-requires
+    (λ c. search needs)
+    (λ c κs. search needs)
     (λ c. search needs)
     (λ c κs. search needs)
     returns-7)

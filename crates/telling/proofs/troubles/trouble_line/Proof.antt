@@ -9,7 +9,7 @@ use Rattle.telling.proofs.troubles.trouble_line.Tie as tie
 returns : tie.Need-returns
 returns c =
     let p1 = c .before in
-    c .formed .ensures ∙ ap (λ (n : ℕ). with (26 + n) (p1 .before .args .number) 0 0 0 0 0) (p1 .place-of .ensures .0)
+    c .formed .ensures ∙ ap (λ (n : ℕ). with (33 + n) (p1 .before .args .number) 0 0 0 0 0) (p1 .place-of .ensures .0)
 
 pub trouble-line-spec : {M : Type 1} → statement M
 trouble-line-spec =
