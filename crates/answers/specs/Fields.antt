@@ -1,8 +1,10 @@
 -- What it means that a field was short: document 02, Ticket 2, "split it by what ran out, with the offset at which that field began". A
 -- reader of a log relies on it.
 use mathlib.Core.Path.{_≡_}
+use mathlib.Core.Bool.{cond}
 use mathlib.Core.List.{List}
 use Prim.Native.Nat.{ℕ, _+_, _-_, _≤_, _<_}
+use lib.Dec.{eqb}
 use lib.ListN.{length, drop}
 use Rattle.refusal.specs.declared.Fault.{Fault}
 use Rattle.refusal.specs.declared.Fault.the-variants.{Empty, Short, NotUtf8, BadStart, NotOpen, UnknownTag, NotScalar}
@@ -33,13 +35,13 @@ RunsPast Scalar l = length l < 4
 RunsPast Unknown l = ⊥
 
 -- a field that begins at position `at`, where the bytes l stand, is not all there: "a missing NUL belongs to its text"; of padding fewer
--- bytes are there than lead to a multiple of 4; a time tag has 8 bytes, and a prefix 4
+-- bytes are there than lead to a multiple of 4; a prefix, which alone stands at position 0, has 4 bytes, and a time tag 8
 abbrev pub FieldShort : Field → ℕ → List ℕ → Type 0
 FieldShort Address at l = Endless l
 FieldShort TypeText at l = Endless l
 FieldShort Data at l = (class : Class) × RunsPast class l
 FieldShort Padding at l = length l < padded at - at
-FieldShort Head at l = length l < 8
+FieldShort Head at l = length l < cond (eqb at 0) 4 8
 
 -- of what is read from the bytes l at position p: the field begins in them or right after them, and is short there; of every other fault
 -- nothing is said

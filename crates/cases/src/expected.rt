@@ -1,4 +1,5 @@
-// What a line expects: `packets LEFT TABLE`, `written BYTES`, `waiting`, `refused NUMBER`, `refused NUMBER OFFSET`, `value KIND` or `at POSITION`.
+// What a line expects: `packets LEFT TABLE`, `written BYTES`, `waiting`, `refused NUMBER`, `refused NUMBER OFFSET`, `value KIND` or
+// `at POSITION`.
 use crate::call;
 use crate::call::Outcome;
 use crate::call::empty;

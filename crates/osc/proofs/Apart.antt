@@ -1,6 +1,6 @@
 -- An answer is taken apart as include/osc.h does it: the three parts of a decoder's number with the offset beside it, and the two of an
--- encoder's, are what was put into it. So an encoder's number tells one answer, and so does a decoder's (Once.antt): count 0 with the whole input left is Waiting
--- where `decode_tcp` tells it, and no packets where `decode_tcp_vec` does.
+-- encoder's, are what was put into it. So an encoder's number tells one answer, and so does a decoder's (Once.antt): count 0 with the
+-- whole input left is Waiting where `decode_tcp` tells it, and no packets where `decode_tcp_vec` does.
 use mathlib.Core.Path.{sym, subst}
 use mathlib.Core.List.{List}
 use Prim.Native.Nat.{ℕ}

@@ -79,7 +79,8 @@ module _ (framing : Framing) (msg table : List ℕ) (limit : ℕ) where
 
   limited-ends : (w : Whole) → Decoding (limited (capacity table) limit w)
   limited-ends (trees f left) =
-      by-trees Decoding (capacity table) limit f left (λ _ h. told-refusal 9 refl refl (alone 9) refl) (λ _ h. told-refusal 10 refl refl (alone 10) refl)
+      by-trees Decoding (capacity table) limit f left (λ _ h. told-refusal 9 refl refl (alone 9) refl)
+      (λ _ h. told-refusal 10 refl refl (alone 10) refl)
       (λ _ _ h. told-answer (omega arith) refl)
   limited-ends waiting = λ h. told-answer (omega arith) refl
   limited-ends (refusal k) = fault-ends k

@@ -1,5 +1,6 @@
--- A number that is told tells one answer, with the offset beside it where a field was short. `decode_udp` and `decode_tcp` give no answer of 0 records and `decode_tcp` alone waits, so
--- that count 0 with the whole input left is Waiting there, and no packets where `decode_tcp_vec` tells it.
+-- A number that is told tells one answer, with the offset beside it where a field was short. `decode_udp` and `decode_tcp` give no answer
+-- of 0 records and `decode_tcp` alone waits, so that count 0 with the whole input left is Waiting there, and no packets where
+-- `decode_tcp_vec` tells it.
 use mathlib.Core.Path.{_≡_, refl, ap, ap₂, sym, subst, _∙_}
 use mathlib.Core.List.{List}
 use Prim.Native.Nat.{ℕ, zero, suc, _+_, _≤_}

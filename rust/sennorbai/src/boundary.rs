@@ -66,8 +66,8 @@ mod c {
 }
 
 // SAFETY, of every call of `c` below: each pointer is that of a slice which lives through the call, with that slice's length,
-// or of a number that lives as long; what may be written is lent by `&mut`, so nothing else names it; the functions keep no pointer, and are proved for every
-// input.
+// or of a number that lives as long; what may be written is lent by `&mut`, so nothing else names it; the functions keep no
+// pointer, and are proved for every input.
 
 /// `osc_decode_udp`: one packet from all of a UDP packet.
 pub fn decode_udp(msg: &[u8], table: &mut [u8], depth: u64, more: &mut u64) -> u64 {

@@ -4,7 +4,7 @@ use mathlib.Core.Bool.{true, false}
 use mathlib.Core.List.{List, [], _∷_}
 use Prim.Native.Nat.{ℕ, zero, suc, _+_, _-_, _≤_, _<_}
 use native.Mathlib.Omega.{arith}
-use borrow.Author.Tests.{ltb-true, ltb-false, leb-true}
+use borrow.Author.Tests.{eqb-true, ltb-true, ltb-false, leb-true}
 use lib.Dec.{eqb, leb, ltb}
 use lib.ListN.{length, getD, take, drop, length-drop}
 use lib.Seq.{drop-drop}
@@ -182,10 +182,12 @@ message-short base item l p = by-text (readText l p) refl
 elements-short : (item : Item) (l : List ℕ) (p : ℕ) (k : Elements) → OutShort l p (bundleWith item k)
 elements-short item l p (upto inside used) = tt
 
-bundle-short : (start : ℕ) (es : List ℕ → ℕ → Elements) (l : List ℕ) (p : ℕ) → OutShort l p (bundleBy start es l p)
+-- a time tag never stands at position 0, where a prefix does
+bundle-short : (start : ℕ) (es : List ℕ → ℕ → Elements) (l : List ℕ) (p : ℕ) → 0 < p → OutShort l p (bundleBy start es l p)
 unfolding bundleBy
-bundle-short start es l p =
-    by-le (OutShort l p) 8 (length l) (λ h. elements-short _ l p (es (drop 8 l) (p + 8))) (λ h. here Head l p h)
+bundle-short start es l p some =
+    by-le (OutShort l p) 8 (length l) (λ h. elements-short _ l p (es (drop 8 l) (p + 8)))
+    (λ h. here Head l p (by-test (λ n. length l < n) (eqb p 0) (λ e. absurd (omega (arith, eqb-true p 0 e))) (λ _. h)))
 
 abbrev StartShort : List ℕ → ℕ → Start → Type 0
 StartShort l p (start.Message n used) = Unit {0}
@@ -216,8 +218,9 @@ packet-short base l p = subst (OutShort l p) (sym (packet-eq base l p)) (by-star
         after-short used l p (readMessage base (messageItem (base + p) n) (drop used l) (p + used)) (message-start-in l p e .1)
         (message-short base (messageItem (base + p) n) (drop used l) (p + used))
     by-start (start.Bundle used) e w =
-        after-short used l p (bundleBy (base + p) es (drop used l) (p + used)) (bundle-start-in l p e .1)
-        (bundle-short (base + p) es (drop used l) (p + used))
+        let w = bundle-start-in l p e in
+        after-short used l p (bundleBy (base + p) es (drop used l) (p + used)) (w .1)
+        (bundle-short (base + p) es (drop used l) (p + used) (omega (arith, w .0)))
 
 -- ---- whole inputs
 
