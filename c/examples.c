@@ -65,16 +65,17 @@ static uint64_t decode(enum call call, const uint8_t *msg, size_t n, uint8_t *ta
                          : osc_decode_tcp_vec(msg, n, table, room, depth, more);
 }
 
-/* A decoder's answer, in its parts, where a field that was short began, and its whole table, for which there are `room` bytes. */
-static void decodes_at(const char *name, enum call call, const char *hex, size_t room, uint64_t depth, unsigned refusal,
-                       uint32_t field, uint32_t left, const char *table_hex) {
+/* A decoder's answer, in its parts, all that it says beside it, and its whole table, for which there are `room` bytes. */
+static void decodes_beside(const char *name, enum call call, const char *hex, size_t room, uint64_t depth, unsigned refusal,
+                           uint64_t beside, uint32_t left, const char *table_hex) {
     uint8_t bytes[256], due[256];
     size_t n = bytes_of(hex, bytes), m = bytes_of(table_hex, due);
     uint8_t *msg = copy(bytes, n), *table = blank(room);
     uint64_t more, answer = decode(call, msg, n, table, room, depth, &more);
     same(name, osc_refusal(answer), refusal);
-    same(name, osc_field(more), field);
-    same(name, more, (uint64_t)field << 32);
+    same(name, more, beside);
+    same(name, osc_field(more), beside >> 32);
+    same(name, osc_dirty(more), beside & 0xFFFFFFFFu);
     same(name, osc_count(answer), m / OSC_RECORD);
     same(name, osc_left(answer), left);
     holds(name, table, room, due, m);
@@ -82,10 +83,10 @@ static void decodes_at(const char *name, enum call call, const char *hex, size_t
     free(table);
 }
 
-/* The same where no field was short. */
+/* The same where no field was short and all padding is zero. */
 static void decodes_in(const char *name, enum call call, const char *hex, size_t room, uint64_t depth, unsigned refusal,
                        uint32_t left, const char *table_hex) {
-    decodes_at(name, call, hex, room, depth, refusal, 0, left, table_hex);
+    decodes_beside(name, call, hex, room, depth, refusal, 0, left, table_hex);
 }
 
 /* The same with room for some records. */
@@ -101,7 +102,12 @@ static void refuses(const char *name, enum call call, const char *hex, unsigned 
 
 /* What a decoder refuses for a field that was short, and where that field began. */
 static void is_short(const char *name, enum call call, const char *hex, unsigned refusal, uint32_t field) {
-    decodes_at(name, call, hex, 8 * OSC_RECORD, 64, refusal, field, 0, "");
+    decodes_beside(name, call, hex, 8 * OSC_RECORD, 64, refusal, (uint64_t)field << 32, 0, "");
+}
+
+/* What a decoder accepts, and how many padding bytes were not zero. */
+static void is_dirty(const char *name, enum call call, const char *hex, uint32_t dirty, uint32_t left, const char *table_hex) {
+    decodes_beside(name, call, hex, 8 * OSC_RECORD, 64, 0, dirty, left, table_hex);
 }
 
 /* An encoder's answer, in its parts, and its whole output. */
@@ -173,6 +179,8 @@ static void starts(const char *name, const char *table_hex, uint64_t index, unsi
 #define SIX_TABLE                                  \
     "2F000000 00000002 00000000 00000002 00000000" \
     "69000000 00000002 00000002 00000000 00000010"
+/* The table of "/a" without arguments. */
+#define PLAIN_TABLE "2F000000 00000001 00000000 00000002 00000000"
 #define EMPTY_BUNDLE "2362756E 646C6500 00000000 00000001"
 #define BUNDLE_TABLE "23000000 00000001 00000000 00000001 00000000"
 /* "/a" with a text, true, a blob and an array with an integer, and its table. */
@@ -196,7 +204,7 @@ static void examples(void) {
     is_short("P2", UDP, "2F000000", OSC_SHORT_TYPES, 4);
     decodes("P3", UDP, FIVE, 8, 64, 0, 0, FIVE_TABLE);
     decodes("P4", UDP, "2F610000 58690000 00000005", 8, 64, 0, 0, FIVE_TABLE);
-    decodes("P5", UDP, "2F610000 00000000", 8, 64, 0, 0, "2F000000 00000001 00000000 00000002 00000000");
+    decodes("P5", UDP, "2F610000 00000000", 8, 64, 0, 0, PLAIN_TABLE);
     decodes("P6", UDP, SIX, 8, 64, 0, 0, SIX_TABLE);
     refuses("P7", UDP, "2F610000 2C5D0000", OSC_NOT_OPEN);
     refuses("P8", UDP, "2F610000 2C780000", OSC_UNKNOWN_TAG);
@@ -288,6 +296,88 @@ static void shorts(void) {
     decodes("a swallowed element", UDP, EMPTY_BUNDLE "00000004 2F616263", 8, 64, 0, 8, BUNDLE_TABLE);
 }
 
+/* How many padding bytes were not zero, of one message. */
+static void dirt(void) {
+    is_dirty("clean padding", UDP, "2F610000 2C000000", 0, 0, PLAIN_TABLE);
+    is_dirty("a NUL and no padding", UDP, "2F616200 2C000000", 0, 0, "2F000000 00000001 00000000 00000003 00000000");
+    is_dirty("an address", UDP, "2F610001 2C000000", 1, 0, PLAIN_TABLE);
+    is_dirty("a type text", UDP, "2F610000 2C00FF02", 2, 0, PLAIN_TABLE);
+    is_dirty("a type text of no bytes", UDP, "2F610000 00010203", 3, 0, PLAIN_TABLE);
+    is_dirty("a zero and a byte that is none", UDP, "2F610000 2C000001", 1, 0, PLAIN_TABLE);
+    is_dirty("a text", UDP, "2F610000 2C730000 61000203", 2, 0,
+             "2F000000 00000002 00000000 00000002 00000000"
+             "73000000 00000002 00000008 00000001 00000008");
+    is_dirty("a blob", UDP, "2F610000 2C620000 00000001 61010203", 3, 0,
+             "2F000000 00000002 00000000 00000002 00000000"
+             "62000000 00000002 0000000C 00000001 00000008");
+    is_dirty("a blob without padding", UDP, "2F610000 2C620000 00000004 61626364", 0, 0,
+             "2F000000 00000002 00000000 00000002 00000000"
+             "62000000 00000002 0000000C 00000004 00000008");
+    is_dirty("all of them", UDP, "2F610001 2C736200 61000203 00000003 61626304", 4, 0,
+             "2F000000 00000003 00000000 00000002 00000000"
+             "73000000 00000002 00000008 00000001 00000008"
+             "62000000 00000003 00000010 00000003 0000000C");
+    is_dirty("a lost text", UDP, "2F610000 2C735B00 61000101", 0, 0, PLAIN_TABLE);
+    is_dirty("a lost text, a kept one and the type text", UDP, "2F610000 2C735B73 00010000 61000101 62000001", 2, 0,
+             "2F000000 00000002 00000000 00000002 00000000"
+             "73000000 00000002 00000010 00000001 00000010");
+    is_dirty("bytes left over", UDP, "2F610000 2C000000 FFFFFFFF", 0, 4, PLAIN_TABLE);
+}
+
+/* The same of bundles and streams. A byte too many in an element has what follows begin at an odd place. */
+#define ODD_BUNDLE EMPTY_BUNDLE "00000009 2F610001 2C000000 FF"
+static void dirt_in_packets(void) {
+    is_dirty("two elements", UDP, EMPTY_BUNDLE "00000008 2F610001 2C000000 00000008 2F610000 2C000203", 3, 0,
+             "23000000 00000003 00000000 00000001 00000000"
+             "2F000000 00000002 00000014 00000002 00000014"
+             "2F000000 00000003 00000020 00000002 00000020");
+    is_dirty("an element that fails", UDP, EMPTY_BUNDLE "00000008 2F610001 2C780001", 0, 12, BUNDLE_TABLE);
+    is_dirty("one that fails after one that does not", UDP, ODD_BUNDLE "00000007 2F0001 2C780001", 1, 11,
+             "23000000 00000002 00000000 00000001 00000000"
+             "2F000000 00000002 00000014 00000002 00000014");
+    is_dirty("#bundle at an odd place", UDP, ODD_BUNDLE "00000013 2362756E 646C6500 010002 00000000 00000001", 3, 0,
+             "23000000 00000003 00000000 00000001 00000000"
+             "2F000000 00000002 00000014 00000002 00000014"
+             "23000000 00000003 00000000 00000001 00000021");
+    is_dirty("dirt in a frame", TCP, "00000008 2F610001 2C000000 FF", 1, 1, "2F000000 00000001 00000004 00000002 00000004");
+    is_dirty("a frame that waits", TCP, "0000000D 2F610001 2C000000", 0, 12, "");
+    is_dirty("a second frame that waits", TCP_VEC, "00000008 2F610001 2C000000 00000009 2F610001", 1, 8,
+             "2F000000 00000001 00000004 00000002 00000004");
+    is_dirty("a second frame at an odd place", TCP_VEC, "00000000" ODD_BUNDLE "00000000 2F610001 2C000002", 3, 0,
+             "23000000 00000002 00000000 00000001 00000004"
+             "2F000000 00000002 00000018 00000002 00000018"
+             "2F000000 00000003 00000025 00000002 00000025");
+}
+
+/* A refusal tells nothing of padding that was read before it. */
+static void dirt_before_refusals(void) {
+    refuses("dirt before 2", TCP_VEC, "00000008 2F610001 2C000000 00000000", OSC_EMPTY);
+    refuses("dirt before 7", UDP, "2F610001 2C780000", OSC_UNKNOWN_TAG);
+    refuses("dirt before 5", TCP_VEC, "00000008 2F610001 2C000000 00000000 78000000", OSC_BAD_START);
+    is_short("dirt before 18", UDP, "2F610001", OSC_SHORT_TYPES, 4);
+    is_short("dirt before 21", TCP_VEC, "00000008 2F610001 2C000000 00", OSC_SHORT_HEAD, 12);
+    decodes("dirt and 9", UDP, ODD_BUNDLE, 8, 0, OSC_TOO_DEEP, 0, "");
+    decodes("dirt and 10", UDP, ODD_BUNDLE, 1, 64, OSC_TABLE_FULL, 0, "");
+    decodes("dirt and 13", UDP, "2F610001 2C000000", 8, 65, OSC_DEPTH_LIMIT, 0, "");
+}
+
+/* About as much as there may be: "/a" with 13,102 texts of no bytes, each with 3 bytes of padding. */
+static void most_dirt(void) {
+    enum { TEXTS = 13102, LENGTH = 6 + TEXTS + 4 * TEXTS };
+    uint8_t *msg = blank(LENGTH), *table = blank((TEXTS + 1) * OSC_RECORD);
+    uint64_t more, answer;
+    size_t i;
+    memset(msg, 's', 5 + TEXTS);
+    memcpy(msg, "/a\0\0,", 5);
+    msg[5 + TEXTS] = 0;
+    for (i = 6 + TEXTS; i < LENGTH; i += 4) msg[i] = 0;
+    answer = decode(UDP, msg, LENGTH, table, (TEXTS + 1) * OSC_RECORD, 64, &more);
+    same("most dirt", answer, (uint64_t)(TEXTS + 1) << 32);
+    same("most dirt", more, 3 * TEXTS);
+    free(msg);
+    free(table);
+}
+
 static void streams(void) {
     decodes("a frame", TCP, "0000000C" FIVE "00", 8, 64, 0, 1, FRAMED_TABLE);
     decodes("two frames", TCP_VEC, "0000000C" FIVE "00000010" EMPTY_BUNDLE, 8, 64, 0, 0,
@@ -334,6 +424,10 @@ int main(void) {
     items();
     limits();
     shorts();
+    dirt();
+    dirt_in_packets();
+    dirt_before_refusals();
+    most_dirt();
     streams();
     encoders();
     leaves();

@@ -1,7 +1,7 @@
 /* Sennorbai: Open Sound Control packets and node tables. C99 and C++17. Link with libosc.a (rt staticlib osc).
  *
  * No function allocates, keeps a pointer or has a state. Every pointer may be to any bytes, and a length may be 0;
- * slices that a call may write must not overlap the others. A refusal changes no byte of a slice. Each call ends within 35,616 bytes
+ * slices that a call may write must not overlap the others. A refusal changes no byte of a slice. Each call ends within 35,568 bytes
  * of stack, whatever it is given (measured by c/stack.c on x86-64).
  *
  * A node table has records of OSC_RECORD bytes, big-endian: kind (1), three zero bytes, end (4), a (4), b (4), start (4).
@@ -12,7 +12,7 @@
 #define SENNORBAI_OSC_H
 
 /* The version of the library and of this header. */
-#define SENNORBAI_VERSION "0.7.0"
+#define SENNORBAI_VERSION "0.9.0"
 
 #include <stddef.h>
 #include <stdint.h>
@@ -54,8 +54,13 @@ enum {
  * bits 0 to 31 the input bytes left over, which are the last ones. Waiting, which osc_decode_tcp alone answers, is count 0
  * with the whole input left; of osc_decode_tcp_vec that is a list of no packets.
  * `*more` is written by every call. Its bits 32 to 47 are, for the refusals 17 to 21, where the field began that was short,
- * counted from the first byte at `msg`; they are 0 for every other answer. Its other bits are 0. `more` must not be NULL and
- * must not overlap the slices. */
+ * counted from the first byte at `msg`; they are 0 for every other answer. Its bits 0 to 31 are, where there is an answer, how many
+ * padding bytes were not zero, of all packets of a list together; they are 0 for every refusal and for Waiting. Its bits 48 to 63
+ * are 0. `more` must not be NULL and must not overlap the slices.
+ * Padding is what follows the NUL of a text, or the bytes of a blob, up to a multiple of 4, counted from the first byte at `msg` or,
+ * in a stream, from the frame's length. That of what is in the table counts: of each message's address and type text, each text and
+ * each blob, and of a bundle's "#bundle", which has some only where the bundle is an element at no multiple of 4. That of arguments
+ * which an unclosed '[' loses, and of an element that ended its bundle, does not. */
 
 /* One packet from all of a UDP packet. */
 uint64_t osc_decode_udp(const uint8_t *msg, size_t len, uint8_t *table, size_t table_len, uint64_t depth, uint64_t *more);
@@ -104,6 +109,9 @@ static inline uint32_t osc_left(uint64_t answer) { return (uint32_t)answer; }
 
 /* Where the field began that was short, of what a decoder wrote to `*more`; 0 where the refusal is not one of 17 to 21. */
 static inline uint32_t osc_field(uint64_t more) { return (uint32_t)(more >> 32) & 0xFFFFu; }
+
+/* The padding bytes that were not zero, of what a decoder wrote to `*more`; 0 for every refusal and for Waiting. */
+static inline uint32_t osc_dirty(uint64_t more) { return (uint32_t)more; }
 
 /* The bytes that an encoder wrote. */
 static inline uint32_t osc_written(uint64_t answer) { return (uint32_t)answer; }

@@ -59,6 +59,12 @@ refuses() {
     gone refused.bin
 }
 
+# reads LINE FRAMING BYTES: what decoding the bytes, as printf writes them, should say.
+reads() {
+    printf "$3" >input
+    expect 0 "$1" '' decode "$2" input read.bin
+}
+
 # The examples, there and back.
 for name in message bundle; do
     "$root/osc" decode udp "$examples/$name.osc" $name.bin >/dev/null
@@ -81,6 +87,16 @@ printf 'old' >waiting.bin
 expect 3 'waiting: 20 bytes, nothing read' '' decode tcp part waiting.bin
 gone waiting.bin
 expect 0 'packets: 0, records: 0, bytes left: 20' '' decode tcp-vec part none.bin
+
+# Dirty padding is told where there is any: of an address and a type text, of a text and a blob, and of a list the sum. The data of a blob,
+# the bytes that are left over and an argument that is lost have none. A clean packet is told as the examples above are.
+reads 'packets: 1, records: 1, bytes left: 0, dirty padding bytes: 3' udp '/\0\252\0,\0\273\001'
+reads 'packets: 1, records: 3, bytes left: 0, dirty padding bytes: 1' udp '/a\0\0,sb\0t\0\0\001\0\0\0\001\377\0\0\0'
+reads 'packets: 1, records: 2, bytes left: 2, dirty padding bytes: 2' udp '/\0\0\0,b\0\0\0\0\0\001\377\252\0\273xx'
+reads 'packets: 1, records: 1, bytes left: 12, dirty padding bytes: 1' tcp '\0\0\0\010/\0\0\001,\0\0\0\0\0\0\010/\0\002\002,\0\002\002'
+reads 'packets: 2, records: 2, bytes left: 0, dirty padding bytes: 5' tcp-vec '\0\0\0\010/\0\0\001,\0\0\0\0\0\0\010/\0\002\002,\0\002\002'
+reads 'packets: 2, records: 2, bytes left: 0' tcp-vec '\0\0\0\010/\0\0\0,\0\0\0\0\0\0\010/\0\0\0,\0\0\0'
+reads 'packets: 1, records: 1, bytes left: 0' udp '/a\0\0,s[\0t\0\252\273'
 
 # The records of the examples.
 shows 0 'record 0: / offset 0 length 22, end 5' message.bin 0

@@ -9,6 +9,7 @@ use Rattle.refusal.specs.declared.Refusal.the-variants.{TooLong, DepthLimit}
 use Rattle.wire.specs.Limits.{longest, deepest}
 use Rattle.wire.proofs.Choices.{by-both}
 use Rattle.node.specs.Forest.{depth}
+use Rattle.argument.specs.Dirt.{dirtyIn}
 use Rattle.totals.specs.Framing.{Whole, trees, waiting, refusal}
 use Rattle.totals.specs.CodeTotals.{totalOf}
 use Rattle.totals.specs.declared.Total.{Total}
@@ -17,10 +18,12 @@ use Rattle.answering.specs.CodeAnswered.{answered}
 use Rattle.answering.specs.declared.Decoded.{Decoded}
 use Rattle.answering.specs.declared.Decoded.the-variants.{Refused}
 
-limited-is : (capacity limit : ℕ) (w : Whole) → limited capacity limit w ≡ answered capacity (totalOf limit w)
-limited-is capacity limit waiting = refl
-limited-is capacity limit (refusal k) = refl
-limited-is capacity limit (trees f left) = by-both (λ (x : Decoded) (y : Total). x ≡ answered capacity y) (leb (depth f) limit) refl refl
+limited-is : (capacity limit : ℕ) (msg : List ℕ) (w : Whole)
+    → limited capacity limit msg w ≡ answered capacity (totalOf limit (dirtyIn msg) w)
+limited-is capacity limit msg waiting = refl
+limited-is capacity limit msg (refusal k) = refl
+limited-is capacity limit msg (trees f left) =
+    by-both (λ (x : Decoded) (y : Total). x ≡ answered capacity y) (leb (depth f) limit) refl refl
 
 module _ (rule : List ℕ → Whole) (capacity limit : ℕ) (msg : List ℕ) where
   -- 13 comes first
@@ -35,7 +38,7 @@ module _ (rule : List ℕ → Whole) (capacity limit : ℕ) (msg : List ℕ) whe
 
   -- then the first reading within the limits
   pub decoded-is : {r : Total} {x : Decoded} → limit ≤ deepest → length msg ≤ longest → x ≡ answered capacity r
-      → r ≡ totalOf limit (rule msg) → x ≡ decoded rule capacity limit msg
+      → r ≡ totalOf limit (dirtyIn msg) (rule msg) → x ≡ decoded rule capacity limit msg
   unfolding decoded
-  decoded-is h g a e = a ∙ ap (answered capacity) e ∙ sym (limited-is capacity limit (rule msg))
+  decoded-is h g a e = a ∙ ap (answered capacity) e ∙ sym (limited-is capacity limit msg (rule msg))
       ∙ rw (decoded, le-leb limit deepest h, le-leb (length msg) longest g)

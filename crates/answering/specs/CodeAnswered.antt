@@ -10,7 +10,7 @@ use Rattle.answering.specs.declared.Decoded.the-variants as decoded
 
 -- the answer to a first reading: 10 last
 abbrev pub answered : ℕ → Total → Decoded
-answered capacity (total.Trees n left) = cond (leb n capacity) (decoded.Packets n left) (decoded.Refused TableFull)
+answered capacity (total.Trees n left dirty) = cond (leb n capacity) (decoded.Packets n left dirty) (decoded.Refused TableFull)
 answered capacity total.Deep = decoded.Refused TooDeep
 answered capacity total.Waiting = decoded.Waiting
 answered capacity (total.Refused k) = decoded.Refused (Unreadable k)

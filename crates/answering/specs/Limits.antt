@@ -9,6 +9,7 @@ use Rattle.refusal.specs.declared.Refusal.the-variants.{TooLong, Unreadable, To
 use Rattle.wire.specs.Limits.{longest, deepest}
 use Rattle.node.specs.Forest.{Forest, nil, size, depth}
 use Rattle.node.specs.Records.{capacity, stored}
+use Rattle.argument.specs.Dirt.{dirtyIn}
 use Rattle.totals.specs.Framing.{Whole, trees, waiting, refusal}
 use Rattle.answering.specs.declared.Decoded.{Decoded}
 use Rattle.answering.specs.declared.Decoded.the-variants.{Packets, Waiting, Refused}
@@ -17,17 +18,19 @@ use Rattle.answering.specs.declared.Decoded.the-variants.{Packets, Waiti
 abbrev pub decodeOrder : List ℕ
 decodeOrder = 13 ∷ 1 ∷ 2 ∷ 17 ∷ 18 ∷ 19 ∷ 20 ∷ 21 ∷ 4 ∷ 5 ∷ 6 ∷ 7 ∷ 8 ∷ 9 ∷ 10 ∷ []
 
--- 2 to 8 first, then 9, then 10; both speak of all the trees, and Waiting has none
-abbrev pub limited : ℕ → ℕ → Whole → Decoded
-limited capacity limit (refusal k) = Refused (Unreadable k)
-limited capacity limit waiting = Waiting
-limited capacity limit (trees f left) =
-    cond (leb (depth f) limit) (cond (leb (size f) capacity) (Packets (size f) left) (Refused TableFull)) (Refused TooDeep)
+-- 2 to 8 first, then 9, then 10; both speak of all the trees, and Waiting has none. What is accepted comes with its dirty padding
+-- (Ticket 8)
+abbrev pub limited : ℕ → ℕ → List ℕ → Whole → Decoded
+limited capacity limit msg (refusal k) = Refused (Unreadable k)
+limited capacity limit msg waiting = Waiting
+limited capacity limit msg (trees f left) =
+    cond (leb (depth f) limit) (cond (leb (size f) capacity) (Packets (size f) left (dirtyIn msg f)) (Refused TableFull)) (Refused TooDeep)
 
 -- what a decoder answers: 13, then 1, then what the rule gives within the limits
 unfoldable pub decoded : (List ℕ → Whole) → ℕ → ℕ → List ℕ → Decoded
 decoded rule capacity limit msg =
-    cond (leb limit deepest) (cond (leb (length msg) longest) (limited capacity limit (rule msg)) (Refused TooLong)) (Refused DepthLimit)
+    cond (leb limit deepest) (cond (leb (length msg) longest) (limited capacity limit msg (rule msg)) (Refused TooLong))
+    (Refused DepthLimit)
 
 -- the trees that an input is read as
 abbrev pub forestOf : Whole → Forest
@@ -37,7 +40,7 @@ forestOf (refusal k) = nil
 
 -- the table after an answer: on success exactly the records of the count are written, and a refusal or Waiting changes no byte
 abbrev pub tabled : Decoded → Forest → List ℕ → List ℕ
-tabled (Packets count left) f table = stored 0 f table
+tabled (Packets count left dirty) f table = stored 0 f table
 tabled Waiting f table = table
 tabled (Refused r) f table = table
 

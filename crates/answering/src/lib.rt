@@ -10,8 +10,13 @@ ghost use Rattle.answering.specs.CodeAnswered.{answered};
 
 // What a decoder answers.
 pub enum Decoded {
-    // Records written and input bytes left over, of one packet or of a list of packets.
-    Packets { count: usize, left: usize },
+    // Of one packet or of a list of packets: records written, input bytes left over, and how many bytes of the padding of all that is kept
+    // are not zero.
+    Packets {
+        count: usize,
+        left: usize,
+        dirty: usize,
+    },
     // The first frame is not all there: nothing was read.
     Waiting,
     Refused(Refusal),
@@ -37,11 +42,11 @@ fn within(capacity: usize, total: Total) -> Decoded
     ensures { λ r. ⌜ r ≡ answered capacity total ⌝ }
 {
     match total {
-        Total::Trees { count, left } => {
+        Total::Trees { count, left, dirty } => {
             if capacity < count {
                 return Decoded::Refused(Refusal::TableFull);
             }
-            Decoded::Packets { count, left }
+            Decoded::Packets { count, left, dirty }
         }
         Total::Deep => Decoded::Refused(Refusal::TooDeep),
         Total::Waiting => Decoded::Waiting,

@@ -7,6 +7,7 @@ use lib.ListN.{length, take, drop, length-append}
 use lib.Seq.{take-at}
 use Rattle.node.specs.Forest.{Forest, size}
 use Rattle.node.specs.Records.{recordSize, recordsOf, stored}
+use Rattle.argument.specs.Dirt.{dirtyIn}
 use Rattle.totals.specs.Framing.{Whole, trees, waiting, refusal}
 use Rattle.answering.specs.Limits.{limited, decoded, forestOf, tabled}
 use Rattle.answering.specs.declared.Decoded.{Decoded}
@@ -18,29 +19,31 @@ use Rattle.table.proofs.Held.{Holds, records-held}
 use Rattle.decoder.proofs.Chosen.{by-decoded, by-trees}
 use Rattle.decoder.proofs.Answers.{no-packets}
 
--- the input is read as trees of so many nodes, and so many bytes are left
-pub record Accepted (w : Whole) (count left : ℕ) : Type 0 where
+-- the input is read as trees of so many nodes and so much dirty padding, and so many bytes are left
+pub record Accepted (msg : List ℕ) (w : Whole) (count left dirty : ℕ) : Type 0 where
   pub read : w ≡ trees (forestOf w) left
   pub counts : size (forestOf w) ≡ count
+  pub soils : dirtyIn msg (forestOf w) ≡ dirty
 
-module _ {count left : ℕ} where
-  limited-accepted : (capacity limit : ℕ) (w : Whole) → limited capacity limit w ≡ Packets count left → Accepted w count left
-  limited-accepted capacity limit (trees f n) e =
-      by-trees (λ r. r ≡ Packets count left → Accepted (trees f n) count left) capacity limit f n (λ h p. no-packets (sym p))
-      (λ h p. no-packets (sym p))
-      (λ h k p. let l : n ≡ left = cc in record { read = rw l; counts = cc }) e
-  limited-accepted capacity limit waiting e = let z : _≡_ {A = ℕ} 0 1 = cc in absurd (omega arith)
-  limited-accepted capacity limit (refusal k) e = no-packets (sym e)
+module _ {count left dirty : ℕ} where
+  limited-accepted : (capacity limit : ℕ) (msg : List ℕ) (w : Whole) → limited capacity limit msg w ≡ Packets count left dirty
+      → Accepted msg w count left dirty
+  limited-accepted capacity limit msg (trees f n) e =
+      by-trees (λ r. r ≡ Packets count left dirty → Accepted msg (trees f n) count left dirty) capacity limit msg f n
+      (λ h p. no-packets (sym p)) (λ h p. no-packets (sym p))
+      (λ h k p. let l : n ≡ left = cc in record { read = rw l; counts = cc; soils = cc }) e
+  limited-accepted capacity limit msg waiting e = let z : _≡_ {A = ℕ} 0 1 = cc in absurd (omega arith)
+  limited-accepted capacity limit msg (refusal k) e = no-packets (sym e)
 
-  -- an answer with packets is given for trees of so many nodes, with so many bytes left
-  pub accepted : (rule : List ℕ → Whole) (capacity limit : ℕ) (msg : List ℕ) → decoded rule capacity limit msg ≡ Packets count left
-      → Accepted (rule msg) count left
+  -- an answer with packets is given for trees of so many nodes and so much dirty padding, with so many bytes left
+  pub accepted : (rule : List ℕ → Whole) (capacity limit : ℕ) (msg : List ℕ) → decoded rule capacity limit msg ≡ Packets count left dirty
+      → Accepted msg (rule msg) count left dirty
   accepted rule capacity limit msg =
-      by-decoded (λ r. r ≡ Packets count left → Accepted (rule msg) count left) rule capacity limit msg (λ h p. no-packets (sym p))
-      (λ h p. no-packets (sym p))
-      (λ h k. limited-accepted capacity limit (rule msg))
+      by-decoded (λ r. r ≡ Packets count left dirty → Accepted msg (rule msg) count left dirty) rule capacity limit msg
+      (λ h p. no-packets (sym p)) (λ h p. no-packets (sym p))
+      (λ h k. limited-accepted capacity limit msg (rule msg))
 
-  module _ (rule : List ℕ → Whole) (limit : ℕ) (msg table : List ℕ) (e : answerTo rule limit msg table ≡ Packets count left) where
+  module _ (rule : List ℕ → Whole) (limit : ℕ) (msg table : List ℕ) (e : answerTo rule limit msg table ≡ Packets count left dirty) where
     -- the table is the trees' records, and then as it was
     pub after-is : tableAfter rule limit msg table ≡ recordsOf 0 (forestOf (rule msg)) ++ drop (recordSize * size (forestOf (rule msg)))
         table

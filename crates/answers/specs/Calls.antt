@@ -94,7 +94,7 @@ pub data Given : Type 0 where
 
 -- of a decoder
 abbrev pub byDecoded : Decoded → Given
-byDecoded (decodes.Packets count left) = result
+byDecoded (decodes.Packets count left dirty) = result
 byDecoded decodes.Waiting = waits
 byDecoded (decodes.Refused r) = refuses r
 

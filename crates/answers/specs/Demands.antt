@@ -9,6 +9,7 @@ use Rattle.wire.specs.Limits.{longest, deepest}
 use Rattle.node.specs.Forest.{size}
 use Rattle.node.specs.Tags.{messageKind}
 use Rattle.node.specs.Records.{recordSize, kindAt, itemAt, capacity}
+use Rattle.argument.specs.Dirt.{packetsPadding, pads, AllZero}
 use Rattle.totals.specs.Framing.{Whole}
 use Rattle.answering.specs.Limits.{decoded, forestOf, tabled}
 use Rattle.answering.specs.declared.Decoded.{Decoded}
@@ -28,7 +29,7 @@ answerTo rule limit msg table = decoded rule (capacity table) limit msg
 -- with another depth limit and another table, a call's answer is the same, and so are the table's records
 pub record Unchanged (rule : List ℕ → Whole) (msg : List ℕ) (limit limit' : ℕ) (table table' : List ℕ) : Type 0 where
   pub answers : answerTo rule limit' msg table' ≡ answerTo rule limit msg table
-  pub records : (count left : ℕ) → answerTo rule limit msg table ≡ Packets count left
+  pub records : (count left dirty : ℕ) → answerTo rule limit msg table ≡ Packets count left dirty
       → take (recordSize * count) (tableAfter rule limit' msg table') ≡ take (recordSize * count) (tableAfter rule limit msg table)
 
 -- no answer but 9 and 10 is taken back, for any rule, so for each of the three calls; a limit of at most 64 stays so, since above it
@@ -46,11 +47,15 @@ pub record TableContinues (t t' : List ℕ) (count : ℕ) : Type 0 where
   pub item : itemAt t' 0 ≡ itemAt t 0
   pub rest : take (recordSize * count - recordSize) (drop recordSize t') ≡ take (recordSize * count - recordSize) (drop recordSize t)
 
--- a packet that was given goes on: on the tree and on the table; a message's whole table is the same
-pub record GoesOn (rule : List ℕ → Whole) (msg more : List ℕ) (limit limit' : ℕ) (table table' : List ℕ) (count : ℕ) : Type 0 where
+-- a packet that was given goes on: on the tree and on the table; a message's whole table is the same. Its dirty padding "stays for a
+-- message, and does not fall for a bundle" (Ticket 8)
+pub record GoesOn (rule : List ℕ → Whole) (msg more : List ℕ) (limit limit' : ℕ) (table table' : List ℕ) (count dirty : ℕ) : Type 0 where
   pub tree : Continues (forestOf (rule msg)) (forestOf (rule (msg ++ more)))
   pub left : ℕ
-  pub answers : answerTo rule limit' (msg ++ more) table' ≡ Packets (size (forestOf (rule (msg ++ more)))) left
+  pub dirt : ℕ
+  pub answers : answerTo rule limit' (msg ++ more) table' ≡ Packets (size (forestOf (rule (msg ++ more)))) left dirt
+  pub no-less : dirty ≤ dirt
+  pub stays : kindAt (tableAfter rule limit msg table) 0 ≡ messageKind → dirt ≡ dirty
   pub continues : TableContinues (tableAfter rule limit msg table) (tableAfter rule limit' (msg ++ more) table') count
   pub message : kindAt (tableAfter rule limit msg table) 0 ≡ messageKind
       → take (recordSize * count) (tableAfter rule limit' (msg ++ more) table') ≡ take (recordSize * count)
@@ -59,13 +64,13 @@ pub record GoesOn (rule : List ℕ → Whole) (msg more : List ℕ) (limit limit
 -- a single-packet call that accepts some bytes, with bytes appended and limits no lower, unless 1, 9, 10 or 13 is given
 abbrev pub MoreBytes : (List ℕ → Whole) → Type 0
 MoreBytes rule =
-    (msg more : List ℕ) (limit limit' : ℕ) (table table' : List ℕ) (count left : ℕ)
+    (msg more : List ℕ) (limit limit' : ℕ) (table table' : List ℕ) (count left dirty : ℕ)
     → limit ≤ limit' → capacity table ≤ capacity table'
-    → answerTo rule limit msg table ≡ Packets count left
+    → answerTo rule limit msg table ≡ Packets count left dirty
     → Unlimited (answerTo rule limit' (msg ++ more) table')
-    → GoesOn rule msg more limit limit' table table' count
+    → GoesOn rule msg more limit limit' table table' count dirty
 
--- ---- beside demand 3: bytes appended change no refusal of reading but 2 and 3
+-- ---- beside demand 3: bytes appended change no refusal of reading but 2 and 17 to 21
 
 -- a single-packet call that refuses some bytes with 4 to 8 (document 01, "Refusal numbers") refuses them so with bytes appended, whatever
 -- its table and limit, unless 13 or 1 comes first. Of a list it is false; the shortest that shows it, 00000010 2362756E646C6500
@@ -82,3 +87,17 @@ FaultsStay rule =
 abbrev pub RecordsHold : (List ℕ → Whole) → Type 0
 RecordsHold rule =
     (msg : List ℕ) (limit room : ℕ) → length msg ≤ room → decoded rule room limit msg ≡ Refused TableFull → ⊥
+
+-- ---- Ticket 8: what the count of dirty padding says, of any rule, so of each of the three calls
+
+-- it is at most three for each text, blob and "#bundle" that is kept
+abbrev pub DirtLow : Type 0
+DirtLow =
+    (rule : List ℕ → Whole) (msg table : List ℕ) (limit count left dirty : ℕ) → answerTo rule limit msg table ≡ Packets count left dirty
+    → dirty ≤ 3 * pads (forestOf (rule msg))
+
+-- it is 0 exactly if every padding byte of what is kept is 0
+abbrev pub CleanOnly : Type 0
+CleanOnly =
+    (rule : List ℕ → Whole) (msg table : List ℕ) (limit count left dirty : ℕ) → answerTo rule limit msg table ≡ Packets count left dirty
+    → (dirty ≡ 0 → AllZero (packetsPadding msg (forestOf (rule msg)))) × (AllZero (packetsPadding msg (forestOf (rule msg))) → dirty ≡ 0)

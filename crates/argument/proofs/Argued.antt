@@ -28,28 +28,15 @@ module _ (l : List ℕ) where
   there : (n : ℕ) (k : Fault) (x : Arg) → n ≤ length l → having n l k x ≡ x
   there n k x h = rw (le-leb n (length l) h)
 
-  lacking : (n : ℕ) (k : Fault) (x : Arg) → length l < n → having n l k x ≡ Refused k
-  lacking n k x h = rw (lt-leb n (length l) h)
-
   module _ (tag base p : ℕ) where
     -- an answer for the class that a match found
     pub of-class : {k class : Class} {r : Arg} → class ≡ k → r ≡ readArg tag k base l p → r ≡ readArg tag class base l p
     of-class e f = f ∙ ap (λ (c : Class). readArg tag c base l p) (sym e)
 
-    -- fewer than 4 bytes are refused
-    pub four-short : length l < 4 → Refused (Short Data p) ≡ readArg tag Four base l p
-    unfolding readArg
-    four-short h = rw (lacking 4 (Short Data p) (Given (argItem tag (base + p) (number 4 l) 0) 4) h)
-
     -- 4 bytes are the first field
     pub four-given : {x : ℕ} → 4 ≤ length l → x ≡ number 4 l → Given (argItem tag (base + p) x 0) 4 ≡ readArg tag Four base l p
     unfolding readArg
     four-given h e = rw (e, there 4 (Short Data p) (Given (argItem tag (base + p) (number 4 l) 0) 4) h)
-
-    -- fewer than 8 bytes are refused
-    pub eight-short : length l < 8 → Refused (Short Data p) ≡ readArg tag Eight base l p
-    unfolding readArg
-    eight-short h = rw (lacking 8 (Short Data p) (Given (argItem tag (base + p) (number 4 l) (number 4 (drop 4 l))) 8) h)
 
     -- of 8 bytes the first field is the high half, the second the low half
     pub eight-given : {x y : ℕ} → 8 ≤ length l → x ≡ number 4 l → y ≡ number 4 (drop 4 l)
@@ -57,7 +44,7 @@ module _ (l : List ℕ) where
     unfolding readArg
     eight-given h e f = rw (e, f, there 8 (Short Data p) (Given (argItem tag (base + p) (number 4 l) (number 4 (drop 4 l))) 8) h)
 
-    -- fewer than 4 bytes are no scalar number either
+    -- fewer than 4 bytes are no scalar number
     pub scalar-short : length l < 4 → Refused (Short Data p) ≡ readArg tag Scalar base l p
     unfolding readArg
     scalar-short h = rw (lt-leb 4 (length l) h)

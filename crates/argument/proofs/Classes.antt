@@ -13,17 +13,7 @@ use Rattle.argument.specs.Argument.{readArg}
 use Rattle.argument.specs.CodeClasses.{Checked}
 use Rattle.argument.specs.declared.Arg.the-variants.{Refused}
 
--- after the three plain classes the others are left
-pub left-over : (class : Class) → OneOf (3 ∷ 4 ∷ 5 ∷ 6 ∷ []) (tagOf the-type class) → Checked class
-left-over Four h = miss (3 ∷ 4 ∷ 5 ∷ 6 ∷ []) 0 tt h
-left-over Eight h = miss (3 ∷ 4 ∷ 5 ∷ 6 ∷ []) 1 tt h
-left-over Bare h = miss (3 ∷ 4 ∷ 5 ∷ 6 ∷ []) 2 tt h
-left-over String h = tt
-left-over Blob h = tt
-left-over Scalar h = tt
-left-over Unknown h = tt
-
--- of those, after the three that are read only the unknown tags are left
+-- of the classes that `read_checked` reads, after the three that are known only the unknown tags are left
 pub unknown-left : (tag : ℕ) (class : Class) (base : ℕ) (l : List ℕ) (p : ℕ) → OneOf (0 ∷ 1 ∷ 2 ∷ 6 ∷ []) (tagOf the-type class)
     → Checked class → Refused UnknownTag ≡ readArg tag class base l p
 unfolding readArg

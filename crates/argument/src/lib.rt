@@ -1,18 +1,20 @@
-// The data of one argument, one function to each class of data. An argument whose bytes are not all there is one field that is short, from
-// its first byte; its padding is another.
+// The data of one argument: judged, one function to each class that asks for it, and read, once it is known to be given. An argument whose
+// bytes are not all there is one field that is short, from its first byte; its padding is another.
 use node::record::Item;
 use node::tags::Class;
 use refusal::Fault;
 use refusal::Field;
 use text::Text;
+use text::find_osc_string;
 use wire::be_u32;
 ghost use mathlib.Core.Path.{_≡_};
 ghost use Prim.Native.Nat.{_+_, _≤_};
 ghost use lib.ListN.{length};
 ghost use Rattle.wire.specs.Limits.{longest};
 ghost use Rattle.node.specs.declared.tags.Class.the-variants as class;
-ghost use Rattle.argument.specs.Argument.{readArg};
+ghost use Rattle.argument.specs.Argument.{argItem, readArg};
 ghost use Rattle.argument.specs.CodeClasses.{Checked};
+ghost use Rattle.argument.specs.CodeGiven.{ArgGiven};
 
 // What reading one argument gives.
 pub enum Arg {
@@ -22,31 +24,8 @@ pub enum Arg {
 }
 
 // The data of one argument of this tag and class at the front of `input`, whose first byte stands at `pos` of its frame: padding
-// counts from there. An offset is `base` more than a position.
-//
-// Ruled out: the high half of 8 bytes in both fields; an argument without data that takes bytes.
-pub fn read_osc_arg(tag: u8, class: Class, input: &[u8], base: usize, pos: usize) -> Arg
-    requires { ⌜ base + pos + length (now input) ≤ longest ⌝ }
-    ensures { λ r. ⌜ r ≡ readArg tag class base (now (input .entry)) pos ⌝ }
-{
-    match class {
-        Class::Four => read_four(tag, input, base, pos),
-        Class::Eight => read_eight(tag, input, base, pos),
-        Class::Bare => Arg::Given {
-            item: Item {
-                kind: tag,
-                a: 0,
-                b: 0,
-                start: (base + pos) as u32,
-            },
-            used: 0,
-        },
-        _ => read_checked(tag, class, input, base, pos),
-    }
-}
-
-// The same for the classes that are left, whose data is more than bytes as they are. Apart, so that the common classes are short
-// enough to be compiled into the loops that read arguments: with one function for all, a decode of numbers took twice the time.
+// counts from there. An offset is `base` more than a position. Only for classes whose data is more than bytes as they are, and is judged
+// here; apart from the others, so that the loop that passes over plain bytes is short.
 //
 // Ruled out: the offset of a blob's size, in place of its bytes, or of its bytes as its start; a surrogate as a 'c'.
 pub fn read_checked(tag: u8, class: Class, input: &[u8], base: usize, pos: usize) -> Arg
@@ -59,50 +38,6 @@ pub fn read_checked(tag: u8, class: Class, input: &[u8], base: usize, pos: usize
         Class::Blob => read_blob(tag, input, base, pos),
         Class::Scalar => read_char(tag, input, base, pos),
         _ => Arg::Refused(Fault::UnknownTag),
-    }
-}
-
-// 4 bytes as they are ('i', 'f', 'r', 'm').
-fn read_four(tag: u8, input: &[u8], base: usize, pos: usize) -> Arg
-    requires { ⌜ base + pos + length (now input) ≤ longest ⌝ }
-    ensures { λ r. ⌜ r ≡ readArg tag class.Four base (now (input .entry)) pos ⌝ }
-{
-    if input.len() < 4 {
-        return Arg::Refused(Fault::Short {
-            field: Field::Data,
-            at: pos,
-        });
-    }
-    Arg::Given {
-        item: Item {
-            kind: tag,
-            a: be_u32(input, 0),
-            b: 0,
-            start: (base + pos) as u32,
-        },
-        used: 4,
-    }
-}
-
-// 8 bytes as they are ('h', 'd', 't').
-fn read_eight(tag: u8, input: &[u8], base: usize, pos: usize) -> Arg
-    requires { ⌜ base + pos + length (now input) ≤ longest ⌝ }
-    ensures { λ r. ⌜ r ≡ readArg tag class.Eight base (now (input .entry)) pos ⌝ }
-{
-    if input.len() < 8 {
-        return Arg::Refused(Fault::Short {
-            field: Field::Data,
-            at: pos,
-        });
-    }
-    Arg::Given {
-        item: Item {
-            kind: tag,
-            a: be_u32(input, 0),
-            b: be_u32(input, 4),
-            start: (base + pos) as u32,
-        },
-        used: 8,
     }
 }
 
@@ -184,6 +119,52 @@ fn read_blob(tag: u8, input: &[u8], base: usize, pos: usize) -> Arg
             a: bytes as u32,
             b: size,
             start: (bytes - 4) as u32,
+        },
+        used,
+    }
+}
+
+// An argument's own numbers, and how many bytes of data it takes.
+pub struct GivenArg {
+    pub item: Item,
+    pub used: usize,
+}
+
+// The same of an argument of any class that is known to be given: of its data nothing is tested or judged again.
+//
+// Ruled out: the high half of 8 bytes in both fields; an argument without data that takes bytes.
+pub fn read_osc_arg(tag: u8, class: Class, input: &[u8], base: usize, pos: usize) -> GivenArg
+    requires { ⌜ base + pos + length (now input) ≤ longest ⌝ }
+    requires { ⌜ ArgGiven (readArg tag class base (now input) pos) ⌝ }
+    ensures { λ r. ⌜ readArg tag class base (now (input .entry)) pos ≡ Arg.Given (r .item) (r .used) ⌝ }
+{
+    let start = (base + pos) as u32;
+    match class {
+        Class::Four | Class::Scalar => given(tag, start, be_u32(input, 0), 0, 4),
+        Class::Eight => given(tag, start, be_u32(input, 0), be_u32(input, 4), 8),
+        Class::Text => {
+            let text = find_osc_string(input, pos);
+            given(tag, start, start, text.length as u32, text.used)
+        }
+        Class::Blob => {
+            let size = be_u32(input, 0);
+            let end = 4 + size as usize;
+            given(tag, start, start + 4, size, (pos + end + 3) / 4 * 4 - pos)
+        }
+        _ => given(tag, start, 0, 0, 0),
+    }
+}
+
+// An argument with these numbers.
+fn given(tag: u8, start: u32, a: u32, b: u32, used: usize) -> GivenArg
+    ensures { λ r. ⌜ (r .item ≡ argItem tag start a b) × (r .used ≡ used) ⌝ }
+{
+    GivenArg {
+        item: Item {
+            kind: tag,
+            a,
+            b,
+            start,
         },
         used,
     }

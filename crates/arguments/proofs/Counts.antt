@@ -6,7 +6,7 @@ use mathlib.Core.List.{List, [], _∷_}
 use native.Mathlib.Omega.{arith}
 use lib.ListN.{length, drop, length-drop}
 use Rattle.refusal.specs.declared.Fault.{Fault}
-use Rattle.node.specs.Forest.{Forest, nil, size, snoc}
+use Rattle.node.specs.Forest.{Forest, nil, size, depth, snoc}
 use Rattle.node.specs.Records.{recordSize, mostRecords}
 use Rattle.node.specs.Tags.{sortOf}
 use Rattle.node.specs.declared.record.Item.{Item}
@@ -16,7 +16,7 @@ use Rattle.node.specs.declared.tags.Sort.the-variants.{Opens, Closes, Leaf}
 use Rattle.node.proofs.Forests.{size-snoc}
 use Rattle.argument.specs.Argument.{readArg}
 use Rattle.arguments.specs.Arguments.{Args, refused, args, later, argTaken, Open, waits, arrayItem, act, readTags, readArgs}
-use Rattle.arguments.specs.CodeReadings.{measured, keptOf, ArgsRoom}
+use Rattle.arguments.specs.CodeReadings.{measured, keeping, keptOf, ArgsAccepted, ArgsRoom}
 use Rattle.scan.specs.CodeScans.{usedOf, moreUsed, argPassed, turn, scan, tagBefore, back}
 use Rattle.argument.specs.declared.Arg.{Arg}
 use Rattle.argument.specs.declared.Arg.the-variants as arg
@@ -31,36 +31,47 @@ use Rattle.arguments.proofs.Nested.{Nested, nesting, args-nested}
 
 -- ---- the forward scan
 
--- the arguments without the tree
+-- the arguments without the tree, and a scan without its dirt
 abbrev outcome : Args → Scanned
 outcome (refused fault) = Refused fault
-outcome (args kept used) = Used used
+outcome (args kept used) = Used used 0
 
-outcome-later : (n : ℕ) (o : Args) → outcome (later n o) ≡ moreUsed n (outcome o)
+abbrev plainly : Scanned → Scanned
+plainly (Refused fault) = Refused fault
+plainly (Used used dirty) = Used used 0
+
+outcome-later : (n : ℕ) (o : Args) → outcome (later n o) ≡ moreUsed n 0 (outcome o)
 outcome-later n (refused fault) = refl
 outcome-later n (args kept used) = refl
 
-outcome-taken : (go : List ℕ → ℕ → Forest → Args) (goS : List ℕ → ℕ → Scanned) (l : List ℕ) (p : ℕ) (frame : Forest) (x : Arg)
-    → ((m : List ℕ) (q : ℕ) (f : Forest) → outcome (go m q f) ≡ goS m q) → outcome (argTaken go l p frame x) ≡ argPassed goS l p (usedOf x)
-outcome-taken go goS l p frame (arg.Refused fault) h = refl
-outcome-taken go goS l p frame (arg.Given item used) h =
+plain-more : (n dirt : ℕ) (s : Scanned) → plainly (moreUsed n dirt s) ≡ moreUsed n 0 (plainly s)
+plain-more n dirt (Refused fault) = refl
+plain-more n dirt (Used used dirty) = refl
+
+outcome-taken : (class : Class) (go : List ℕ → ℕ → Forest → Args) (goS : List ℕ → ℕ → Scanned)
+    (l : List ℕ) (p : ℕ) (frame : Forest) (x : Arg)
+    → ((m : List ℕ) (q : ℕ) (f : Forest) → outcome (go m q f) ≡ plainly (goS m q))
+    → outcome (argTaken go l p frame x) ≡ plainly (argPassed goS l p (usedOf class l x))
+outcome-taken class go goS l p frame (arg.Refused fault) h = refl
+outcome-taken class go goS l p frame (arg.Given item used) h =
     let f = snoc frame item nil in
-    outcome-later used (go (drop used l) (p + used) f) ∙ ap (moreUsed used) (h (drop used l) (p + used) f)
+    outcome-later used (go (drop used l) (p + used) f) ∙ ap (moreUsed used 0) (h (drop used l) (p + used) f)
+    ∙ sym (plain-more used _ (goS (drop used l) (p + used)))
 
 outcome-act : (s : Sort) (go : List ℕ → ℕ → Forest → List Open → Args) (goS : List ℕ → ℕ → ℕ → Scanned) (base tag : ℕ) (l : List ℕ)
     (p : ℕ)
     (frame : Forest) (below : List Open)
-    → ((m : List ℕ) (q : ℕ) (f : Forest) (b : List Open) → outcome (go m q f b) ≡ goS m q (length b))
-    → outcome (act s go base tag l p frame below) ≡ turn s goS tag l p (length below)
+    → ((m : List ℕ) (q : ℕ) (f : Forest) (b : List Open) → outcome (go m q f b) ≡ plainly (goS m q (length b)))
+    → outcome (act s go base tag l p frame below) ≡ plainly (turn s goS tag l p (length below))
 outcome-act Opens go goS base tag l p frame below h = h l p nil (waits frame (arrayItem (base + p)) ∷ below)
 outcome-act Closes go goS base tag l p frame [] h = refl
 outcome-act Closes go goS base tag l p frame (waits outer item ∷ below) h = h l p _ below
 outcome-act (Leaf class) go goS base tag l p frame below h =
-    outcome-taken _ _ l p frame (readArg tag class base l p) (λ m q f. h m q f below)
-    ∙ ap (argPassed (λ m q. goS m q (length below)) l p) (any-base tag class base 0 l p)
+    outcome-taken class _ (λ m q. goS m q (length below)) l p frame (readArg tag class base l p) (λ m q f. h m q f below)
+    ∙ ap (λ (s : Scanned). plainly (argPassed (λ m q. goS m q (length below)) l p s)) (any-base tag class base 0 l p)
 
 scan-law : (base : ℕ) (ts l : List ℕ) (p : ℕ) (frame : Forest) (below : List Open)
-    → outcome (readTags base ts l p frame below) ≡ scan ts l p (length below)
+    → outcome (readTags base ts l p frame below) ≡ plainly (scan ts l p (length below))
 unfolding readTags scan
 scan-law base [] l p frame below = refl
 scan-law base (t ∷ ts) l p frame below = outcome-act (sortOf t) _ _ base t l p frame below (λ m q f b. scan-law base ts m q f b)
@@ -143,30 +154,70 @@ total-none (Uncut (suc n) c d) = omega arith
 pub args-counted : (base : ℕ) (ts l : List ℕ) (p : ℕ) → Counts (counted (back ts)) (readArgs base ts l p)
 args-counted base ts l p = rw (total-none (back ts)) at (counts-law base ts l p nil [])
 
+-- so it tells how many records what is accepted takes
+pub accepted-counted : {k : Back} (base : ℕ) (ts l : List ℕ) (p : ℕ) → k ≡ back ts → ArgsAccepted (readArgs base ts l p)
+    → counted k ≡ size (keptOf (readArgs base ts l p))
+accepted-counted {k} base ts l p b a = by-out (readArgs base ts l p) a (rw (← b) at (args-counted base ts l p))
+  where
+    by-out : (o : Args) → ArgsAccepted o → Counts (counted k) o → counted k ≡ size (keptOf o)
+    by-out (refused fault) a w = absurd a
+    by-out (args kept used) a w = sym w
+
 -- ---- the first reading
 
 -- a fault of the forward scan is the fault of the reading
-pub measured-refused : {fault : Fault} (base : ℕ) (ts l : List ℕ) (p : ℕ) → Refused fault ≡ scan ts l p 0
-    → measure.Refused fault ≡ measured (readArgs base ts l p)
+pub measured-refused : {fault : Fault} (dirt : Forest → ℕ) (base : ℕ) (ts l : List ℕ) (p : ℕ) → Refused fault ≡ scan ts l p 0
+    → measure.Refused fault ≡ measured dirt (readArgs base ts l p)
 unfolding measured
-measured-refused {fault} base ts l p e = by-out (readArgs base ts l p) (e ∙ sym (scan-law base ts l p nil []))
+measured-refused {fault} dirt base ts l p e =
+    by-out (readArgs base ts l p) (ap plainly e ∙ sym (scan-law base ts l p nil []))
   where
-    by-out : (o : Args) → Refused fault ≡ outcome o → measure.Refused fault ≡ measured o
+    by-out : (o : Args) → Refused fault ≡ outcome o → measure.Refused fault ≡ measured dirt o
     by-out (refused k) s = let z : fault ≡ k = cc in rw z
     by-out (args kept used) s = let z : _≡_ {A = ℕ} 0 1 = cc in absurd (omega arith)
 
+-- no tags keep nothing and use nothing
+pub measured-none : (dirt : Forest → ℕ) (base : ℕ) (ts l : List ℕ) (p : ℕ) → length ts ≡ 0 → dirt nil ≡ 0
+    → measure.Kept 0 0 0 0 ≡ measured dirt (readArgs base ts l p)
+unfolding measured readTags size depth
+measured-none dirt base [] l p h d = ap (λ (n : ℕ). measure.Kept 0 0 0 n) (sym d)
+measured-none dirt base (t ∷ ts) l p h d = absurd (omega arith)
+
 -- what both scans answer is what the reading keeps and uses
-pub measured-kept : {used : ℕ} (base : ℕ) (ts l : List ℕ) (p : ℕ) (k : Back) → Used used ≡ scan ts l p 0 → k ≡ back ts
-    → measure.Kept (counted k) (nesting k) used ≡ measured (readArgs base ts l p)
+pub measured-kept : {used dirty x : ℕ} (dirt : Forest → ℕ) (base : ℕ) (ts l : List ℕ) (p : ℕ) (k : Back) → Used used x ≡ scan ts l p 0
+    → k ≡ back ts → dirty ≡ dirt (keptOf (readArgs base ts l p))
+    → keeping k used dirty ≡ measured dirt (readArgs base ts l p)
 unfolding measured
-measured-kept {used} base ts l p k e b =
-    by-out (readArgs base ts l p) (e ∙ sym (scan-law base ts l p nil [])) (rw (← b) at (args-counted base ts l p))
-    (rw (← b) at (args-nested base ts l p))
+measured-kept {used} {dirty} dirt base ts l p k e b d =
+    keeping-is k ∙ by-out (readArgs base ts l p) (ap plainly e ∙ sym (scan-law base ts l p nil [])) (rw (← b) at (args-counted base ts l p))
+    (rw (← b) at (args-nested base ts l p)) d
   where
-    by-out : (o : Args) → Used used ≡ outcome o → Counts (counted k) o → Nested (nesting k) o
-        → measure.Kept (counted k) (nesting k) used ≡ measured o
-    by-out (refused fault) s w d = let z : _≡_ {A = ℕ} 0 1 = cc in absurd (omega arith)
-    by-out (args kept u) s w d = let z : used ≡ u = cc in rw (z, w, d)
+    keeping-is : (k : Back) → keeping k used dirty ≡ measure.Kept (counted k) (nesting k) used dirty
+    keeping-is (Uncut n c d) = refl
+    keeping-is (Cut n c d) = refl
+
+    by-out : (o : Args) → Used used 0 ≡ outcome o → Counts (counted k) o → Nested (nesting k) o → dirty ≡ dirt (keptOf o)
+        → measure.Kept (counted k) (nesting k) used dirty ≡ measured dirt o
+    by-out (refused fault) s w d g = let z : _≡_ {A = ℕ} 0 1 = cc in absurd (omega arith)
+    by-out (args kept u) s w d g = let z : used ≡ u = cc in rw (z, w, d, g)
+
+-- what the forward scan accepts is accepted
+pub scan-accepted : {used dirty : ℕ} (base : ℕ) (ts l : List ℕ) (p : ℕ) → Used used dirty ≡ scan ts l p 0
+    → ArgsAccepted (readArgs base ts l p)
+scan-accepted {used} base ts l p e = by-out (readArgs base ts l p) (ap plainly e ∙ sym (scan-law base ts l p nil []))
+  where
+    by-out : (o : Args) → Used used 0 ≡ outcome o → ArgsAccepted o
+    by-out (refused fault) s = let z : _≡_ {A = ℕ} 0 1 = cc in absurd (omega arith)
+    by-out (args kept u) s = tt
+
+-- and what it refuses is not
+pub scan-refused : {fault : Fault} (base : ℕ) (ts l : List ℕ) (p : ℕ) → Refused fault ≡ scan ts l p 0 → ArgsAccepted (readArgs base ts l p)
+    → ⊥
+scan-refused {fault} base ts l p e = by-out (readArgs base ts l p) (ap plainly e ∙ sym (scan-law base ts l p nil []))
+  where
+    by-out : (o : Args) → Refused fault ≡ outcome o → ArgsAccepted o → ⊥
+    by-out (refused k) s a = a
+    by-out (args kept u) s a = let z : _≡_ {A = ℕ} 0 1 = cc in omega arith
 
 -- ---- bounds: no more records than tags, no more bytes than there are
 
@@ -228,21 +279,23 @@ args-within base ts l p e = subst (UsedIn (length l)) (sym e) (used-law base ts 
 -- ---- what a caller knows by the first reading
 
 -- so does the first reading answer no more records than tags, and no more bytes than there are
-pub measured-within : {count deep used : ℕ} (base : ℕ) (ts l : List ℕ) (p : ℕ)
-    → measure.Kept count deep used ≡ measured (readArgs base ts l p) → (count ≤ length ts) × (used ≤ length l)
+pub measured-within : {count deep used dirty : ℕ} (dirt : Forest → ℕ) (base : ℕ) (ts l : List ℕ) (p : ℕ)
+    → measure.Kept count deep used dirty ≡ measured dirt (readArgs base ts l p) → (count ≤ length ts) × (used ≤ length l)
 unfolding measured
-measured-within {count} {deep} {used} base ts l p e = by-out (readArgs base ts l p) e (kept-few base ts l p) (used-law base ts l p nil [])
+measured-within {count} {deep} {used} {dirty} dirt base ts l p e =
+    by-out (readArgs base ts l p) e (kept-few base ts l p) (used-law base ts l p nil [])
   where
-    by-out : (o : Args) → measure.Kept count deep used ≡ measured o → size (keptOf o) ≤ length ts → UsedIn (length l) o
+    by-out : (o : Args) → measure.Kept count deep used dirty ≡ measured dirt o → size (keptOf o) ≤ length ts → UsedIn (length l) o
         → (count ≤ length ts) × (used ≤ length l)
     by-out (refused fault) e k w = let z : _≡_ {A = ℕ} 0 1 = cc in absurd (omega arith)
     by-out (args kept u) e k w = let z : count ≡ size kept = cc in let y : used ≡ u = cc in (omega arith, omega arith)
 
 -- the second reading has room, if the table has room for the count
-pub measured-room : {count deep used : ℕ} (o : Args) (index : ℕ) (table : List ℕ) → measure.Kept count deep used ≡ measured o
+pub measured-room : {count deep used dirty : ℕ} (dirt : Forest → ℕ) (o : Args) (index : ℕ) (table : List ℕ)
+    → measure.Kept count deep used dirty ≡ measured dirt o
     → recordSize * count ≤ length table → index + count ≤ mostRecords → ArgsRoom o index table
 unfolding measured
-measured-room (refused fault) index table e h k = let z : _≡_ {A = ℕ} 0 1 = cc in absurd (omega arith)
-measured-room {count} (args kept used) index table e h k =
+measured-room dirt (refused fault) index table e h k = let z : _≡_ {A = ℕ} 0 1 = cc in absurd (omega arith)
+measured-room {count} dirt (args kept used) index table e h k =
     let z : count ≡ size kept = cc in
     record { accepted = tt; room = record { fits = omega arith; low = omega arith } }

@@ -5,7 +5,6 @@ use Prim.Native.Nat.{ℕ, zero, suc, _+_, _-_, _*_, _^_, _<_, _≤_}
 use mathlib.Core.List.{List, [], _∷_, _++_}
 use native.Mathlib.Omega.{arith}
 use lib.ListN.{length, getD, take, drop, length-drop}
-use Rattle.refusal.specs.declared.Fault.{Fault}
 use Rattle.wire.specs.Number.{bytes}
 use Rattle.wire.specs.Wrote.{Wrote}
 use Rattle.wire.proofs.Numbers.{length-bytes}
@@ -23,6 +22,8 @@ use Rattle.argument.specs.Argument.{readArg}
 use Rattle.arguments.specs.Arguments.{Args, refused, args, later, argTaken, Open, waits, arrayItem, act, readTags, readArgs}
 use Rattle.arguments.specs.CodeReadings.{keptOf, ArgsRoom}
 use Rattle.scan.specs.CodeScans.{tagBefore, back, AllClosed}
+use Rattle.argument.specs.CodeGiven.{ArgGiven}
+use Rattle.argument.specs.declared.Arg.{Arg}
 use Rattle.argument.specs.declared.Arg.the-variants as arg
 use Rattle.scan.specs.declared.Back.{Back}
 use Rattle.scan.specs.declared.Back.the-variants.{Uncut, Cut}
@@ -293,13 +294,13 @@ module _ {base : ℕ} {F : Forest} {i E : ℕ} {T₀ T ts m : List ℕ} {q n top
             room = w .room;
           })
 
-  -- what is accepted has no argument that is refused
-  pub filling-refused : {class : Class} {fault : Fault} → Leaf class ≡ sortOf (getD ts 0 0)
-      → arg.Refused fault ≡ readArg (getD ts 0 0) class base m q → ⊥
-  filling-refused {class} {fault} e g =
-      let r : refused fault ≡ args F (w .used) =
-      ap (argTaken (λ m q f. readTags base (drop 1 ts) m q f (w .below)) m q (w .frame)) g ∙ turned e in
-      let z : _≡_ {A = ℕ} 0 1 = cc in omega arith
+  -- in what is accepted each argument is given
+  pub filling-given : {class : Class} → Leaf class ≡ sortOf (getD ts 0 0) → ArgGiven (readArg (getD ts 0 0) class base m q)
+  filling-given {class} e = by-arg (readArg (getD ts 0 0) class base m q) (turned e)
+    where
+      by-arg : (x : Arg) → argTaken (λ m q f. readTags base (drop 1 ts) m q f (w .below)) m q (w .frame) x ≡ args F (w .used) → ArgGiven x
+      by-arg (arg.Given item used) r = tt
+      by-arg (arg.Refused fault) r = let z : _≡_ {A = ℕ} 0 1 = cc in absurd (omega arith)
 
 -- where no tag is left, the frame is all, and none waits below it
 ended : (base : ℕ) (ts m : List ℕ) (q : ℕ) {frame F : Forest} {used d c g : ℕ} (below : List Open) → length ts ≤ 0

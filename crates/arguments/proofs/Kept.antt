@@ -119,21 +119,23 @@ under-law base (t ∷ ts) l p frame A B w =
 -- s is the scan of the first tags and o the reading of all; ts are the tags that are kept
 record Keeps (base : ℕ) (s : Scanned) (o : Args) (ts l : List ℕ) (p : ℕ) : Type 0 where
   pub lost : ℕ
+  pub dirt : ℕ
   pub inside : lost ≤ length l
-  pub scanned : s ≡ Used lost
+  pub scanned : s ≡ Used lost dirt
   pub same : o ≡ later lost (readArgs base ts (drop lost l) (p + lost))
   pub closed : Closed (back ts) 0
 
 -- the same u bytes later
-keeps-later : (base u : ℕ) (s : Scanned) (o : Args) (ts l : List ℕ) (p : ℕ) → u ≤ length l → Keeps base s o ts (drop u l) (p + u)
-    → Keeps base (moreUsed u s) (later u o) ts l p
-keeps-later base u s o ts l p h w =
+keeps-later : (base u d : ℕ) (s : Scanned) (o : Args) (ts l : List ℕ) (p : ℕ) → u ≤ length l → Keeps base s o ts (drop u l) (p + u)
+    → Keeps base (moreUsed u d s) (later u o) ts l p
+keeps-later base u d s o ts l p h w =
     let v = w .lost in
     let sum : p + u + v ≡ p + (u + v) = omega arith in
     record {
       lost = u + v;
+      dirt = d + w .dirt;
       inside = omega (arith, length-drop u l, w .inside);
-      scanned = ap (moreUsed u) (w .scanned);
+      scanned = ap (moreUsed u d) (w .scanned);
       same = ap (later u) (w .same) ∙ later-later u v (readArgs base ts (drop v (drop u l)) (p + u + v)) ∙ rw (drop-drop v u l, sum);
       closed = w .closed;
     }
@@ -161,6 +163,7 @@ cut-act Opens (Uncut zero d i) base tag ts l p frame below n c g h e x w =
     (sym z)
     (record {
       lost = 0;
+      dirt = 0;
       inside = omega arith;
       scanned = refl;
       same = under-law base ts l p nil [] below′ shut ∙ sym (later-none (readArgs base ts l p)) ∙ rw q;
@@ -176,13 +179,13 @@ cut-act (Leaf class) (Cut m d i) base tag ts l p frame below n c g h e x w =
     rw (any-base tag class 0 base l p) (by-arg (readArg tag class base l p) refl w)
   where
     by-arg : (y : Arg) → y ≡ readArg tag class base l p → ArgsAccepted (argTaken (λ m q f. readTags base ts m q f below) l p frame y)
-        → Keeps base (argPassed (λ m q. scan (take n ts) m q (length below)) l p (usedOf y))
+        → Keeps base (argPassed (λ m q. scan (take n ts) m q (length below)) l p (usedOf class l y))
         (argTaken (λ m q f. readTags base ts m q f below) l p frame y) (drop n ts) l p
     by-arg (arg.Refused fault) r v = absurd v
     by-arg (arg.Given item used) r v =
         let f = snoc frame item nil in
         let o = readTags base ts (drop used l) (p + used) f below in
-        keeps-later base used (scan (take n ts) (drop used l) (p + used) (length below)) o (drop n ts) l p
+        keeps-later base used _ (scan (take n ts) (drop used l) (p + used) (length below)) o (drop n ts) l p
         (given-within tag class base l p r)
         (h (drop used l) (p + used) f below n c g (let z : m ≡ n = cc in e ∙ cc) (accepted-later used o v))
 
@@ -244,7 +247,7 @@ module _ (base : ℕ) (ts l : List ℕ) (p : ℕ) {n c g : ℕ} (e : Cut n c g �
   pub cut-never : {fault : Fault} → Refused fault ≡ scan (take n ts) l p 0 → ⊥
   cut-never s = let r = keeps .scanned in let z : _≡_ {A = ℕ} 0 1 = cc in omega arith
 
-  module _ {used : ℕ} (s : Used used ≡ scan (take n ts) l p 0) where
+  module _ {used dirty : ℕ} (s : Used used dirty ≡ scan (take n ts) l p 0) where
     lost-is : keeps .lost ≡ used
     lost-is = let r = keeps .scanned in cc
 

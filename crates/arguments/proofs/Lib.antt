@@ -1,5 +1,6 @@
 pub mod Nested
 pub mod Counts
+pub mod Dirt
 pub mod Faults
 pub mod Frames
 pub mod Kept

@@ -1,6 +1,5 @@
 // The second reading: the records of arguments, written in one pass. Linear, with no stack for arrays: while an array is open, its
 // record holds in place of its end the link to the open array around it.
-use argument::Arg;
 use argument::read_osc_arg;
 use node::record::END;
 use node::record::Item;
@@ -83,15 +82,14 @@ pub fn fill_whole(
             Sort::Closes => {
                 top = swap_end(table, top - 1, (index + n) as u32) as usize;
             }
-            Sort::Leaf(class) => match read_osc_arg(tag, class, rest, base, at) {
-                Arg::Given { item, used } => {
-                    put_at(table, n, item, (index + n + 1) as u32);
-                    n += 1;
-                    rest = &rest[used..];
-                    at += used;
-                }
-                Arg::Refused(_) => return,
-            },
+            Sort::Leaf(class) => {
+                let given = read_osc_arg(tag, class, rest, base, at);
+                let used = given.used;
+                put_at(table, n, given.item, (index + n + 1) as u32);
+                n += 1;
+                rest = &rest[used..];
+                at += used;
+            }
         }
     }
 }

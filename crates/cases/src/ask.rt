@@ -34,7 +34,10 @@ fn is_same(found: Outcome, wanted: Outcome) -> bool {
     if found.answer == call::UNKNOWN {
         return false;
     }
-    found.answer == wanted.answer && found.count == wanted.count && found.left == wanted.left
+    found.answer == wanted.answer
+        && found.count == wanted.count
+        && found.left == wanted.left
+        && found.dirty == wanted.dirty
 }
 
 // Compares an answer, and every byte of what was lent, with what is expected, which is put into `space`: what is not given is to be as

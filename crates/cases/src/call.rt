@@ -27,12 +27,13 @@ pub const ANSWERS: [u8; 13] = *b"given waiting";
 // What `text_of` hands back for what names no part of the packet.
 const LABEL: [u8; 5] = *b"label";
 
-// What a call answered: the records or bytes that were given, the kind or the position, or where the field began that was short; and the
-// bytes left over.
+// What a call answered: the records or bytes that were given, the kind or the position, or where the field began that was short; the
+// bytes left over; and the bytes of padding that are not zero.
 pub struct Outcome {
     pub answer: usize,
     pub count: u64,
     pub left: u64,
+    pub dirty: u64,
 }
 
 // An answer that gives nothing.
@@ -41,16 +42,23 @@ pub fn empty(answer: usize) -> Outcome {
         answer,
         count: 0,
         left: 0,
+        dirty: 0,
     }
 }
 
-// An answer that gives so much.
-pub fn given(count: u64, left: u64) -> Outcome {
+// An answer of a decoder that gives records.
+pub fn records(count: u64, left: u64, dirty: u64) -> Outcome {
     Outcome {
         answer: GIVEN,
         count,
         left,
+        dirty,
     }
+}
+
+// An answer of another call that gives so much: it leaves nothing, and reads no padding.
+pub fn given(count: u64) -> Outcome {
+    records(count, 0, 0)
 }
 
 // A refusal with this number: that of a field that was short (17 to 21) has the offset at which it began, and every other 0.
@@ -59,6 +67,7 @@ pub fn numbered(number: u8, offset: u64) -> Outcome {
         answer: REFUSED + number as usize,
         count: offset,
         left: 0,
+        dirty: 0,
     }
 }
 
@@ -73,7 +82,7 @@ fn refused(refusal: Refusal) -> Outcome {
 // What a decoder answered.
 fn read(decoded: Decoded) -> Outcome {
     match decoded {
-        Decoded::Packets { count, left } => given(count as u64, left as u64),
+        Decoded::Packets { count, left, dirty } => records(count as u64, left as u64, dirty as u64),
         Decoded::Waiting => empty(WAITING),
         Decoded::Refused(refusal) => refused(refusal),
     }
@@ -82,7 +91,7 @@ fn read(decoded: Decoded) -> Outcome {
 // What an encoder answered.
 fn wrote(encoded: Encoded) -> Outcome {
     match encoded {
-        Encoded::Written(count) => given(count as u64, 0),
+        Encoded::Written(count) => given(count as u64),
         Encoded::Refused(refusal) => refused(refusal),
     }
 }
@@ -90,7 +99,7 @@ fn wrote(encoded: Encoded) -> Outcome {
 // What `pad` answered.
 fn padded(answer: Padded) -> Outcome {
     match answer {
-        Padded::At(position) => given(position, 0),
+        Padded::At(position) => given(position),
         Padded::Refused(refusal) => refused(refusal),
     }
 }
@@ -120,7 +129,7 @@ fn kind_of(value: OscType) -> u8 {
 // What `look` answered.
 fn looked(answer: Looked) -> Outcome {
     match answer {
-        Looked::Value(value) => given(kind_of(value) as u64, 0),
+        Looked::Value(value) => given(kind_of(value) as u64),
         Looked::Refused(refusal) => refused(refusal),
     }
 }
@@ -128,7 +137,7 @@ fn looked(answer: Looked) -> Outcome {
 // What `start_of` answered.
 fn started(answer: Started) -> Outcome {
     match answer {
-        Started::At(position) => given(position as u64, 0),
+        Started::At(position) => given(position as u64),
         Started::Refused(refusal) => refused(refusal),
     }
 }
@@ -141,7 +150,7 @@ fn put_named(value: OscType, packet: &[u8], lent: &mut [u8]) -> usize {
 // What `text_of` answered of the value that `look` gave.
 fn named(answer: Looked, packet: &[u8], lent: &mut [u8]) -> Outcome {
     match answer {
-        Looked::Value(value) => given(put_named(value, packet, lent) as u64, 0),
+        Looked::Value(value) => given(put_named(value, packet, lent) as u64),
         Looked::Refused(refusal) => refused(refusal),
     }
 }

@@ -1,10 +1,11 @@
-// What a line expects: `packets LEFT TABLE`, `written BYTES`, `waiting`, `refused NUMBER`, `refused NUMBER OFFSET`, `value KIND` or
-// `at POSITION`.
+// What a line expects: `packets LEFT TABLE`, `dirty BYTES LEFT TABLE`, `written BYTES`, `waiting`, `refused NUMBER`,
+// `refused NUMBER OFFSET`, `value KIND` or `at POSITION`.
 use crate::call;
 use crate::call::Outcome;
 use crate::call::empty;
 use crate::call::given;
 use crate::call::numbered;
+use crate::call::records;
 use spelled::listed::kind_of;
 use spelled::listed::put_table;
 use spelled::listed::records_in;
@@ -18,7 +19,7 @@ ghost use Rattle.spelled.specs.Put.{Put};
 // The place of the answer among these names; another number for any other.
 fn answer_of(expected: &[u8]) -> usize {
     place_of(
-        b"packets written waiting refused value at",
+        b"packets written waiting refused value at dirty",
         word(expected, 0),
     )
 }
@@ -30,6 +31,10 @@ pub fn put_given(expected: &[u8], out: &mut [u8]) -> usize
     let answer = answer_of(expected);
     if answer == 0 {
         let from = start(expected, 2);
+        return put_table(&expected[from..], out);
+    }
+    if answer == 6 {
+        let from = start(expected, 3);
         return put_table(&expected[from..], out);
     }
     if answer == 1 {
@@ -53,12 +58,13 @@ fn refused(expected: &[u8]) -> Outcome {
 // The answer that a line expects, where it gives so many bytes.
 pub fn wanted(expected: &[u8], bytes: usize) -> Outcome {
     match answer_of(expected) {
-        0 => given(records_in(bytes), number(expected, 1)),
-        1 => given(bytes as u64, 0),
+        0 => records(records_in(bytes), number(expected, 1), 0),
+        1 => given(bytes as u64),
         2 => empty(call::WAITING),
         3 => refused(expected),
-        4 => given(kind_of(word(expected, 1)) as u64, 0),
-        5 => given(number(expected, 1), 0),
+        4 => given(kind_of(word(expected, 1)) as u64),
+        5 => given(number(expected, 1)),
+        6 => records(records_in(bytes), number(expected, 2), number(expected, 1)),
         _ => empty(call::UNKNOWN),
     }
 }

@@ -54,12 +54,21 @@ fn say_offset(outcome: Outcome) {
     }
 }
 
+// Says what was given: dirty padding only where there is some.
+fn say_given(outcome: Outcome) {
+    say_counts(b": given ", outcome.count, b", ", outcome.left, b" left");
+    if 0 < outcome.dirty {
+        say(b", dirty ", outcome.dirty);
+    }
+    io::write_all(1, b"\n");
+}
+
 // Says what a call answered.
 pub fn say_case(call: usize, outcome: Outcome) {
     io::write_all(1, b"  ");
     io::write_all(1, word(&call::NAMES, call));
     if outcome.answer == call::GIVEN {
-        say_counts(b": given ", outcome.count, b", ", outcome.left, b" left\n");
+        say_given(outcome);
     } else if outcome.answer == call::UNKNOWN {
         io::write_all(1, b": not understood\n");
     } else {

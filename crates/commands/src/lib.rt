@@ -14,7 +14,7 @@ pub use options::Options;
 pub use options::options_of;
 
 // The version of the program and of the library that it calls.
-pub const VERSION: [u8; 5] = *b"0.7.0";
+pub const VERSION: [u8; 5] = *b"0.9.0";
 
 // The first word.
 pub enum Command {

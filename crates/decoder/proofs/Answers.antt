@@ -22,7 +22,7 @@ use Rattle.decoder.proofs.Sizes.{nodes-in, whole-in}
 -- ---- an answer of packets
 
 -- a refusal is no answer of packets
-pub no-packets : {A : Type 0} {count left : ℕ} {r : Refusal} → Packets count left ≡ Refused r → A
+pub no-packets : {A : Type 0} {count left dirty : ℕ} {r : Refusal} → Packets count left dirty ≡ Refused r → A
 no-packets e = let z : _≡_ {A = ℕ} 0 1 = cc in absurd (omega arith)
 
 -- the input is short enough and accepted, and its records fit
@@ -32,23 +32,24 @@ record Fitting (w : Whole) (capacity n count : ℕ) : Type 0 where
   records : size (forestOf w) ≡ count
   fits : count ≤ capacity
 
-packets-fit : {count left : ℕ} (rule : List ℕ → Whole) (capacity limit : ℕ) (msg : List ℕ)
-    → Packets count left ≡ decoded rule capacity limit msg → Fitting (rule msg) capacity (length msg) count
-packets-fit {count} {left} rule capacity limit msg e =
-    by-decoded (λ (x : Decoded). Packets count left ≡ x → Fitting (rule msg) capacity (length msg) count) rule capacity limit msg
+packets-fit : {count left dirty : ℕ} (rule : List ℕ → Whole) (capacity limit : ℕ) (msg : List ℕ)
+    → Packets count left dirty ≡ decoded rule capacity limit msg → Fitting (rule msg) capacity (length msg) count
+packets-fit {count} {left} {dirty} rule capacity limit msg e =
+    by-decoded (λ (x : Decoded). Packets count left dirty ≡ x → Fitting (rule msg) capacity (length msg) count) rule capacity limit msg
     (λ _. no-packets) (λ _. no-packets) (λ _ h. by-whole h (rule msg)) e
   where
-    by-whole : length msg ≤ longest → (w : Whole) → Packets count left ≡ limited capacity limit w → Fitting w capacity (length msg) count
+    by-whole : length msg ≤ longest → (w : Whole) → Packets count left dirty ≡ limited capacity limit msg w
+        → Fitting w capacity (length msg) count
     by-whole h waiting i = let z : _≡_ {A = ℕ} 0 1 = cc in absurd (omega arith)
     by-whole h (refusal k) i = no-packets i
     by-whole h (trees f n) i =
-        by-trees (λ (x : Decoded). Packets count left ≡ x → Fitting (trees f n) capacity (length msg) count) capacity limit f n
+        by-trees (λ (x : Decoded). Packets count left dirty ≡ x → Fitting (trees f n) capacity (length msg) count) capacity limit msg f n
         (λ _. no-packets) (λ _. no-packets)
         (λ _ s j. let z : count ≡ size f = cc in record { short = h; accepted = tt; records = sym z; fits = omega arith }) i
 
 -- where packets are answered, the second reading has what it needs
-pub fillable : {count left : ℕ} (framing : Framing) (limit : ℕ) (msg T : List ℕ)
-    → Packets count left ≡ decoded (ruleOf framing) (capacity T) limit msg
+pub fillable : {count left dirty : ℕ} (framing : Framing) (limit : ℕ) (msg T : List ℕ)
+    → Packets count left dirty ≡ decoded (ruleOf framing) (capacity T) limit msg
     → Fillable (ruleOf framing msg) (length msg) count T
 fillable framing limit msg T e =
     let w = packets-fit (ruleOf framing) (capacity T) limit msg e in

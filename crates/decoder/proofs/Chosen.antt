@@ -6,6 +6,7 @@ use Rattle.refusal.specs.declared.Refusal.the-variants.{TooLong, TooDeep, Table
 use Rattle.wire.specs.Limits.{longest, deepest}
 use Rattle.node.specs.Forest.{Forest, size, depth}
 use Rattle.wire.proofs.Choices.{by-le}
+use Rattle.argument.specs.Dirt.{dirtyIn}
 use Rattle.totals.specs.Framing.{Whole, trees}
 use Rattle.answering.specs.Limits.{limited, decoded}
 use Rattle.answering.specs.declared.Decoded.{Decoded}
@@ -15,12 +16,13 @@ module _ (P : Decoded → Type 0) where
   -- 13, then 1, then what the rule gives
   pub by-decoded : (rule : List ℕ → Whole) (capacity limit : ℕ) (msg : List ℕ) → (deepest < limit → P (Refused DepthLimit))
       → (longest < length msg → P (Refused TooLong))
-      → (limit ≤ deepest → length msg ≤ longest → P (limited capacity limit (rule msg))) → P (decoded rule capacity limit msg)
+      → (limit ≤ deepest → length msg ≤ longest → P (limited capacity limit msg (rule msg))) → P (decoded rule capacity limit msg)
   unfolding decoded
   by-decoded rule capacity limit msg deep long f = by-le P limit deepest (λ h. by-le P (length msg) longest (λ k. f h k) long) deep
 
-  -- of trees: 9, then 10, then their count
-  pub by-trees : (capacity limit : ℕ) (f : Forest) (left : ℕ) → (limit < depth f → P (Refused TooDeep))
+  -- of trees: 9, then 10, then their count and their dirt
+  pub by-trees : (capacity limit : ℕ) (msg : List ℕ) (f : Forest) (left : ℕ) → (limit < depth f → P (Refused TooDeep))
       → (capacity < size f → P (Refused TableFull))
-      → (depth f ≤ limit → size f ≤ capacity → P (Packets (size f) left)) → P (limited capacity limit (trees f left))
-  by-trees capacity limit f left deep full g = by-le P (depth f) limit (λ h. by-le P (size f) capacity (λ k. g h k) full) deep
+      → (depth f ≤ limit → size f ≤ capacity → P (Packets (size f) left (dirtyIn msg f)))
+      → P (limited capacity limit msg (trees f left))
+  by-trees capacity limit msg f left deep full g = by-le P (depth f) limit (λ h. by-le P (size f) capacity (λ k. g h k) full) deep

@@ -12,6 +12,7 @@ use Rattle.node.specs.Records.{capacity, recordsOf, recordOf, stored}
 use Rattle.node.specs.Tags.{classOf, sortOf}
 use Rattle.text.specs.Text.{readText}
 use Rattle.argument.specs.Argument.{readArg}
+use Rattle.argument.specs.Dirt.{keptPadding, packetsPadding}
 use Rattle.arguments.specs.Arguments.{readTags}
 use Rattle.packet.specs.Packet.{readMessage, bundleBy, packetBy, elementBy, elementsBy, packetAt, readPacket}
 use Rattle.heads.specs.Heads.{sizeOf, prefixOf}
@@ -29,16 +30,16 @@ abbrev hex : List ℕ → List ℕ
 hex [] = []
 hex (x ∷ l) = bytes 4 x ++ hex l
 
--- an answer as document 01 tells it: records and bytes left over; Waiting; the number of a refusal, and of a field that was short its
--- offset, 0 of every other
+-- an answer as document 01 tells it: records, bytes left over and dirty padding; Waiting; the number of a refusal, and of a field that was
+-- short its offset, 0 of every other
 pub data Told : Type 0 where
-  packets : (count left : ℕ) → Told
+  packets : (count left dirty : ℕ) → Told
   waiting : Told
   refused : (number offset : ℕ) → Told
 
 -- the answer of a decoder, told so
 abbrev told : Decoded → Told
-told (decodes.Packets count left) = packets count left
+told (decodes.Packets count left dirty) = packets count left dirty
 told decodes.Waiting = waiting
 told (decodes.Refused r) = refused (numberOf r) (offsetOf r)
 
@@ -46,9 +47,12 @@ told (decodes.Refused r) = refused (numberOf r) (offsetOf r)
 pub data Case : Type 0 where
   call : (framing : Framing) (msg : List ℕ) (room limit : ℕ) (answer : Told) (records : List ℕ) → Case
 
--- packets: the records that are written, and the bytes left over
+-- packets: the records that are written, and the bytes left over; with so much dirty padding, or none
+abbrev soils : Framing → List ℕ → ℕ → ℕ → List ℕ → Case
+soils framing msg left dirty records = call framing msg 160 64 (packets (capacity records) left dirty) records
+
 abbrev gives : Framing → List ℕ → ℕ → List ℕ → Case
-gives framing msg left records = call framing msg 160 64 (packets (capacity records) left) records
+gives framing msg left records = soils framing msg left 0 records
 
 -- a refusal by its number
 abbrev refuses : Framing → List ℕ → ℕ → Case
@@ -115,7 +119,8 @@ examples =
 -- all of them hold
 pub proved : Each examples
 unfolding decoded size depth snoc number bytes classOf sortOf readText readArg readTags startOf sizeOf prefixOf readMessage bundleBy
-    packetBy elementBy elementsBy packetAt readPacket udp readFrame tcp framesAt readFrames tcpVec stored recordsOf recordOf
+    packetBy elementBy elementsBy packetAt readPacket udp readFrame tcp framesAt readFrames tcpVec stored recordsOf recordOf keptPadding
+    packetsPadding
 proved = ends and ends and ends and ends and ends and ends and ends and ends and ends and ends and ends and ends and ends and ends and none
 
 -- a bundle in a bundle, the inner one with a leftover
@@ -132,9 +137,9 @@ holding =
 -- inputs that are easily misread
 abbrev pub misread : List Case
 misread =
-    -- padding counts from the call and not from the element, whose leftover byte is dropped
-    gives Udp (hex (0x2362756E ∷ 0x646C6500 ∷ 0x00000000 ∷ 0x00000001
-    ∷ 0x00000009 ∷ 0x2F610000 ∷ 0x2C000000 ∷ 0x55000000 ∷ 0x072F00AA ∷ 0x2C00BBBB ∷ [])) 0
+    -- padding counts from the call and not from the element, whose leftover byte is dropped, and is no padding
+    soils Udp (hex (0x2362756E ∷ 0x646C6500 ∷ 0x00000000 ∷ 0x00000001
+    ∷ 0x00000009 ∷ 0x2F610000 ∷ 0x2C000000 ∷ 0x55000000 ∷ 0x072F00AA ∷ 0x2C00BBBB ∷ [])) 0 3
     (hex (0x23000000 ∷ 0x00000003 ∷ 0x00000000 ∷ 0x00000001 ∷ 0x00000000
     ∷ 0x2F000000 ∷ 0x00000002 ∷ 0x00000014 ∷ 0x00000002 ∷ 0x00000014
     ∷ 0x2F000000 ∷ 0x00000003 ∷ 0x00000021 ∷ 0x00000001 ∷ 0x00000021 ∷ []))
@@ -164,7 +169,7 @@ misread =
     ∷ refuses Udp (hex (0x00000000 ∷ [])) 5
     ∷ refuses Udp (hex (0x2F610000 ∷ 0x2C530000 ∷ [])) 7
     -- an unclosed array: what stands outside it is lost, its data consumed
-    ∷ call Udp (hex (0x2F610000 ∷ 0x2C695B00 ∷ 0x00000005 ∷ [])) 20 64 (packets 1 0)
+    ∷ call Udp (hex (0x2F610000 ∷ 0x2C695B00 ∷ 0x00000005 ∷ [])) 20 64 (packets 1 0 0)
     (hex (0x2F000000 ∷ 0x00000001 ∷ 0x00000000 ∷ 0x00000002 ∷ 0x00000000 ∷ []))
     ∷ gives Udp (hex (0x2F610000 ∷ 0x2C5B5B54 ∷ 0x5D000000 ∷ []) ++ (0x00 ∷ [])) 1
     (hex (0x2F000000 ∷ 0x00000003 ∷ 0x00000000 ∷ 0x00000002 ∷ 0x00000000
@@ -190,20 +195,41 @@ misread =
     ∷ call Udp nested 39 1 (refused 9 0) []
     ∷ call Udp nested 39 2 (refused 10 0) []
     -- depth counts the arrays that are kept, with the bundles around them: P6 has none, '[[T]' one, and the last one stands in a bundle
-    ∷ call Udp (hex (0x2F610000 ∷ 0x2C695B69 ∷ 0x00000000 ∷ 0x00000001 ∷ 0x00000002 ∷ [])) 160 0 (packets 2 0)
+    ∷ call Udp (hex (0x2F610000 ∷ 0x2C695B69 ∷ 0x00000000 ∷ 0x00000001 ∷ 0x00000002 ∷ [])) 160 0 (packets 2 0 0)
     (hex (0x2F000000 ∷ 0x00000002 ∷ 0x00000000 ∷ 0x00000002 ∷ 0x00000000
     ∷ 0x69000000 ∷ 0x00000002 ∷ 0x00000002 ∷ 0x00000000 ∷ 0x00000010 ∷ []))
     ∷ call Udp (hex (0x2F610000 ∷ 0x2C5B5B54 ∷ 0x5D000000 ∷ [])) 160 0 (refused 9 0) []
-    ∷ call Udp (hex (0x2F610000 ∷ 0x2C5B5B54 ∷ 0x5D000000 ∷ [])) 160 1 (packets 3 0)
+    ∷ call Udp (hex (0x2F610000 ∷ 0x2C5B5B54 ∷ 0x5D000000 ∷ [])) 160 1 (packets 3 0 0)
     (hex (0x2F000000 ∷ 0x00000003 ∷ 0x00000000 ∷ 0x00000002 ∷ 0x00000000
     ∷ 0x5B000000 ∷ 0x00000003 ∷ 0x00000000 ∷ 0x00000000 ∷ 0x0000000C
     ∷ 0x54000000 ∷ 0x00000003 ∷ 0x00000000 ∷ 0x00000000 ∷ 0x0000000C ∷ []))
     ∷ call Udp holding 160 1 (refused 9 0) []
-    ∷ call Udp holding 160 2 (packets 4 0)
+    ∷ call Udp holding 160 2 (packets 4 0 0)
     (hex (0x23000000 ∷ 0x00000004 ∷ 0x00000000 ∷ 0x00000001 ∷ 0x00000000
     ∷ 0x2F000000 ∷ 0x00000004 ∷ 0x00000014 ∷ 0x00000002 ∷ 0x00000014
     ∷ 0x5B000000 ∷ 0x00000004 ∷ 0x00000000 ∷ 0x00000000 ∷ 0x00000020
     ∷ 0x54000000 ∷ 0x00000004 ∷ 0x00000000 ∷ 0x00000000 ∷ 0x00000020 ∷ []))
+    -- dirty padding: of an address, of a type text, of a text and of a blob, which has 3 bytes of it; two of three may be zero
+    ∷ soils Udp (hex (0x2F6100AA ∷ 0x2C736254 ∷ 0x00AABBCC ∷ 0x610000AA ∷ 0x00000001 ∷ 0x61AABBCC ∷ [])) 0 8
+    (hex (0x2F000000 ∷ 0x00000004 ∷ 0x00000000 ∷ 0x00000002 ∷ 0x00000000
+    ∷ 0x73000000 ∷ 0x00000002 ∷ 0x0000000C ∷ 0x00000001 ∷ 0x0000000C
+    ∷ 0x62000000 ∷ 0x00000003 ∷ 0x00000014 ∷ 0x00000001 ∷ 0x00000010
+    ∷ 0x54000000 ∷ 0x00000004 ∷ 0x00000000 ∷ 0x00000000 ∷ 0x00000018 ∷ []))
+    -- a text that an unclosed array loses adds none; nor does an element that fails, here for its tag; nor what is left over
+    ∷ gives Udp (hex (0x2F610000 ∷ 0x2C735B00 ∷ 0x6100AABB ∷ [])) 0
+    (hex (0x2F000000 ∷ 0x00000001 ∷ 0x00000000 ∷ 0x00000002 ∷ 0x00000000 ∷ []))
+    ∷ gives Udp (hex (0x2362756E ∷ 0x646C6500 ∷ 0x00000000 ∷ 0x00000001 ∷ 0x00000008 ∷ 0x2F6100AA ∷ 0x2C7800BB ∷ [])) 12
+    (hex (0x23000000 ∷ 0x00000001 ∷ 0x00000000 ∷ 0x00000001 ∷ 0x00000000 ∷ []))
+    -- "#bundle" has padding where an element stands at an odd place
+    ∷ soils Udp (hex (0x2362756E ∷ 0x646C6500 ∷ 0x00000000 ∷ 0x00000001 ∷ 0x00000009 ∷ 0x2F610000 ∷ 0x2C000000 ∷ 0x55000000
+    ∷ 0x13236275 ∷ 0x6E646C65 ∷ 0x00AABBCC ∷ 0x00000000 ∷ 0x00000002 ∷ [])) 0 3
+    (hex (0x23000000 ∷ 0x00000003 ∷ 0x00000000 ∷ 0x00000001 ∷ 0x00000000
+    ∷ 0x2F000000 ∷ 0x00000002 ∷ 0x00000014 ∷ 0x00000002 ∷ 0x00000014
+    ∷ 0x23000000 ∷ 0x00000003 ∷ 0x00000000 ∷ 0x00000002 ∷ 0x00000021 ∷ []))
+    -- of a list the sum; a frame that waits adds none
+    ∷ soils TcpVec (hex (0x00000008 ∷ 0x2F6100AA ∷ 0x00AABBCC ∷ 0x00000008 ∷ 0x2F620000 ∷ 0x000000AA ∷ 0x00000009 ∷ 0x2F6300AA ∷ [])) 8 5
+    (hex (0x2F000000 ∷ 0x00000001 ∷ 0x00000004 ∷ 0x00000002 ∷ 0x00000004
+    ∷ 0x2F000000 ∷ 0x00000002 ∷ 0x00000010 ∷ 0x00000002 ∷ 0x00000010 ∷ []))
     -- a late frame's 2 comes before an early one's 9
     ∷ call TcpVec (hex (0x00000000 ∷ []) ++ (nested ++ hex (0x00000000 ∷ []))) 160 1 (refused 2 0) []
     ∷ []
@@ -211,8 +237,9 @@ misread =
 -- all of them hold
 pub traps : Each misread
 unfolding decoded size depth snoc number bytes classOf sortOf readText readArg readTags startOf sizeOf prefixOf readMessage bundleBy
-    packetBy elementBy elementsBy packetAt readPacket udp readFrame tcp framesAt readFrames tcpVec stored recordsOf recordOf
+    packetBy elementBy elementsBy packetAt readPacket udp readFrame tcp framesAt readFrames tcpVec stored recordsOf recordOf keptPadding
+    packetsPadding
 traps =
     ends and ends and ends and ends and ends and ends and ends and ends and ends and ends and ends and ends and ends and ends and ends
     and ends and ends and ends and ends and ends and ends and ends and ends and ends and ends and ends and ends and ends and ends and ends
-    and ends and ends and ends and ends and ends and ends and none
+    and ends and ends and ends and ends and ends and ends and ends and ends and ends and ends and ends and none

@@ -19,7 +19,11 @@ pub fn decode(framing: Framing, msg: &[u8], table: &mut [u8], depth: usize) -> D
 {
     let answer = answering::answer(framing, msg, record::capacity_of(table), depth);
     match answer {
-        Decoded::Packets { count, left: _ } => frames::write(framing, msg, table, count),
+        Decoded::Packets {
+            count,
+            left: _,
+            dirty: _,
+        } => frames::write(framing, msg, table, count),
         Decoded::Waiting => {}
         Decoded::Refused(_) => {}
     }

@@ -11,9 +11,9 @@ use Rattle.answering.specs.declared.Decoded.{Decoded}
 use Rattle.answering.specs.declared.Decoded.the-variants.{Packets}
 use Rattle.standards.specs.Trip.{SameTable, Playable}
 
--- what comes back: the same count with nothing left over, and the same table over the bytes that were written
+-- what comes back: the same count with nothing left over and no dirty padding, and the same table over the bytes that were written
 pub record CameBack (t : List ℕ) (count : ℕ) (source written : List ℕ) (r : Decoded) (back : List ℕ) : Type 0 where
-  pub answer : r ≡ Packets count 0
+  pub answer : r ≡ Packets count 0 0
   pub same : SameTable source t written back count
 
 -- for every table that demand 2 speaks of, with room in both buffers

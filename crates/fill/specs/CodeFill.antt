@@ -24,7 +24,17 @@ pub record Fills (o : Out) (p i : ℕ) (before : List ℕ) (answer : Reread) (af
   pub answered : answer ≡ reread p o
   pub table : after ≡ stored i (treeOf o) before
 
+-- the packet is not refused
+abbrev pub PacketAccepted : Out → Type 0
+PacketAccepted (fault k) = ⊥
+PacketAccepted (one item inside used) = Unit {0}
+
 -- what is known of a packet once it was measured: it is accepted, and gives so many records
 pub record Known (o : Out) (count : ℕ) : Type 0 where
   pub some : 1 ≤ count
   pub records : size (treeOf o) ≡ count
+
+-- an accepted packet was written to a table, from index i on, and has so many records
+pub record WritesAccepted (o : Out) (i : ℕ) (before : List ℕ) (count : ℕ) (after : List ℕ) : Type 0 where
+  pub known : Known o count
+  pub table : after ≡ stored i (treeOf o) before

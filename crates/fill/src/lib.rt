@@ -5,6 +5,7 @@ use node::record;
 use node::record::Item;
 use packet::Start;
 use text::Text;
+use wire::be_u32;
 ghost use mathlib.Core.Path.{_≡_};
 ghost use Prim.Native.Nat.{_+_, _≤_};
 ghost use lib.ListN.{length};
@@ -12,7 +13,7 @@ ghost use Rattle.wire.specs.Limits.{longest};
 ghost use Rattle.arguments.specs.Arguments.{readArgs};
 ghost use Rattle.packet.specs.Packet.{messageWith, readMessage, readPacket, readBundle, readElement};
 ghost use Rattle.node.specs.Records.{stored, TableRoom};
-ghost use Rattle.fill.specs.CodeFill.{treeOf, Fills, Known};
+ghost use Rattle.fill.specs.CodeFill.{treeOf, Fills, PacketAccepted, Known, WritesAccepted};
 
 // What the second reading of a packet answers.
 pub enum Reread {
@@ -20,6 +21,12 @@ pub enum Reread {
     Wrote { count: usize, next: usize },
     // The packet is refused.
     Nothing,
+}
+
+// What an element that is known to be accepted gives: so many records; `next` is the position after it.
+struct Element {
+    count: usize,
+    next: usize,
 }
 
 // A packet at `pos` of its frame, which stands at `base` of the call's input. Its first record has index `index`.
@@ -66,11 +73,12 @@ fn decode_message(
         Text::Found { length, used } => {
             let tags = heads::tags_in(&input[0..length]);
             let rest = &input[used..];
-            match arguments::measure_osc_args(tags, rest, pos + used) {
+            match arguments::count_osc_args(tags, rest, pos + used) {
                 Measured::Kept {
                     count,
                     depth: _,
                     used: data,
+                    dirty: _,
                 } => {
                     put_message(tags, rest, base, pos + used, item, table, index, 1 + count);
                     Reread::Wrote {
@@ -153,7 +161,7 @@ fn read_bundle_element(
     }
 }
 
-// A packet that was accepted, of `count` records: a message's arguments need not be measured again.
+// A packet that was accepted, of `count` records: nothing is judged again but what a bundle inside it contains, whose end is not known.
 //
 // Ruled out: a message's end one late; padding of a bundle counted from its word.
 pub fn write_packet(
@@ -169,14 +177,14 @@ pub fn write_packet(
     requires { ⌜ Known (readPacket base (now input) pos) count ⌝ }
     ensures { λ _. ⌜ now (table .exit) ≡ stored index (treeOf (readPacket base (now (input .entry)) pos)) (now (table .entry)) ⌝ }
 {
-    match packet::read_start(input, pos) {
+    match packet::find_start(input, pos) {
         Start::Message { length, used } => {
             let item = heads::message_item(base + pos, length);
             write_message(&input[used..], base, pos + used, item, table, index, count);
         }
         Start::Bundle { used } => {
             let word = base + pos;
-            decode_bundle(&input[used..], base, pos + used, word, table, index);
+            write_bundle(&input[used..], base, pos + used, word, table, index, count);
         }
         Start::Refused(_) => {}
     }
@@ -197,22 +205,107 @@ fn write_message(
     requires { ⌜ Known (readMessage base item (now input) pos) count ⌝ }
     ensures { λ _. ⌜ now (table .exit) ≡ stored index (treeOf (readMessage base item (now (input .entry)) pos)) (now (table .entry)) ⌝ }
 {
-    match text::read_osc_string(input, pos) {
-        Text::Found { length, used } => {
-            let tags = heads::tags_in(&input[0..length]);
-            put_message(
-                tags,
-                &input[used..],
-                base,
-                pos + used,
-                item,
-                table,
-                index,
-                count,
-            );
-        }
-        Text::Lacks(_) => {}
+    let types = text::find_osc_string(input, pos);
+    let length = types.length;
+    let used = types.used;
+    let tags = heads::tags_in(&input[0..length]);
+    let rest = &input[used..];
+    put_message(tags, rest, base, pos + used, item, table, index, count);
+}
+
+// What follows the "#bundle" at offset `start` of a bundle that was accepted, of `count` records. While there are fewer, the next element
+// is accepted: one that is refused would be the bundle's end.
+fn write_bundle(
+    input: &[u8],
+    base: usize,
+    pos: usize,
+    start: usize,
+    table: &mut [u8],
+    index: usize,
+    count: usize,
+)
+    requires { ⌜ base + pos + length (now input) ≤ longest ⌝ }
+    requires { ⌜ TableRoom (treeOf (readBundle base start (now input) pos)) index (now table) ⌝ }
+    requires { ⌜ Known (readBundle base start (now input) pos) count ⌝ }
+    requires { ⌜ start ≤ longest ⌝ }
+    ensures { λ _. ⌜ now (table .exit) ≡ stored index (treeOf (readBundle base start (now (input .entry)) pos)) (now (table .entry)) ⌝ }
+{
+    let mut rest = &input[8..];
+    let mut at = pos + 8;
+    let mut written = 1;
+    while written < count {
+        let later = &mut table[record::RECORD_SIZE * written..];
+        let element = write_element(rest, base, at, later, index + written);
+        let next = element.next;
+        written += element.count;
+        rest = &rest[next - at..];
+        at = next;
     }
+    record::put_record(
+        table,
+        heads::bundle_item(start, input),
+        (index + count) as u32,
+    );
+}
+
+// An element that is known to be accepted: its size is not compared with what is left.
+fn write_element(input: &[u8], base: usize, pos: usize, table: &mut [u8], index: usize) -> Element
+    requires { ⌜ base + pos + length (now input) ≤ longest ⌝ }
+    requires { ⌜ TableRoom (treeOf (readElement base (now input) pos)) index (now table) ⌝ }
+    requires { ⌜ PacketAccepted (readElement base (now input) pos) ⌝ }
+    ensures { λ r. ⌜ Fills (readElement base (now (input .entry)) pos) (pos + 4) index (now (table .entry))
+        (Reread.Wrote (r .count) (r .next)) (now (table .exit)) ⌝ }
+{
+    let size = be_u32(input, 0) as usize;
+    let count = write_held(&input[4..4 + size], base, pos + 4, table, index);
+    let next = pos + 4 + size;
+    Element { count, next }
+}
+
+// The packet that such an element holds; answers how many records it has.
+fn write_held(input: &[u8], base: usize, pos: usize, table: &mut [u8], index: usize) -> usize
+    requires { ⌜ base + pos + length (now input) ≤ longest ⌝ }
+    requires { ⌜ TableRoom (treeOf (readPacket base (now input) pos)) index (now table) ⌝ }
+    requires { ⌜ PacketAccepted (readPacket base (now input) pos) ⌝ }
+    ensures { λ r. ⌜ WritesAccepted (readPacket base (now (input .entry)) pos) index (now (table .entry)) r (now (table .exit)) ⌝ }
+{
+    match packet::find_start(input, pos) {
+        Start::Message { length, used } => {
+            let item = heads::message_item(base + pos, length);
+            write_held_message(&input[used..], base, pos + used, item, table, index)
+        }
+        Start::Bundle { used } => {
+            match decode_bundle(&input[used..], base, pos + used, base + pos, table, index) {
+                Reread::Wrote { count, next: _ } => count,
+                Reread::Nothing => 0,
+            }
+        }
+        Start::Refused(_) => 0,
+    }
+}
+
+// What follows the address of a message that such an element holds: its tags tell how many records it has.
+fn write_held_message(
+    input: &[u8],
+    base: usize,
+    pos: usize,
+    item: Item,
+    table: &mut [u8],
+    index: usize,
+) -> usize
+    requires { ⌜ base + pos + length (now input) ≤ longest ⌝ }
+    requires { ⌜ TableRoom (treeOf (readMessage base item (now input) pos)) index (now table) ⌝ }
+    requires { ⌜ PacketAccepted (readMessage base item (now input) pos) ⌝ }
+    ensures { λ r. ⌜ WritesAccepted (readMessage base item (now (input .entry)) pos) index (now (table .entry)) r (now (table .exit)) ⌝ }
+{
+    let types = text::find_osc_string(input, pos);
+    let length = types.length;
+    let used = types.used;
+    let tags = heads::tags_in(&input[0..length]);
+    let rest = &input[used..];
+    let count = 1 + arguments::count_accepted(tags);
+    put_message(tags, rest, base, pos + used, item, table, index, count);
+    count
 }
 
 // The records of a message that is accepted, `count` in all: its own, and after it those of its arguments.

@@ -42,14 +42,14 @@ pub record AreTrees (t : List ℕ) (count : ℕ) (source : List ℕ) (f : Forest
 -- every answer with packets, one or a list of any length, leaves such records over the call's input
 abbrev pub GivesTrees : (List ℕ → Whole) → Type 0
 GivesTrees rule =
-    (msg : List ℕ) → Bytes msg → (limit : ℕ) (table : List ℕ) (count left : ℕ)
-    → answerTo rule limit msg table ≡ Packets count left
+    (msg : List ℕ) → Bytes msg → (limit : ℕ) (table : List ℕ) (count left dirty : ℕ)
+    → answerTo rule limit msg table ≡ Packets count left dirty
     → AreTrees (tableAfter rule limit msg table) count msg (forestOf (rule msg))
 
 -- ---- what is decoded can be encoded: a table answered for one packet is well formed over the call's input
 abbrev pub Encodable : (List ℕ → Whole) → Type 0
 Encodable rule =
-    (msg : List ℕ) → Bytes msg → (limit : ℕ) (table : List ℕ) (item : Item) (inside : Forest) (left count : ℕ)
+    (msg : List ℕ) → Bytes msg → (limit : ℕ) (table : List ℕ) (item : Item) (inside : Forest) (left count dirty : ℕ)
     → rule msg ≡ trees (node item inside nil) left
-    → answerTo rule limit msg table ≡ Packets count left
+    → answerTo rule limit msg table ≡ Packets count left dirty
     → WellFormed (tableAfter rule limit msg table) count msg

@@ -26,5 +26,6 @@ pub record StartsHold (t : List ℕ) (count n : ℕ) : Type 0 where
 -- so are those of every answer with packets, one or a list of any length: "the inspector highlights bytes"
 abbrev pub GivesStarts : (List ℕ → Whole) → Type 0
 GivesStarts rule =
-    (msg : List ℕ) → Bytes msg → (limit : ℕ) (table : List ℕ) (count left : ℕ) → answerTo rule limit msg table ≡ Packets count left
+    (msg : List ℕ) → Bytes msg → (limit : ℕ) (table : List ℕ) (count left dirty : ℕ)
+    → answerTo rule limit msg table ≡ Packets count left dirty
     → StartsHold (tableAfter rule limit msg table) count (length msg)

@@ -77,6 +77,10 @@ module _ {n : ℕ} (t : List ℕ) (h : length t ≡ 0 → ⊥) (e : n ≡ leadOf
   pub first-in : utf8 t ≡ true → n ≤ length t
   first-in u = let w : leadOf (getD t 0 0) ≤ length t = lead-within t u (omega arith) in rw e w
 
+-- a comma is a character of one byte
+pub comma-leads : (t : List ℕ) → getD t 0 0 ≡ 44 → 1 ≡ leadOf (getD t 0 0)
+comma-leads t e = ap leadOf (sym e)
+
 -- what follows the first character is the tags
 pub first-skipped : {n : ℕ} (t : List ℕ) → (length t ≡ 0 → ⊥) → n ≡ leadOf (getD t 0 0) → take (length t - n) (drop n t) ≡ tagsIn t
 first-skipped [] h e = absurd (h refl)

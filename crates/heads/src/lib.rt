@@ -29,7 +29,7 @@ pub enum Prefix {
     RunsOut,
 }
 
-// The tags of a type text: its first character is skipped, whatever it is.
+// The tags of a type text: its first character is skipped, whatever it is. It is almost always a comma, so that is asked first.
 //
 // Ruled out: a type text without a comma rejected; only a byte of a longer first character skipped.
 pub fn tags_in(types: &[u8]) -> &[u8]
@@ -38,6 +38,9 @@ pub fn tags_in(types: &[u8]) -> &[u8]
 {
     if types.len() == 0 {
         return types;
+    }
+    if types[0] == b',' {
+        return &types[1..];
     }
     let skipped = utf8::lead(types[0]);
     &types[skipped..]

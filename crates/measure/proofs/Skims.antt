@@ -9,7 +9,7 @@ use lib.ListN.{length, take, drop, length-drop}
 use Rattle.refusal.specs.declared.Fault.{Fault}
 use Rattle.wire.proofs.Choices.{by-test}
 use Rattle.wire.proofs.Parts.{tail}
-use Rattle.node.specs.Forest.{level, depth}
+use Rattle.node.specs.Forest.{Forest, level, depth}
 use Rattle.node.specs.declared.record.Item.{Item}
 use Rattle.heads.specs.Heads.{sizeOf, messageItem}
 use Rattle.packet.specs.FirstText.{startOf}
@@ -29,14 +29,14 @@ use Rattle.packet.proofs.Bundles.{bundle-short, bundle-long, ended, first-used,
 
 -- what the first reading accepts
 abbrev pub isTree : Extent → Bool
-isTree (Tree count next) = true
+isTree (Tree count next dirty) = true
 isTree (Deep next) = true
 isTree (Refused k) = false
 
-extent-tree : (room p : ℕ) (o : Out) → isTree (extent room p o) ≡ accepted o
+extent-tree : (room p : ℕ) (dirt : Item → Forest → ℕ) (o : Out) → isTree (extent room p dirt o) ≡ accepted o
 unfolding extent
-extent-tree room p (fault k) = refl
-extent-tree room p (one item f u) =
+extent-tree room p dirt (fault k) = refl
+extent-tree room p dirt (one item f u) =
     by-test (λ (x : Extent). isTree x ≡ true) (leb (level (item .kind) (depth f)) room) (λ _. refl) (λ _. refl)
 
 after-accepted : (n : ℕ) (o : Out) → accepted o ≡ accepted (after n o)
@@ -48,12 +48,13 @@ with-accepted item (upto f u) = refl
 
 module _ (base : ℕ) (l : List ℕ) (p : ℕ) where
   -- a message is accepted where its first reading is a tree
-  pub is-message : {n used : ℕ} {r : Extent} (rest : List ℕ) → start.Message n used ≡ startOf l p → rest ≡ drop used l
-      → r ≡ extent 0 (p + used) (readMessage base (messageItem (base + p) n) rest (p + used)) → isTree r ≡ accepted (readPacket base l p)
-  is-message {n} {used} {r} rest e s g =
+  pub is-message : {n used : ℕ} {r : Extent} (dirt : Item → Forest → ℕ) (rest : List ℕ) → start.Message n used ≡ startOf l p
+      → rest ≡ drop used l → r ≡ extent 0 (p + used) dirt (readMessage base (messageItem (base + p) n) rest (p + used))
+      → isTree r ≡ accepted (readPacket base l p)
+  is-message {n} {used} {r} dirt rest e s g =
       let o = readMessage base (messageItem (base + p) n) (drop used l) (p + used) in
-      let is : r ≡ extent 0 (p + used) o = rw s at g in
-      ap isTree is ∙ extent-tree 0 (p + used) o ∙ after-accepted used o ∙ ap accepted (sym (starts-message base l p e))
+      let is : r ≡ extent 0 (p + used) dirt o = rw s at g in
+      ap isTree is ∙ extent-tree 0 (p + used) dirt o ∙ after-accepted used o ∙ ap accepted (sym (starts-message base l p e))
 
   module _ {used : ℕ} (e : start.Bundle used ≡ startOf l p) where
     -- a bundle is accepted where its time tag is there

@@ -1,29 +1,27 @@
 -- A record as it is written and as it is read, and how many bytes the records of a forest take.
 use mathlib.Core.Path.{_≡_, refl}
 use mathlib.Core.List.{List, [], _∷_, _++_, append-assoc}
-use Prim.Native.Nat.{ℕ, _+_, _-_, _*_, _%_, _^_, _<_, _≤_}
+use Prim.Native.Nat.{ℕ, _+_, _-_, _*_, _/_, _%_, _^_, _<_, _≤_}
 use native.Mathlib.Omega.{arith}
-use lib.ListN.{length, getD, set, drop, length-append}
+use lib.ListN.{length, getD, drop, length-append}
 use borrow.Rule.Slice.PartMut.{midOf, putMid}
 use Rattle.wire.specs.Number.{number, bytes}
 use Rattle.wire.specs.Wrote.{Wrote}
 use Rattle.node.specs.Records.{recordSize, recordOf, recordsOf, kindAt, zerosAt, aAt, bAt, startAt, recordStart, itemAt}
 use Rattle.node.specs.declared.record.Item.{Item}
 use Rattle.node.specs.Forest.{Forest, nil, node, size}
-use Rattle.wire.proofs.Numbers.{length-bytes, number-parts, number-small}
+use Rattle.wire.proofs.Numbers.{length-bytes, four-bytes, number-parts, number-small}
 use Rattle.wire.proofs.Parts.{drop-small}
-use Rattle.wire.proofs.Writers.{wrote-none, wrote-set, wrote-lent}
+use Rattle.wire.proofs.Writers.{wrote-lent}
 
--- a kind and three zeros, byte by byte
-pub kind-written : (o : List ℕ) (kind : ℕ) → 4 ≤ length o → Wrote (kind ∷ 0 ∷ 0 ∷ 0 ∷ []) o (set (set (set (set o 0 kind) 1 0) 2 0) 3 0)
-kind-written o kind h =
-    wrote-set (kind ∷ 0 ∷ 0 ∷ []) o _
-    (wrote-set (kind ∷ 0 ∷ []) o _
-    (wrote-set (kind ∷ []) o _
-    (wrote-set [] o o (wrote-none o) 0 kind refl (omega arith))
-    1 0 refl (omega arith))
-    2 0 refl (omega arith))
-    3 0 refl (omega arith)
+-- a kind and three zeros are the bytes of one number
+pub kind-bytes : (kind : ℕ) → kind < 256 → bytes 4 (kind * 0x100_0000) ≡ kind ∷ 0 ∷ 0 ∷ 0 ∷ []
+kind-bytes kind h =
+    let a : kind * 0x100_0000 / 0x100_0000 % 256 ≡ kind = omega arith in
+    let b : kind * 0x100_0000 / 0x1_0000 % 256 ≡ 0 = omega arith in
+    let c : kind * 0x100_0000 / 0x100 % 256 ≡ 0 = omega arith in
+    let d : kind * 0x100_0000 % 256 ≡ 0 = omega arith in
+    rw (four-bytes, a, b, c, d)
 
 -- a record is as long as every record
 pub length-record : (item : Item) (end : ℕ) → length (recordOf item end) ≡ recordSize

@@ -39,15 +39,12 @@ pub fn capacity_of(table: &[u8]) -> usize
     table.len() / RECORD_SIZE
 }
 
-// Writes a kind and the three zero bytes.
+// Writes a kind and the three zero bytes: the bytes of one number.
 fn put_kind(table: &mut [u8], kind: u8)
     requires { ⌜ 4 ≤ length (now table) ⌝ }
     ensures { λ _. ⌜ Wrote (kind ∷ 0 ∷ 0 ∷ 0 ∷ []) (now (table .entry)) (now (table .exit)) ⌝ }
 {
-    table[0] = kind;
-    table[1] = 0;
-    table[2] = 0;
-    table[3] = 0;
+    put_u32(table, kind as u32 * 0x100_0000);
 }
 
 // Writes a record over the first bytes of `table`.

@@ -77,11 +77,11 @@ module _ (framing : Framing) (msg table : List ℕ) (limit : ℕ) where
   fault-ends UnknownTag h = told-refusal 7 refl refl (alone 7) refl
   fault-ends NotScalar h = told-refusal 8 refl refl (alone 8) refl
 
-  limited-ends : (w : Whole) → Decoding (limited (capacity table) limit w)
+  limited-ends : (w : Whole) → Decoding (limited (capacity table) limit msg w)
   limited-ends (trees f left) =
-      by-trees Decoding (capacity table) limit f left (λ _ h. told-refusal 9 refl refl (alone 9) refl)
+      by-trees Decoding (capacity table) limit msg f left (λ _ h. told-refusal 9 refl refl (alone 9) refl)
       (λ _ h. told-refusal 10 refl refl (alone 10) refl)
-      (λ _ _ h. told-answer (omega arith) refl)
+      (λ _ _ h. told-answer (omega arith) (omega arith))
   limited-ends waiting = λ h. told-answer (omega arith) refl
   limited-ends (refusal k) = fault-ends k
 

@@ -16,6 +16,7 @@ use Rattle.node.specs.Tags.{classOf, sortOf}
 use Rattle.values.specs.Value.{bareOf, narrowOf, valueBy}
 use Rattle.values.specs.Look.{lookAt, startedAt}
 use Rattle.text.specs.Text.{readText}
+use Rattle.argument.specs.Dirt.{keptPadding, packetsPadding}
 use Rattle.argument.specs.Argument.{readArg}
 use Rattle.arguments.specs.Arguments.{readTags}
 use Rattle.packet.specs.Packet.{readMessage, bundleBy, elementBy, elementsBy, packetBy, packetAt, readPacket}
@@ -47,12 +48,12 @@ nines n = replicate n 9
 
 -- P1: refusal 2, and any table is as it was
 p1 : (table : List ℕ) → CMeets (osc-decode Udp [] table 64) 0x200_0000_0000_0000 0 table
-unfolding packetAt readPacket udp decoded
+unfolding packetAt readPacket udp decoded keptPadding packetsPadding
 p1 table = record { answer = _; decodes = decodes-met; number = refl; beside = refl }
 
 -- P2: the type text at 4 is short, which is 18 at 4, and any table is as it was
 p2 : (table : List ℕ) → CMeets (osc-decode Udp (0x2F ∷ 0 ∷ 0 ∷ 0 ∷ []) table 64) 0x1200_0000_0000_0000 0x4_0000_0000 table
-unfolding readText startOf readMessage packetBy packetAt readPacket udp decoded
+unfolding readText startOf readMessage packetBy packetAt readPacket udp decoded keptPadding packetsPadding
 p2 table = record { answer = _; decodes = decodes-met; number = refl; beside = refl }
 
 -- P14's bytes, a frame that is not all there
@@ -61,26 +62,26 @@ unready = 0 ∷ 0 ∷ 0 ∷ 9 ∷ 0x2F ∷ 0x61 ∷ 0 ∷ 0 ∷ []
 
 -- `osc_decode_tcp` waits: 8, and any table is as it was
 p14 : (table : List ℕ) → CMeets (osc-decode Tcp unready table 64) 8 0 table
-unfolding number prefixOf readFrame tcp decoded
+unfolding number prefixOf readFrame tcp decoded keptPadding packetsPadding
 p14 table = record { answer = _; decodes = decodes-met; number = refl; beside = refl }
 
 -- `osc_decode_tcp_vec` tells 8 too, which are no packets there
 no-packets : (CMeets (osc-decode TcpVec unready (nines 17) 64) 8 0 (nines 17))
-    × (decoded tcpVec (capacity (nines 17)) 64 unready ≡ decodes.Packets 0 8)
-unfolding size depth number prefixOf readFrame tcpVec readFrames framesAt decoded stored recordsOf
+    × (decoded tcpVec (capacity (nines 17)) 64 unready ≡ decodes.Packets 0 8 0)
+unfolding size depth number prefixOf readFrame tcpVec readFrames framesAt decoded stored recordsOf keptPadding packetsPadding
 no-packets = (record { answer = _; decodes = decodes-met; number = refl; beside = refl }, refl)
 
 -- a message of one record, after a length that cuts nothing
 message : CMeets (osc-decode Tcp (0 ∷ 0 ∷ 0 ∷ 0 ∷ 0x2F ∷ 0x61 ∷ 0 ∷ 0 ∷ 0 ∷ 0 ∷ 0 ∷ 0 ∷ []) (nines 21) 64) 0x1_0000_0000 0
     (0x2F ∷ 0 ∷ 0 ∷ 0 ∷ 0 ∷ 0 ∷ 0 ∷ 1 ∷ 0 ∷ 0 ∷ 0 ∷ 4 ∷ 0 ∷ 0 ∷ 0 ∷ 2 ∷ 0 ∷ 0 ∷ 0 ∷ 4 ∷ 9 ∷ [])
 unfolding size depth number bytes readText readTags startOf prefixOf readMessage packetBy packetAt readPacket readFrame tcp decoded
-    stored recordsOf recordOf
+    stored recordsOf recordOf keptPadding packetsPadding
 message = record { answer = _; decodes = decodes-met; number = refl; beside = refl }
 
 -- a bundle in a bundle: seven records, and nothing left
 nested : CMeets (osc-decode Udp p3.nested (nines 141) 2) 0x7_0000_0000 0 (p3.nested-table ++ (9 ∷ []))
 unfolding size depth snoc number bytes classOf sortOf readText readArg readTags startOf sizeOf readMessage bundleBy elementBy elementsBy
-    packetBy packetAt readPacket udp decoded stored recordsOf recordOf p3.nested-table
+    packetBy packetAt readPacket udp decoded stored recordsOf recordOf p3.nested-table keptPadding packetsPadding
 nested = record { answer = _; decodes = decodes-met; number = refl; beside = refl }
 
 -- the hypotheses of `ends-listed` and of `refusals-apart`: `osc_pad` tells no answer as it tells 14
@@ -99,10 +100,12 @@ once = decoded-once Tcp unready unready [] (nines 17) 64 64 8 0 [] (nines 17) re
 
 -- the hypotheses of `decoded-alone`: 2 is told of no other answer
 alone : p1 [] .answer ≡ p1 (nines 17) .answer
-alone = decoded-alone Udp [] [] [] (nines 17) 64 64 0x200_0000_0000_0000 0 0 [] (nines 17) refl (omega arith) (p1 []) (p1 (nines 17))
+alone =
+    decoded-alone Udp [] [] [] (nines 17) 64 64 0x200_0000_0000_0000 0 0 [] (nines 17) refl (omega arith) (omega arith) (p1 [])
+    (p1 (nines 17))
 
-apart : Parts 12 (decodes.Packets 2 4) 0x2_0000_0004 0
-apart = let f : Fits 12 (decodes.Packets 2 4) = (omega arith, omega arith) in decoded-apart 12 (decodes.Packets 2 4) f
+apart : Parts 12 (decodes.Packets 2 4 3) 0x2_0000_0004 3
+apart = let f : Fits 12 (decodes.Packets 2 4 3) = (omega arith, omega arith, omega arith) in decoded-apart 12 (decodes.Packets 2 4 3) f
 
 -- ---- encoders
 

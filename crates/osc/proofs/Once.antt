@@ -1,6 +1,6 @@
--- A number that is told tells one answer, with the offset beside it where a field was short. `decode_udp` and `decode_tcp` give no answer
--- of 0 records and `decode_tcp` alone waits, so that count 0 with the whole input left is Waiting there, and no packets where
--- `decode_tcp_vec` tells it.
+-- A number that is told tells one answer, with what is told beside it: dirty padding, and the offset of a field that was short.
+-- `decode_udp` and `decode_tcp` give no answer of 0 records and `decode_tcp` alone waits, so that count 0 with the whole input left is
+-- Waiting there, and no packets where `decode_tcp_vec` tells it.
 use mathlib.Core.Path.{_≡_, refl, ap, ap₂, sym, subst, _∙_}
 use mathlib.Core.List.{List}
 use Prim.Native.Nat.{ℕ, zero, suc, _+_, _≤_}
@@ -33,7 +33,7 @@ use Rattle.answering.specs.declared.Decoded.the-variants as decodes
 use Rattle.decoder.proofs.Chosen.{by-decoded, by-trees}
 use Rattle.encoder.specs.declared.Encoded.{Encoded}
 use Rattle.encoder.specs.declared.Encoded.the-variants as encodes
-use Rattle.osc.specs.Answers.{decodedNumber, moreNumber, TellsDecoded, paddedNumber, refusalIn, countIn, offsetIn, Parts}
+use Rattle.osc.specs.Answers.{decodedNumber, moreNumber, TellsDecoded, paddedNumber, refusalIn, countIn, lowIn, offsetIn, Parts}
 use Rattle.osc.specs.Answers.{EncodedParts}
 use Rattle.osc.specs.Boundary.{fewest, Waits, Answerable, ToldOnce, ToldAlone}
 use Rattle.osc.proofs.Apart.{decoded-apart}
@@ -82,18 +82,19 @@ shaped Udp msg = single-shaped Udp (omega arith) (length msg) (readPacket 0 msg 
 shaped Tcp msg = first-shaped (length msg) (readFrame 0 msg)
 shaped TcpVec msg = frames-shaped (suc (length msg)) 0 msg
 
-limited-answerable : (framing : Framing) (capacity limit : ℕ) (w : Whole) → Shaped framing w → Answerable framing (limited capacity limit w)
-limited-answerable framing capacity limit (trees f left) h =
-    by-trees (Answerable framing) capacity limit f left (λ _. tt) (λ _. tt) (λ _ _. h)
-limited-answerable framing capacity limit waiting h = h
-limited-answerable framing capacity limit (refusal k) h = tt
+limited-answerable : (framing : Framing) (capacity limit : ℕ) (msg : List ℕ) (w : Whole) → Shaped framing w
+    → Answerable framing (limited capacity limit msg w)
+limited-answerable framing capacity limit msg (trees f left) h =
+    by-trees (Answerable framing) capacity limit msg f left (λ _. tt) (λ _. tt) (λ _ _. h)
+limited-answerable framing capacity limit msg waiting h = h
+limited-answerable framing capacity limit msg (refusal k) h = tt
 
 -- `decode_udp` and `decode_tcp` answer no 0 records, and `decode_tcp` alone answers Waiting
 pub answerable : (framing : Framing) (capacity limit : ℕ) (msg : List ℕ)
     → Answerable framing (decoded (ruleOf framing) capacity limit msg)
 answerable framing capacity limit msg =
     by-decoded (Answerable framing) (ruleOf framing) capacity limit msg (λ _. tt) (λ _. tt)
-    (λ _ _. limited-answerable framing capacity limit (ruleOf framing msg) (shaped framing msg))
+    (λ _ _. limited-answerable framing capacity limit msg (ruleOf framing msg) (shaped framing msg))
 
 -- ---- the answer that a number tells
 
@@ -135,20 +136,27 @@ abbrev Telling : ℕ → ℕ → ℕ → Type 0
 Telling x m m′ =
     (r s : Refusal) → refusalIn x ≡ numberOf r → refusalIn x ≡ numberOf s → offsetIn m ≡ offsetOf r → offsetIn m′ ≡ offsetOf s → r ≡ s
 
+-- and what is told beside two answers of packets tells that they are as dirty
+abbrev Dirty : ℕ → ℕ → ℕ → Type 0
+Dirty x m m′ = refusalIn x ≡ 0 → lowIn m ≡ lowIn m′
+
 -- two answers of a decoder to n bytes that have the parts of one number
-parts-once : (framing : Framing) (n x m m′ : ℕ) (d e : Decoded) → Telling x m m′ → Answerable framing d → Answerable framing e
-    → Parts n d x m → Parts n e x m′ → d ≡ e
-parts-once framing n x m m′ (decodes.Packets c l) (decodes.Packets c′ l′) k a b p q =
-    ap₂ (λ (i j : ℕ). decodes.Packets i j) (omega arith) (omega arith)
-parts-once framing n x m m′ (decodes.Packets c l) decodes.Waiting k a b p q = absurd (omega (arith, waits-some framing b))
-parts-once framing n x m m′ (decodes.Packets c l) (decodes.Refused r) k a b p q = absurd (omega (arith, number-some r))
-parts-once framing n x m m′ decodes.Waiting (decodes.Packets c l) k a b p q = absurd (omega (arith, waits-some framing a))
-parts-once framing n x m m′ decodes.Waiting decodes.Waiting k a b p q = refl
-parts-once framing n x m m′ decodes.Waiting (decodes.Refused r) k a b p q = absurd (omega (arith, number-some r))
-parts-once framing n x m m′ (decodes.Refused r) (decodes.Packets c l) k a b p q = absurd (omega (arith, number-some r))
-parts-once framing n x m m′ (decodes.Refused r) decodes.Waiting k a b p q = absurd (omega (arith, number-some r))
-parts-once framing n x m m′ (decodes.Refused r) (decodes.Refused s) k a b p q =
-    ap (λ (i : Refusal). decodes.Refused i) (k r s (p .0) (q .0) (p .3) (q .3))
+parts-once : (framing : Framing) (n x m m′ : ℕ) (d e : Decoded) → Telling x m m′ → Dirty x m m′ → Answerable framing d
+    → Answerable framing e → Parts n d x m → Parts n e x m′ → d ≡ e
+parts-once framing n x m m′ (decodes.Packets c l y) (decodes.Packets c′ l′ y′) k s a b p q =
+    let ec : c ≡ c′ = omega arith in
+    let el : l ≡ l′ = omega arith in
+    let ey : y ≡ y′ = omega (arith, s (p .0)) in
+    rw (ec, el, ey)
+parts-once framing n x m m′ (decodes.Packets c l y) decodes.Waiting k s a b p q = absurd (omega (arith, waits-some framing b))
+parts-once framing n x m m′ (decodes.Packets c l y) (decodes.Refused r) k s a b p q = absurd (omega (arith, number-some r))
+parts-once framing n x m m′ decodes.Waiting (decodes.Packets c l y) k s a b p q = absurd (omega (arith, waits-some framing a))
+parts-once framing n x m m′ decodes.Waiting decodes.Waiting k s a b p q = refl
+parts-once framing n x m m′ decodes.Waiting (decodes.Refused r) k s a b p q = absurd (omega (arith, number-some r))
+parts-once framing n x m m′ (decodes.Refused r) (decodes.Packets c l y) k s a b p q = absurd (omega (arith, number-some r))
+parts-once framing n x m m′ (decodes.Refused r) decodes.Waiting k s a b p q = absurd (omega (arith, number-some r))
+parts-once framing n x m m′ (decodes.Refused r) (decodes.Refused r′) k s a b p q =
+    ap (λ (i : Refusal). decodes.Refused i) (k r r′ (p .0) (q .0) (p .3) (q .3))
 
 -- what a decoder tells: the answer may be given, and has the parts of the number and the offset beside it
 told-parts : (framing : Framing) (msg table : List ℕ) (limit told more : ℕ) (after : List ℕ)
@@ -162,28 +170,28 @@ told-parts framing msg table limit told more after t =
           (decoded-apart (length msg) (t .answer) (fits (capacity table) limit framing msg e))),
     )
 
--- two answers by one number, where that and the offsets tell refusals apart
+-- two answers by one number, where that and what is told beside it tell refusals and dirt apart
 decoded-one : (framing : Framing) (msg msg′ table table′ : List ℕ) (limit limit′ told more more′ : ℕ) (after after′ : List ℕ)
-    → length msg ≡ length msg′ → Telling told more more′
+    → length msg ≡ length msg′ → Telling told more more′ → Dirty told more more′
     → (t : TellsDecoded (ruleOf framing) msg table limit told more after)
     → (u : TellsDecoded (ruleOf framing) msg′ table′ limit′ told more′ after′) → t .answer ≡ u .answer
-decoded-one framing msg msg′ table table′ limit limit′ told more more′ after after′ e k t u =
+decoded-one framing msg msg′ table table′ limit limit′ told more more′ after after′ e k s t u =
     let x = told-parts framing msg table limit told more after t in
     let y = told-parts framing msg′ table′ limit′ told more′ after′ u in
-    parts-once framing (length msg) told more more′ _ _ k (x .0) (y .0) (x .1)
+    parts-once framing (length msg) told more more′ _ _ k s (x .0) (y .0) (x .1)
     (subst (λ (n : ℕ). Parts n (u .answer) told more′) (sym e) (y .1))
 
--- a decoder does not tell two answers to as many bytes by one number and one offset beside it
+-- a decoder does not tell two answers to as many bytes by one number and what is told beside it
 pub decoded-once : ToldOnce
 decoded-once framing msg msg′ table table′ limit limit′ told more after after′ e t u =
     decoded-one framing msg msg′ table table′ limit limit′ told more more after after′ e
-    (λ r s p q o o′. number-tells r s (sym p ∙ q) (sym o ∙ o′)) t u
+    (λ r s p q o o′. number-tells r s (sym p ∙ q) (sym o ∙ o′)) (λ _. refl) t u
 
--- nor by one number alone, but where it is a refusal from 17 on
+-- nor two refusals by one number alone, but from 17 on
 pub decoded-alone : ToldAlone
-decoded-alone framing msg msg′ table table′ limit limit′ told more more′ after after′ e h t u =
+decoded-alone framing msg msg′ table table′ limit limit′ told more more′ after after′ e some h t u =
     decoded-one framing msg msg′ table table′ limit limit′ told more more′ after after′ e
-    (λ r s p q o o′. number-alone r s (sym p ∙ q) (subst (λ (n : ℕ). n ≤ 16) p h)) t u
+    (λ r s p q o o′. number-alone r s (sym p ∙ q) (subst (λ (n : ℕ). n ≤ 16) p h)) (λ z. absurd (omega arith)) t u
 
 -- what it is that `osc_decode_tcp` answered Waiting: the whole input is left, nothing is told beside it, and the table is as it was
 pub record WaitingTold (msg table : List ℕ) (limit told more : ℕ) (after : List ℕ) : Type 0 where
@@ -193,7 +201,7 @@ pub record WaitingTold (msg table : List ℕ) (limit told more : ℕ) (after : L
   pub left : after ≡ table
 
 none-waits : (n x m : ℕ) (d : Decoded) → Answerable Tcp d → Parts n d x m → refusalIn x ≡ 0 → countIn x ≡ 0 → d ≡ decodes.Waiting
-none-waits n x m (decodes.Packets c l) a p h k = absurd (omega arith)
+none-waits n x m (decodes.Packets c l y) a p h k = absurd (omega arith)
 none-waits n x m decodes.Waiting a p h k = refl
 none-waits n x m (decodes.Refused r) a p h k = absurd (omega (arith, number-some r))
 

@@ -32,19 +32,20 @@ refusalNumber r = numberOf r * 0x100_0000_0000_0000
 
 -- a decoder's answer to n bytes: the count in bits 32 to 55, the bytes left in bits 0 to 31; Waiting is count 0 with the whole input left
 abbrev pub decodedNumber : ℕ → Decoded → ℕ
-decodedNumber n (decodes.Packets count left) = count * 0x1_0000_0000 + left
+decodedNumber n (decodes.Packets count left dirty) = count * 0x1_0000_0000 + left
 decodedNumber n decodes.Waiting = n
 decodedNumber n (decodes.Refused r) = refusalNumber r
 
--- what is told beside it: the offset of a field that was short (Ticket 2) in bits 32 to 47, and 0 beside every other answer
+-- what is told beside it: dirty padding (Ticket 8) in bits 0 to 31, the offset of a field that was short (Ticket 2) in bits 32 to 47, and 0
+-- where there is neither
 abbrev pub moreNumber : Decoded → ℕ
-moreNumber (decodes.Packets count left) = 0
+moreNumber (decodes.Packets count left dirty) = dirty
 moreNumber decodes.Waiting = 0
 moreNumber (decodes.Refused r) = offsetOf r * 0x1_0000_0000
 
 -- what an answer to n bytes holds has room in those bits
 abbrev pub Fits : ℕ → Decoded → Type 0
-Fits n (decodes.Packets count left) = (count ≤ longest) × (left ≤ longest)
+Fits n (decodes.Packets count left dirty) = (count ≤ longest) × (left ≤ longest) × (dirty ≤ 6 * longest)
 Fits n decodes.Waiting = n ≤ longest
 Fits n (decodes.Refused r) = offsetOf r ≤ longest
 
@@ -131,11 +132,17 @@ lowIn x = x % 0x1_0000_0000
 abbrev pub offsetIn : ℕ → ℕ
 offsetIn more = more / 0x1_0000_0000 % 0x1_0000
 
--- what the parts of a decoder's number, and of what is told beside it, say of its answer to n bytes
+-- what a decoder's number and what is told beside it are taken apart into: refusal, count, bytes left; offset, and dirty padding, which
+-- `osc_dirty` takes from bits 0 to 31
+abbrev pub HasParts : ℕ → ℕ → (number count left offset dirty : ℕ) → Type 0
+HasParts x more number count left offset dirty =
+    (refusalIn x ≡ number) × (countIn x ≡ count) × (lowIn x ≡ left) × (offsetIn more ≡ offset) × (lowIn more ≡ dirty)
+
+-- what these parts say of its answer to n bytes
 abbrev pub Parts : ℕ → Decoded → ℕ → ℕ → Type 0
-Parts n (decodes.Packets count left) x more = (refusalIn x ≡ 0) × (countIn x ≡ count) × (lowIn x ≡ left) × (offsetIn more ≡ 0)
-Parts n decodes.Waiting x more = (refusalIn x ≡ 0) × (countIn x ≡ 0) × (lowIn x ≡ n) × (offsetIn more ≡ 0)
-Parts n (decodes.Refused r) x more = (refusalIn x ≡ numberOf r) × (countIn x ≡ 0) × (lowIn x ≡ 0) × (offsetIn more ≡ offsetOf r)
+Parts n (decodes.Packets count left dirty) x more = HasParts x more 0 count left 0 dirty
+Parts n decodes.Waiting x more = HasParts x more 0 0 n 0 0
+Parts n (decodes.Refused r) x more = HasParts x more (numberOf r) 0 0 (offsetOf r) 0
 
 -- what the parts of an encoder's number say of its answer
 abbrev pub EncodedParts : Encoded → ℕ → Type 0

@@ -13,7 +13,7 @@ use Rattle.totals.specs.declared.Framing.the-variants.{Udp, Tcp, TcpVec}
 use Rattle.answering.specs.declared.Decoded.{Decoded}
 use Rattle.answering.specs.declared.Decoded.the-variants as decodes
 use Rattle.encoder.specs.Outcome.{encodeOrder, stringOrder, Encodes, EncodesString}
-use Rattle.osc.specs.Answers.{TellsDecoded, Tells, TellsPadded, TellsLooked, TellsStarted, refusalIn, offsetIn}
+use Rattle.osc.specs.Answers.{TellsDecoded, Tells, TellsPadded, TellsLooked, TellsStarted, refusalIn, lowIn, offsetIn}
 
 -- a call from C and what it is handed: the three decoders by their framing, the two encoders of packets by their frame; `osc_start` tells
 -- four bytes as they stand, so that they are bytes is said
@@ -76,10 +76,10 @@ CAnswered (osc-start table bytes index) told = told < 0x1_0000_0000
 abbrev pub Beside : ℕ → ℕ → Type 0
 Beside n more = (more ≡ offsetIn more * 0x1_0000_0000) × (n ≤ 16 → more ≡ 0)
 
--- how a call ends: an answer is told, and nothing beside it; or a refusal that document 01 lists for the call, and every lent byte is as
--- before
+-- how a call ends: an answer is told, and beside it nothing but dirty padding, in bits 0 to 31; or a refusal that document 01 lists for the
+-- call, and every lent byte is as before
 pub data CEnds (c : CCall) (told more : ℕ) (after : List ℕ) : Type 0 where
-  told-answer : CAnswered c told → more ≡ 0 → CEnds c told more after
+  told-answer : CAnswered c told → more ≡ lowIn more → CEnds c told more after
   told-refusal : (n : ℕ) → among n (cRefusals c) ≡ true → told ≡ cRefused c n → Beside n more → after ≡ cLent c → CEnds c told more after
 
 -- a contract settles the number that is told, what is told beside it and every lent byte: no second outcome meets it
@@ -112,11 +112,11 @@ Waits TcpVec = ⊥
 
 -- the answers that a decoder may give
 abbrev pub Answerable : Framing → Decoded → Type 0
-Answerable framing (decodes.Packets count left) = fewest framing ≤ count
+Answerable framing (decodes.Packets count left dirty) = fewest framing ≤ count
 Answerable framing decodes.Waiting = Waits framing
 Answerable framing (decodes.Refused r) = Unit {0}
 
--- a decoder does not tell two answers to as many bytes by one number and one offset beside it
+-- a decoder does not tell two answers to as many bytes by one number and what is told beside it
 abbrev pub ToldOnce : Type 0
 ToldOnce =
     (framing : Framing) (msg msg′ table table′ : List ℕ) (depth depth′ told more : ℕ) (after after′ : List ℕ)
@@ -125,11 +125,11 @@ ToldOnce =
     → (t′ : TellsDecoded (ruleOf framing) msg′ table′ depth′ told more after′)
     → t .answer ≡ t′ .answer
 
--- nor by one number alone, but where it is a refusal from 17 on
+-- nor two refusals by one number alone, but from 17 on
 abbrev pub ToldAlone : Type 0
 ToldAlone =
     (framing : Framing) (msg msg′ table table′ : List ℕ) (depth depth′ told more more′ : ℕ) (after after′ : List ℕ)
-    → length msg ≡ length msg′ → refusalIn told ≤ 16
+    → length msg ≡ length msg′ → 1 ≤ refusalIn told → refusalIn told ≤ 16
     → (t : TellsDecoded (ruleOf framing) msg table depth told more after)
     → (t′ : TellsDecoded (ruleOf framing) msg′ table′ depth′ told more′ after′)
     → t .answer ≡ t′ .answer

@@ -26,19 +26,27 @@ fn decoded_number(answer: Decoded, len: usize) -> u64
     ensures { λ r. ⌜ r ≡ decodedNumber len answer ⌝ }
 {
     match answer {
-        Decoded::Packets { count, left } => count as u64 * 0x1_0000_0000 + left as u64,
+        Decoded::Packets {
+            count,
+            left,
+            dirty: _,
+        } => count as u64 * 0x1_0000_0000 + left as u64,
         Decoded::Waiting => len as u64,
         Decoded::Refused(refusal) => refusal_number(refusal),
     }
 }
 
-// What a decoder tells beside it: the offset of a field that was short, in bits 32 to 47.
+// What a decoder tells beside it: dirty padding in bits 0 to 31, or the offset of a field that was short in bits 32 to 47.
 fn more_number(answer: Decoded, len: usize) -> u64
     requires { ⌜ Fits len answer ⌝ }
     ensures { λ r. ⌜ r ≡ moreNumber answer ⌝ }
 {
     match answer {
-        Decoded::Packets { count: _, left: _ } => 0,
+        Decoded::Packets {
+            count: _,
+            left: _,
+            dirty,
+        } => dirty as u64,
         Decoded::Waiting => 0,
         Decoded::Refused(refusal) => refusal::offset_of(refusal) as u64 * 0x1_0000_0000,
     }
@@ -65,7 +73,8 @@ fn decode(framing: Framing, msg: &[u8], table: &mut [u8], depth: u64, more: &mut
 }
 
 // `decode_udp`: the count in bits 32 to 55 and the bytes left in bits 0 to 31, or the refusal's number in bits 56 to 63. `more` is written
-// always: where a field was short (17 to 21) its offset in bits 32 to 47, and 0 otherwise.
+// always: of what is accepted the padding bytes that are not zero, in bits 0 to 31; where a field was short (17 to 21) its offset, in
+// bits 32 to 47; and 0 otherwise.
 //
 // Ruled out: a refusal told in the bits of the bytes left; a byte of the table changed where a refusal is told.
 #[no_mangle]

@@ -39,22 +39,25 @@ join-nil f = refl
 
 -- ---- what a tag does
 module _ (base : ℕ) (ts l : List ℕ) (p : ℕ) (frame : Forest) (below : List Open) where
-  read-opens : readTags base (arrayKind ∷ ts) l p frame below ≡ readTags base ts l p nil (waits frame (arrayItem (base + p)) ∷ below)
+  -- '[' lets the frame wait, and opens an empty one
+  pub read-opens : readTags base (arrayKind ∷ ts) l p frame below ≡ readTags base ts l p nil (waits frame (arrayItem (base + p)) ∷ below)
   unfolding readTags sortOf
   read-opens = refl
 
-  read-closes : (outer : Forest) (item : Item)
+  -- ']' puts the frame as an array at the end of the one that waits
+  pub read-closes : (outer : Forest) (item : Item)
       → readTags base (93 ∷ ts) l p frame (waits outer item ∷ below) ≡ readTags base ts l p (snoc outer item frame) below
   unfolding readTags sortOf
   read-closes outer item = refl
 
-  read-atom : (v : Atom) {item : Item} {used : ℕ} → AtomAllowed v → Given item used ≡ readArg (tagOf v) (classIs v) base l p
+  -- the tag of an argument that is no array takes its data
+  pub read-atom : (v : Atom) {item : Item} {used : ℕ} → AtomAllowed v → Given item used ≡ readArg (tagOf v) (classIs v) base l p
       → readTags base (tagOf v ∷ ts) l p frame below ≡ later used (readTags base ts (drop used l) (p + used) (snoc frame item nil) below)
   unfolding readTags
   read-atom v h e = rw (atom-sort v h, ← e)
 
 -- data is a multiple of 4 bytes
-arguments-even : {A : OscArguments} {d : List ℕ} → ArgumentsSpell A d → length d % 4 ≡ 0
+pub arguments-even : {A : OscArguments} {d : List ℕ} → ArgumentsSpell A d → length d % 4 ≡ 0
 arguments-even no-argument = refl
 arguments-even (one-atom {x = x} {y = y} w r) = omega (arith, length-append x y, atom-even w, arguments-even r)
 arguments-even (one-array {x = x} {y = y} i r) = omega (arith, length-append x y, arguments-even i, arguments-even r)

@@ -69,10 +69,11 @@ unfolding NoNul
 no-text = record { non-null = tt; valid = Rattle.utf8.specs.Utf8.none }
 
 -- a comma and the tags
-types-text : (A : OscArguments) → ArgumentsAllowed A → IsText (44 ∷ tagsOf A)
+pub types-text : (A : OscArguments) → ArgumentsAllowed A → IsText (44 ∷ tagsOf A)
 types-text A h = rw append-nil at (ascii-text {x = 44} (omega arith) (omega arith) (tags-text A h [] no-text))
 
-bundle-text : IsText hashBundle
+-- "#bundle" is a text
+pub bundle-text : IsText hashBundle
 bundle-text =
     ascii-text (omega arith) (omega arith)
     (ascii-text (omega arith) (omega arith)
@@ -83,23 +84,23 @@ bundle-text =
     (ascii-text (omega arith) (omega arith) no-text))))))
 
 -- "#bundle" takes 8 bytes
-bundle-eight : {w : List ℕ} → OscString hashBundle w → length w ≡ 8
+pub bundle-eight : {w : List ℕ} → OscString hashBundle w → length w ≡ 8
 bundle-eight v = omega (arith, string-length v, v .few, v .multiple)
 
 -- ---- what follows the first text
 
 -- the first byte of an OSC-string
-string-first : {x : ℕ} {text bs : List ℕ} → OscString (x ∷ text) bs → (more : List ℕ) → getD (bs ++ more) 0 0 ≡ x
+pub string-first : {x : ℕ} {text bs : List ℕ} → OscString (x ∷ text) bs → (more : List ℕ) → getD (bs ++ more) 0 0 ≡ x
 string-first w more = rw (w .spelled)
 
 -- an address begins with '/'
-string-led : {text bs : List ℕ} → OscString text bs → getD text 0 0 ≡ slash → (more : List ℕ) → getD (bs ++ more) 0 0 ≡ slash
+pub string-led : {text bs : List ℕ} → OscString text bs → getD text 0 0 ≡ slash → (more : List ℕ) → getD (bs ++ more) 0 0 ≡ slash
 string-led {text = []} w h more = absurd (omega arith)
 string-led {text = x ∷ text} w h more = string-first w more ∙ h
 
 module _ (base : ℕ) where
   -- type tags and data
-  types-read : (item : Item) (A : OscArguments) {t : List ℕ} (d : List ℕ) {F : Forest} → OscString (44 ∷ tagsOf A) t
+  pub types-read : (item : Item) (A : OscArguments) {t : List ℕ} (d : List ℕ) {F : Forest} → OscString (44 ∷ tagsOf A) t
       → ArgumentsAllowed A → (p : ℕ) → p % 4 ≡ 0
       → readArgs base (tagsOf A) d (p + length t) ≡ args F (length d)
       → readMessage base item (t ++ d) p ≡ one item F (length t + length d)
@@ -108,7 +109,7 @@ module _ (base : ℕ) where
       ∙ rw (string-take w d, drop-at t d (length t) refl, e)
 
   -- a time tag and elements
-  bundle-read : (start seconds fractional : ℕ) (es : List ℕ) (p : ℕ) → seconds < 256 ^ 4 → fractional < 256 ^ 4 → {F : Forest} {n : ℕ}
+  pub bundle-read : (start seconds fractional : ℕ) (es : List ℕ) (p : ℕ) → seconds < 256 ^ 4 → fractional < 256 ^ 4 → {F : Forest} {n : ℕ}
       → readElements base es (p + 8) ≡ upto F n
       → readBundle base start (oscInt32 seconds ++ (oscInt32 fractional ++ es)) p
       ≡ one (record { kind = bundleKind; a = seconds; b = fractional; start = start }) F (8 + n)
@@ -120,7 +121,8 @@ module _ (base : ℕ) where
       bundle-long base start m p h ∙ rw (read-written 4 x (oscInt32 y ++ es) hx, d4, read-written 4 y es hy, d8, e)
 
   -- an element before others
-  element-read : (c es : List ℕ) (p : ℕ) {item : Item} {u : ℕ} {f : Forest} → length c < 256 ^ 4 → readPacket base c (p + 4) ≡ one item f u
+  pub element-read : (c es : List ℕ) (p : ℕ) {item : Item} {u : ℕ} {f : Forest} → length c < 256 ^ 4
+      → readPacket base c (p + 4) ≡ one item f u
       → readElements base (oscInt32 (length c) ++ (c ++ es)) p ≡ joined item f (length c) (readElements base es (p + (4 + length c)))
   element-read c es p {item} {u} {f} h e =
       let n = oscInt32 (length c) in
@@ -216,7 +218,7 @@ module _ (s : List ℕ) (base : ℕ) where
       }
 
   -- where elements stand
-  at-elements : (x y : ℕ) (w es : List ℕ) (p : ℕ) → length w ≡ 8 → At s (base + p) (w ++ (oscInt32 x ++ (oscInt32 y ++ es)))
+  pub at-elements : (x y : ℕ) (w es : List ℕ) (p : ℕ) → length w ≡ 8 → At s (base + p) (w ++ (oscInt32 x ++ (oscInt32 y ++ es)))
       → At s (base + (p + 8 + 8)) es
   at-elements x y w es p e at =
       let h = at-next base (p + length w + length (oscInt32 x)) (oscInt32 y) es
@@ -224,10 +226,12 @@ module _ (s : List ℕ) (base : ℕ) where
       let q : p + 8 + 4 + 4 ≡ p + 8 + 8 = omega arith in
       rw (e, length-bytes 4 x, length-bytes 4 y, q) at h
 
-  at-content : (n : ℕ) (c es : List ℕ) (p : ℕ) → At s (base + p) (oscInt32 n ++ (c ++ es)) → At s (base + (p + 4)) (c ++ es)
+  -- where what follows an element's size stands
+  pub at-content : (n : ℕ) (c es : List ℕ) (p : ℕ) → At s (base + p) (oscInt32 n ++ (c ++ es)) → At s (base + (p + 4)) (c ++ es)
   at-content n c es p at = rw (length-bytes 4 n) at (at-next base p (oscInt32 n) (c ++ es) at)
 
-  at-rest : (n : ℕ) (c es : List ℕ) (p : ℕ) → At s (base + p) (oscInt32 n ++ (c ++ es)) → At s (base + (p + (4 + length c))) es
+  -- where the elements after the first stand
+  pub at-rest : (n : ℕ) (c es : List ℕ) (p : ℕ) → At s (base + p) (oscInt32 n ++ (c ++ es)) → At s (base + (p + (4 + length c))) es
   at-rest n c es p at =
       let q : p + 4 + length c ≡ p + (4 + length c) = omega arith in
       rw q at (at-next base (p + 4) c es (at-content n c es p at))

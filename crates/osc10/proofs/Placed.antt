@@ -5,7 +5,7 @@ use Prim.Native.Nat.{ℕ, _+_, _≤_}
 use native.Mathlib.Omega.{arith}
 use lib.ListN.{length, take, drop, length-append, take-append-drop}
 use lib.Seq.{take-at, drop-at, drop-drop, length-take-le}
-use Rattle.wire.proofs.Parts.{take-small, drop-small}
+use Rattle.wire.proofs.Parts.{length-part, take-small, drop-small}
 use Rattle.osc10.specs.Words.{Bytes}
 use Rattle.osc10.specs.Osc10.{RangeHolds}
 
@@ -48,6 +48,10 @@ module _ {s : List ℕ} {q : ℕ} where
   -- what stands at an offset is a range there
   pub range-at : {l : List ℕ} → At s q l → RangeHolds s q (length l) l
   range-at {l} h = record { lies = h .within; holds = ap (take (length l)) (h .is) ∙ take-at l (h .more) (length l) refl }
+
+-- a range is as long as what it holds
+pub range-length : {s : List ℕ} {a b : ℕ} {content : List ℕ} → RangeHolds s a b content → b ≡ length content
+range-length {s} {a} {b} r = sym (length-part s a b (r .lies)) ∙ ap length (r .holds)
 
 -- the second of two parts, by its position and the base of offsets
 pub at-next : {s : List ℕ} (base p : ℕ) (x y : List ℕ) → At s (base + p) (x ++ y) → At s (base + (p + length x)) y

@@ -25,14 +25,14 @@ pub record Fits (capacity : ℕ) (f : Forest) (d : Decoded) : Type 0 where
   pub counts : size (keptTrees d f) ≡ keptCount d
   pub few : keptCount d ≤ capacity
 
-limited-fits : (capacity limit : ℕ) (w : Whole) → Fits capacity (forestOf w) (limited capacity limit w)
+limited-fits : (capacity limit : ℕ) (msg : List ℕ) (w : Whole) → Fits capacity (forestOf w) (limited capacity limit msg w)
 unfolding size
-limited-fits capacity limit (trees f left) =
-    by-trees (Fits capacity f) capacity limit f left (λ _. record { counts = refl; few = omega arith })
+limited-fits capacity limit msg (trees f left) =
+    by-trees (Fits capacity f) capacity limit msg f left (λ _. record { counts = refl; few = omega arith })
     (λ _. record { counts = refl; few = omega arith })
     (λ _ h. record { counts = refl; few = h })
-limited-fits capacity limit waiting = record { counts = refl; few = omega arith }
-limited-fits capacity limit (refusal k) = record { counts = refl; few = omega arith }
+limited-fits capacity limit msg waiting = record { counts = refl; few = omega arith }
+limited-fits capacity limit msg (refusal k) = record { counts = refl; few = omega arith }
 
 -- so it is of every answer
 decoded-fits : (rule : List ℕ → Whole) (capacity limit : ℕ) (msg : List ℕ)
@@ -41,7 +41,7 @@ unfolding size
 decoded-fits rule capacity limit msg =
     by-decoded (Fits capacity (forestOf (rule msg))) rule capacity limit msg (λ _. record { counts = refl; few = omega arith })
     (λ _. record { counts = refl; few = omega arith })
-    (λ _ _. limited-fits capacity limit (rule msg))
+    (λ _ _. limited-fits capacity limit msg (rule msg))
 
 -- a table begins with the records that are kept
 pub record Leaves (d : Decoded) (f : Forest) (t : List ℕ) : Type 0 where
@@ -50,7 +50,7 @@ pub record Leaves (d : Decoded) (f : Forest) (t : List ℕ) : Type 0 where
 
 tabled-leaves : (d : Decoded) (f : Forest) (t : List ℕ) → Leaves d f (tabled d f t)
 unfolding stored recordsOf
-tabled-leaves (answer.Packets count left) f t = record { more = drop (recordSize * size f) t; is = refl }
+tabled-leaves (answer.Packets count left dirty) f t = record { more = drop (recordSize * size f) t; is = refl }
 tabled-leaves answer.Waiting f t = record { more = t; is = refl }
 tabled-leaves (answer.Refused r) f t = record { more = t; is = refl }
 
@@ -110,6 +110,6 @@ module _ {capacity′ count : ℕ} {d : Decoded} {f : Forest} {t : List ℕ} (l 
 
 -- the number of packets is told of packets alone
 pub packets-told : (d : Decoded) (f : Forest) (bytes : ℕ) → decodedLine (rootsOf (keptTrees d f)) bytes d ≡ decodedLine (rootsOf f) bytes d
-packets-told (answer.Packets count left) f bytes = refl
+packets-told (answer.Packets count left dirty) f bytes = refl
 packets-told answer.Waiting f bytes = refl
 packets-told (answer.Refused r) f bytes = refl

@@ -17,19 +17,19 @@ rootsOf (node item inside rest) = 1 + rootsOf rest
 
 -- a table is kept of packets alone
 abbrev pub isPackets : Decoded → Bool
-isPackets (decoded.Packets count left) = true
+isPackets (decoded.Packets count left dirty) = true
 isPackets decoded.Waiting = false
 isPackets (decoded.Refused refusal) = false
 
 -- the trees that are kept of those that were read
 abbrev pub keptTrees : Decoded → Forest → Forest
-keptTrees (decoded.Packets count left) f = f
+keptTrees (decoded.Packets count left dirty) f = f
 keptTrees decoded.Waiting f = nil
 keptTrees (decoded.Refused refusal) f = nil
 
 -- how many records they have
 abbrev pub keptCount : Decoded → ℕ
-keptCount (decoded.Packets count left) = count
+keptCount (decoded.Packets count left dirty) = count
 keptCount decoded.Waiting = 0
 keptCount (decoded.Refused refusal) = 0
 

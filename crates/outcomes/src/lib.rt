@@ -33,7 +33,11 @@ fn is_packets(answer: Decoded) -> bool
     ensures { λ r. ⌜ r ≡ isPackets answer ⌝ }
 {
     match answer {
-        Decoded::Packets { count: _, left: _ } => true,
+        Decoded::Packets {
+            count: _,
+            left: _,
+            dirty: _,
+        } => true,
         Decoded::Waiting => false,
         Decoded::Refused(_) => false,
     }
@@ -44,7 +48,11 @@ fn kept_count(answer: Decoded) -> usize
     ensures { λ r. ⌜ r ≡ keptCount answer ⌝ }
 {
     match answer {
-        Decoded::Packets { count, left: _ } => count,
+        Decoded::Packets {
+            count,
+            left: _,
+            dirty: _,
+        } => count,
         Decoded::Waiting => 0,
         Decoded::Refused(_) => 0,
     }

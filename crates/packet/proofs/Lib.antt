@@ -1,4 +1,6 @@
+pub mod Dirt
 pub mod FirstText
+pub mod Items
 pub mod Knot
 pub mod Within
 pub mod Bundles

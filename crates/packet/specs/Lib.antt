@@ -1,2 +1,3 @@
+pub mod CodeStart
 pub mod FirstText
 pub mod Packet

@@ -7,6 +7,7 @@ ghost use mathlib.Core.Path.{_≡_};
 ghost use Prim.Native.Nat.{_+_, _≤_};
 ghost use lib.ListN.{length};
 ghost use Rattle.wire.specs.Limits.{longest};
+ghost use Rattle.packet.specs.CodeStart.{StartAccepted};
 ghost use Rattle.packet.specs.FirstText.{startOf};
 ghost use Rattle.wire.specs.Same.{sameBytes};
 
@@ -58,4 +59,22 @@ pub fn read_start(input: &[u8], pos: usize) -> Start
         }
         Text::Lacks(lack) => Start::Refused(text::fault_in(Field::Address, pos, lack)),
     }
+}
+
+// The same of a packet that was accepted: only its first byte is looked at, and where its first text ends.
+//
+// Ruled out: the start of a bundle for a message; what follows "#bundle" read from its NUL on.
+pub fn find_start(input: &[u8], pos: usize) -> Start
+    requires { ⌜ pos + length (now input) ≤ longest ⌝ }
+    requires { ⌜ StartAccepted (startOf (now input) pos) ⌝ }
+    ensures { λ r. ⌜ r ≡ startOf (now (input .entry)) pos ⌝ }
+{
+    let first = text::find_osc_string(input, pos);
+    if input[0] == MESSAGE {
+        return Start::Message {
+            length: first.length,
+            used: first.used,
+        };
+    }
+    Start::Bundle { used: first.used }
 }

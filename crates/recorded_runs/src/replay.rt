@@ -44,7 +44,8 @@ fn answer(
 
 // Compares an answer, what is said beside it and what the call left in the buffer with what is due.
 //
-// Ruled out: a case that is right where a later byte is changed; one that is right where another field is said to be short.
+// Ruled out: a case that is right where a later byte is changed; one that is right where another field is said to be short, or padding to
+// be less dirty.
 fn compare(answer: u64, due: u64, more: u64, field: u64, out: &[u8], written: &[u8]) -> Outcome
     ensures { λ r. ⌜ Compared answer due more field (now (out .entry)) (now (written .entry)) r ⌝ }
 {

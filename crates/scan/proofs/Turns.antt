@@ -1,5 +1,5 @@
 -- Each turn of the two scans: what one tag does.
-use mathlib.Core.Path.{_≡_, refl, ap, sym, _∙_, subst}
+use mathlib.Core.Path.{_≡_, refl, ap, ap₂, sym, _∙_, subst}
 use Prim.Native.Nat.{ℕ, zero, suc, _+_, _-_, _<_, _≤_, max}
 use mathlib.Core.List.{List, [], _∷_}
 use native.Mathlib.Nat.{zero-add}
@@ -21,12 +21,12 @@ use Rattle.scan.specs.declared.Scanned.{Scanned}
 use Rattle.scan.specs.declared.Scanned.the-variants.{Used, Refused}
 use Rattle.scan.specs.declared.Back.the-variants.{Uncut, Cut}
 
-more-more : (m n : ℕ) (s : Scanned) → moreUsed m (moreUsed n s) ≡ moreUsed (m + n) s
-more-more m n (Used used) = ap Used (omega arith)
-more-more m n (Refused fault) = refl
+more-more : (m d n e : ℕ) (s : Scanned) → moreUsed m d (moreUsed n e s) ≡ moreUsed (m + n) (d + e) s
+more-more m d n e (Used used dirty) = ap₂ (λ (i j : ℕ). Used i j) (omega arith) (omega arith)
+more-more m d n e (Refused fault) = refl
 
-more-none : (s : Scanned) → moreUsed 0 s ≡ s
-more-none (Used used) = ap Used (omega arith)
+more-none : (s : Scanned) → moreUsed 0 0 s ≡ s
+more-none (Used used dirty) = ap₂ (λ (i j : ℕ). Used i j) (omega arith) (omega arith)
 more-none (Refused fault) = refl
 
 -- ---- forward
@@ -52,89 +52,94 @@ module _ (ts m : List ℕ) (q n : ℕ) (h : 0 < length ts) where
       let some : n ≡ suc (n - 1) = omega arith in
       scan-turn e ∙ ap (turn Closes (λ m q k. scan (drop 1 ts) m q k) (getD ts 0 0) m q) some
 
-  scan-given : {class : Class} {used : ℕ} → Leaf class ≡ sortOf (getD ts 0 0)
-      → Used used ≡ usedOf (readArg (getD ts 0 0) class 0 m q)
-      → scan ts m q n ≡ moreUsed used (scan (drop 1 ts) (drop used m) (q + used) n)
+  scan-given : {class : Class} {used dirty : ℕ} → Leaf class ≡ sortOf (getD ts 0 0)
+      → Used used dirty ≡ usedOf class m (readArg (getD ts 0 0) class 0 m q)
+      → scan ts m q n ≡ moreUsed used dirty (scan (drop 1 ts) (drop used m) (q + used) n)
   scan-given e g = scan-turn e ∙ rw (← g)
 
   scan-refused : {class : Class} {fault : Fault} → Leaf class ≡ sortOf (getD ts 0 0)
-      → Refused fault ≡ usedOf (readArg (getD ts 0 0) class 0 m q)
+      → Refused fault ≡ usedOf class m (readArg (getD ts 0 0) class 0 m q)
       → scan ts m q n ≡ Refused fault
   scan-refused e g = scan-turn e ∙ rw (← g)
 
-scan-end : (ts m : List ℕ) (q n : ℕ) → length ts ≤ 0 → scan ts m q n ≡ Used 0
+scan-end : (ts m : List ℕ) (q n : ℕ) → length ts ≤ 0 → scan ts m q n ≡ Used 0 0
 unfolding scan
 scan-end [] m q n h = refl
 scan-end (t ∷ ts) m q n h = absurd (omega arith)
 
--- of the tags and of the data l from pos on, ts and m at `at` are left, and n arrays are open
-pub record Scanning (tags l : List ℕ) (pos : ℕ) (ts m : List ℕ) (at n : ℕ) : Type 0 where
-  pub whole : scan tags l pos 0 ≡ moreUsed (at - pos) (scan ts m at n)
+-- of the tags and of the data l from pos on, ts and m at `at` are left, n arrays are open, and so much dirt was met
+pub record Scanning (tags l : List ℕ) (pos : ℕ) (ts m : List ℕ) (at n dirt : ℕ) : Type 0 where
+  pub whole : scan tags l pos 0 ≡ moreUsed (at - pos) dirt (scan ts m at n)
   pub ends : at + length m ≡ pos + length l
   pub past : pos ≤ at
   pub few : n + length ts ≤ length tags
+  pub clean : dirt ≤ at - pos
 
 -- at the start all is left
-pub scanning-start : (tags l : List ℕ) (pos : ℕ) → Scanning tags l pos tags l pos 0
+pub scanning-start : (tags l : List ℕ) (pos : ℕ) → Scanning tags l pos tags l pos 0 0
 scanning-start tags l pos =
     let z : pos - pos ≡ 0 = omega arith in
-    record { whole = rw z (sym (more-none (scan tags l pos 0))); ends = refl; past = omega arith; few = omega arith }
+    record { whole = rw z (sym (more-none (scan tags l pos 0))); ends = refl; past = omega arith; few = omega arith; clean = omega arith }
 
-module _ {tags l : List ℕ} {pos : ℕ} {ts m : List ℕ} {at n : ℕ} (w : Scanning tags l pos ts m at n) where
+module _ {tags l : List ℕ} {pos : ℕ} {ts m : List ℕ} {at n dirt : ℕ} (w : Scanning tags l pos ts m at n dirt) where
   -- one tag less is left, and n′ arrays are open
   next : (n′ : ℕ) → 0 < length ts → n′ ≤ n + 1 → scan ts m at n ≡ scan (drop 1 ts) m at n′
-      → Scanning tags l pos (take (length ts - 1) (drop 1 ts)) m at n′
+      → Scanning tags l pos (take (length ts - 1) (drop 1 ts)) m at n′ dirt
   next n′ h k e =
       rw (tail ts 1)
       (record {
         whole = w .whole
-            ∙ ap (moreUsed (at - pos)) e;
+            ∙ ap (moreUsed (at - pos) dirt) e;
         ends = w .ends;
         past = w .past;
         few = omega (arith, length-drop 1 ts, w .few);
+        clean = w .clean;
       })
 
   -- a tag that opens: one array more is open
-  pub scanning-opens : 0 < length ts → Opens ≡ sortOf (getD ts 0 0) → Scanning tags l pos (take (length ts - 1) (drop 1 ts)) m at (n + 1)
+  pub scanning-opens : 0 < length ts → Opens ≡ sortOf (getD ts 0 0)
+      → Scanning tags l pos (take (length ts - 1) (drop 1 ts)) m at (n + 1) dirt
   scanning-opens h e = next (n + 1) h (omega arith) (scan-opens ts m at n h e)
 
   -- a tag that closes: one array fewer is open
   pub scanning-closes : 0 < length ts → Closes ≡ sortOf (getD ts 0 0) → (n ≡ 0 → ⊥)
-      → Scanning tags l pos (take (length ts - 1) (drop 1 ts)) m at (n - 1)
+      → Scanning tags l pos (take (length ts - 1) (drop 1 ts)) m at (n - 1) dirt
   scanning-closes h e z = next (n - 1) h (omega arith) (scan-closes ts m at n h e z)
 
   -- a tag whose argument is given: its bytes are read too
-  pub scanning-given : {class : Class} {used : ℕ} → 0 < length ts → Leaf class ≡ sortOf (getD ts 0 0)
-      → Used used ≡ usedOf (readArg (getD ts 0 0) class 0 m at)
-      → Scanning tags l pos (take (length ts - 1) (drop 1 ts)) (take (length m - used) (drop used m)) (at + used) n
-  scanning-given {class} {used} h e g =
+  pub scanning-given : {class : Class} {used dirty : ℕ} → 0 < length ts → Leaf class ≡ sortOf (getD ts 0 0)
+      → Used used dirty ≡ usedOf class m (readArg (getD ts 0 0) class 0 m at)
+      → Scanning tags l pos (take (length ts - 1) (drop 1 ts)) (take (length m - used) (drop used m)) (at + used) n (dirt + dirty)
+  scanning-given {class} {used} {dirty} h e g =
       let sum : at - pos + used ≡ at + used - pos = omega (arith, w .past) in
-      let within : used ≤ length m = used-within (getD ts 0 0) class 0 m at g in
+      let within = used-within (getD ts 0 0) class 0 m at g in
       rw (tail ts 1, tail m used)
       (record {
         whole =
-            w .whole ∙ ap (moreUsed (at - pos)) (scan-given ts m at n h e g)
-            ∙ more-more (at - pos) used (scan (drop 1 ts) (drop used m) (at + used) n) ∙ rw sum;
-        ends = omega (arith, length-drop used m, w .ends);
+            w .whole ∙ ap (moreUsed (at - pos) dirt) (scan-given ts m at n h e g)
+            ∙ more-more (at - pos) dirt used dirty (scan (drop 1 ts) (drop used m) (at + used) n) ∙ rw sum;
+        ends = omega (arith, within, length-drop used m, w .ends);
         past = omega (arith, w .past);
         few = omega (arith, length-drop 1 ts, w .few);
+        clean = omega (arith, within, w .past, w .clean);
       })
 
   -- a tag that closes where no array is open is refused
   pub scanning-none : 0 < length ts → Closes ≡ sortOf (getD ts 0 0) → n ≡ 0 → Refused NotOpen ≡ scan tags l pos 0
-  scanning-none h e z = sym (w .whole ∙ ap (moreUsed (at - pos)) (scan-none ts m at n h e z))
+  scanning-none h e z = sym (w .whole ∙ ap (moreUsed (at - pos) dirt) (scan-none ts m at n h e z))
 
   -- a tag whose argument is refused
   pub scanning-refused : {class : Class} {fault : Fault} → 0 < length ts → Leaf class ≡ sortOf (getD ts 0 0)
-      → Refused fault ≡ usedOf (readArg (getD ts 0 0) class 0 m at)
+      → Refused fault ≡ usedOf class m (readArg (getD ts 0 0) class 0 m at)
       → Refused fault ≡ scan tags l pos 0
-  scanning-refused h e g = sym (w .whole ∙ ap (moreUsed (at - pos)) (scan-refused ts m at n h e g))
+  scanning-refused h e g = sym (w .whole ∙ ap (moreUsed (at - pos) dirt) (scan-refused ts m at n h e g))
 
   -- where no tag is left, what was read is all
-  pub scanning-end : length ts ≤ 0 → Used (at - pos) ≡ scan tags l pos 0
+  pub scanning-end : length ts ≤ 0 → Used (at - pos) dirt ≡ scan tags l pos 0
   scanning-end h =
       let z : at - pos + 0 ≡ at - pos = omega arith in
-      sym (w .whole ∙ ap (moreUsed (at - pos)) (scan-end ts m at n h) ∙ rw z)
+      let y : dirt + 0 ≡ dirt = omega arith in
+      sym (w .whole ∙ ap (moreUsed (at - pos) dirt) (scan-end ts m at n h) ∙ rw (z, y))
 
 -- ---- backward
 

@@ -1,23 +1,27 @@
 // The tags and their data without records: what the first reading finds out. Linear, with no stack for arrays.
 use argument::Arg;
 use argument::read_checked;
+use node::record::Item;
 use node::tags::ARRAY;
 use node::tags::Class;
 use node::tags::Sort;
 use node::tags::sort_of;
 use refusal::Fault;
 use refusal::Field;
+use text::dirty_in;
 ghost use mathlib.Core.Path.{_≡_};
-ghost use Prim.Native.Nat.{_+_, _≤_, max};
+ghost use Prim.Native.Nat.{_+_, _-_, _≤_, max};
 ghost use lib.ListN.{length};
 ghost use Rattle.wire.specs.Limits.{longest};
-ghost use Rattle.node.specs.declared.record.Item.{Item};
+ghost use Rattle.text.specs.Text.{nonZero};
 ghost use Rattle.argument.specs.Argument.{having, readArg};
+ghost use Rattle.argument.specs.CodeParts.{between, paddingFrom};
 ghost use Rattle.scan.specs.CodeScans.{usedOf, scan, back, bracket, brackets};
 
-// How many bytes of data tags take, or the fault.
+// What tags take, or the fault.
 pub enum Scanned {
-    Used(usize),
+    // So many bytes of data, and so many bytes of its padding that are not zero.
+    Used { used: usize, dirty: usize },
     Refused(Fault),
 }
 
@@ -41,7 +45,8 @@ pub enum Back {
 
 // `n` bytes, where the data at `pos` has them.
 fn pass_bytes(input: &[u8], n: usize, pos: usize) -> Scanned
-    ensures { λ r. ⌜ ((item : Item) → r ≡ usedOf (having n (now (input .entry)) (Fault.Short Field.Data pos) (Arg.Given item n))) ⌝ }
+    ensures { λ r. ⌜ ((class : Class) (item : Item) → paddingFrom class item n ≡ n
+        → r ≡ usedOf class (now (input .entry)) (having n (now (input .entry)) (Fault.Short Field.Data pos) (Arg.Given item n))) ⌝ }
 {
     if input.len() < n {
         return Scanned::Refused(Fault::Short {
@@ -49,28 +54,56 @@ fn pass_bytes(input: &[u8], n: usize, pos: usize) -> Scanned
             at: pos,
         });
     }
-    Scanned::Used(n)
+    Scanned::Used { used: n, dirty: 0 }
 }
 
-// How many bytes of data one argument takes. Its numbers don't matter here, so a plain class reads none, and the offset base is 0.
+// How many bytes of the padding of one argument are not zero; it takes the first `used` bytes of `input`.
+fn dirty_of(class: Class, item: Item, input: &[u8], used: usize) -> usize
+    requires { ⌜ (paddingFrom class item used ≤ used) × (used - paddingFrom class item used ≤ 3) × (used ≤ length (now input)) ⌝ }
+    ensures { λ r. ⌜ r ≡ nonZero (between (paddingFrom class item used) used (now (input .entry))) ⌝ }
+{
+    match class {
+        Class::Text => {
+            let end = item.b as usize + 1;
+            dirty_in(&input[end..used])
+        }
+        Class::Blob => {
+            let end = 4 + item.b as usize;
+            dirty_in(&input[end..used])
+        }
+        _ => 0,
+    }
+}
+
+// How many bytes of data one argument takes, and its dirty padding. Its numbers don't matter here, so a plain class reads none, and the
+// offset base is 0. A scalar has no padding; since `read_checked` is called in two places, it is not compiled into the loop over the tags,
+// which took twice as long with it.
 fn pass_arg(tag: u8, class: Class, input: &[u8], pos: usize) -> Scanned
     requires { ⌜ pos + length (now input) ≤ longest ⌝ }
-    ensures { λ r. ⌜ r ≡ usedOf (readArg tag class 0 (now (input .entry)) pos) ⌝ }
+    ensures { λ r. ⌜ r ≡ usedOf class (now (input .entry)) (readArg tag class 0 (now (input .entry)) pos) ⌝ }
 {
     match class {
         Class::Four => pass_bytes(input, 4, pos),
         Class::Eight => pass_bytes(input, 8, pos),
-        Class::Bare => Scanned::Used(0),
+        Class::Bare => Scanned::Used { used: 0, dirty: 0 },
+        Class::Scalar => match read_checked(tag, class, input, 0, pos) {
+            Arg::Given { item: _, used } => Scanned::Used { used, dirty: 0 },
+            Arg::Refused(fault) => Scanned::Refused(fault),
+        },
         _ => match read_checked(tag, class, input, 0, pos) {
-            Arg::Given { item: _, used } => Scanned::Used(used),
+            Arg::Given { item, used } => Scanned::Used {
+                used,
+                dirty: dirty_of(class, item, input, used),
+            },
             Arg::Refused(fault) => Scanned::Refused(fault),
         },
     }
 }
 
-// Forward: whether the tags and their data are accepted, and how many bytes they take. Only the number of open arrays is kept.
+// Forward: whether the tags and their data are accepted, how many bytes they take, and how many of their padding are not zero. Only the
+// number of open arrays is kept.
 //
-// Ruled out: `]` with no array open passed over; padding counted from where an earlier argument stands.
+// Ruled out: `]` with no array open passed over; padding counted from where an earlier argument stands; the dirt of the last text alone.
 pub fn scan_args(tags: &[u8], input: &[u8], pos: usize) -> Scanned
     requires { ⌜ pos + length (now input) ≤ longest ⌝ }
     ensures { λ r. ⌜ r ≡ scan (now (tags .entry)) (now (input .entry)) pos 0 ⌝ }
@@ -79,6 +112,7 @@ pub fn scan_args(tags: &[u8], input: &[u8], pos: usize) -> Scanned
     let mut rest = input;
     let mut at = pos;
     let mut waiting: usize = 0;
+    let mut dirt: usize = 0;
     while 0 < left.len() {
         let tag = left[0];
         left = &left[1..];
@@ -91,15 +125,19 @@ pub fn scan_args(tags: &[u8], input: &[u8], pos: usize) -> Scanned
                 waiting -= 1;
             }
             Sort::Leaf(class) => match pass_arg(tag, class, rest, at) {
-                Scanned::Used(used) => {
+                Scanned::Used { used, dirty } => {
                     rest = &rest[used..];
                     at += used;
+                    dirt += dirty;
                 }
                 Scanned::Refused(fault) => return Scanned::Refused(fault),
             },
         }
     }
-    Scanned::Used(at - pos)
+    Scanned::Used {
+        used: at - pos,
+        dirty: dirt,
+    }
 }
 
 // Whether a tag opens or closes an array.

@@ -35,14 +35,14 @@ OfAllowed handed Is =
     → Is packet (handed l)
 
 -- bytes are accepted as a packet: nothing is left over, the tree stands for the packet, and with room for its records the decoder
--- answers their count
+-- answers their count, and no dirty padding
 pub record AcceptedAs (rule : List ℕ → Whole) (packet : Packet) (l : List ℕ) : Type 0 where
   pub item : Item
   pub inside : Forest
   pub stands : StandsFor l packet item inside
   pub read : rule l ≡ trees (node item inside nil) 0
   pub decodes : (room : ℕ) → size (node item inside nil) ≤ room
-      → decoded rule room deepest l ≡ decoder.Packets (size (node item inside nil)) 0
+      → decoded rule room deepest l ≡ decoder.Packets (size (node item inside nil)) 0 0
 
 -- every packet that is allowed is accepted by `decode_udp` as what it is
 abbrev pub Osc10Accepted : Type 0
@@ -54,7 +54,7 @@ FrameAccepted = OfAllowed oscFrame (AcceptedAs tcp)
 
 -- a call decodes a packet into a table, and `look` at each record gives the value that OSC 1.0 says
 pub record SeenIn (rule : List ℕ → Whole) (packet : Packet) (l table : List ℕ) : Type 0 where
-  pub answer : answerTo rule deepest l table ≡ decoder.Packets (length (entriesOf packet)) 0
+  pub answer : answerTo rule deepest l table ≡ decoder.Packets (length (entriesOf packet)) 0 0
   pub looks : LookAs l (tableAfter rule deepest l table) 0 (entriesOf packet)
 
 -- in every table with room for the packet's records

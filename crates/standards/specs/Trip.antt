@@ -50,12 +50,12 @@ pub record Playable (t : List ℕ) (count : ℕ) (source : List ℕ) (item : Ite
   pub fits : length (writePacket source item inside) ≤ longest
 
 -- what is played back: `encode` with room answers a multiple of four; `decode_udp` of what it wrote, depth 64 and room given,
--- answers the same count with nothing left, and the same table
+-- answers the same count with nothing left and no dirty padding (Ticket 8), and the same table
 pub record PlaysBack (t : List ℕ) (count : ℕ) (source out : List ℕ) (r : Outcome) (table : List ℕ) : Type 0 where
   pub n : ℕ
   pub written : r .answer ≡ Written n
   pub multiple : n % 4 ≡ 0
-  pub decoded : answerTo udp deepest (take n (r .out)) table ≡ Packets count 0
+  pub decoded : answerTo udp deepest (take n (r .out)) table ≡ Packets count 0 0
   pub same : SameTable source t (take n (r .out)) (tableAfter udp deepest (take n (r .out)) table) count
 
 -- for every such table, any output and table with room, and whatever `encode` may answer by its contract

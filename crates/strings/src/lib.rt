@@ -38,7 +38,7 @@ pub fn write_zeros(n: usize, out: &mut [u8]) -> usize
     4
 }
 
-// Writes a text and its 1 to 4 NULs.
+// Writes a text and its 1 to 4 NULs: the last 4 bytes are NULs at first, and the text is written over some of them.
 //
 // Ruled out: a text of a multiple of 4 bytes with no NUL; a fourth NUL that is another byte.
 pub fn encode_string_into(text: &[u8], out: &mut [u8]) -> usize
@@ -46,8 +46,10 @@ pub fn encode_string_into(text: &[u8], out: &mut [u8]) -> usize
     ensures { λ r. ⌜ Filled (oscString (now (text .entry))) (now (out .entry)) (now (out .exit)) r ⌝ }
 {
     let n = text.len();
+    let last = n - n % 4;
+    put_u32(&mut out[last..], 0);
     copy(text, out);
-    n + write_zeros(4 - n % 4, &mut out[n..])
+    last + 4
 }
 
 // Writes a blob: its size, its bytes and 0 to 3 zeros.

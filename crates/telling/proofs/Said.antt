@@ -1,12 +1,12 @@
 -- What a line says, by what it is made of.
 use mathlib.Core.Path.{_≡_, refl, sym, ap, _∙_, subst}
-use mathlib.Core.Bool.{Bool, true, false, not}
+use mathlib.Core.Bool.{Bool, true, false, not, cond}
 use mathlib.Core.List.{List, [], _∷_}
 use Prim.Native.Nat.{ℕ}
 use native.Mathlib.Omega.{arith}
 use types.Run.{OneOf, miss}
 use denote.Enum.Declared.{tagOf}
-use lib.Dec.{T, le→leb}
+use lib.Dec.{T, le→leb, eqb}
 use lib.IntN.{ℤ, pos, negsuc, natAbs}
 use lib.Signed.{_<ℤ_, ltZ, ltZ-no, nonNeg, yes-nonNeg, clashℤ}
 use mir.Syntax.{w64}
@@ -27,8 +27,8 @@ use Rattle.answering.specs.declared.Decoded.{Decoded}
 use Rattle.answering.specs.declared.Decoded.the-variants as decoded
 use Rattle.encoder.specs.declared.Encoded.{Encoded}
 use Rattle.encoder.specs.declared.Encoded.the-variants as encoded
-use Rattle.telling.specs.Forms.{pieceOf, takenBy, filledIn}
-use Rattle.telling.specs.Answers.{refusedLine, decodedLine, encodedLine, versionLine}
+use Rattle.telling.specs.Forms.{pieceOf, takenBy, filledIn, line}
+use Rattle.telling.specs.Answers.{packetsForm, dirtyForm, refusedLine, decodedLine, encodedLine, versionLine}
 use Rattle.telling.specs.Shown.{shownAs, signWords, valueLine, lookedLine, startedLine}
 use Rattle.telling.specs.Troubles.{troubleLine}
 use Rattle.telling.specs.CodeTable.{saidBy, with, refusedAs, decodedAs, encodedAs, signedAs, valueAs, lookedAs}
@@ -87,10 +87,18 @@ trouble-said trouble.OneFile number word = refl
 trouble-said trouble.TooLarge number word = refl
 trouble-said trouble.NoTable number word = refl
 
+-- packets that were read: with no dirty padding (true), and with some (false)
+packets-said : (packets count left dirty : ℕ) (clean : Bool)
+    → saidBy (cond clean (with 22 packets count left 0 0 0) (with 51 packets count left dirty 0 0)) []
+    ≡ cond clean (line packetsForm (packets ∷ count ∷ left ∷ []) []) (line dirtyForm (packets ∷ count ∷ left ∷ dirty ∷ []) [])
+unfolding saidBy filledIn pieceOf takenBy
+packets-said packets count left dirty true = refl
+packets-said packets count left dirty false = refl
+
 -- a decoder's answer
 pub decoded-said : (packets bytes : ℕ) (d : Decoded) → saidBy (decodedAs packets bytes d) [] ≡ decodedLine packets bytes d
 unfolding saidBy filledIn pieceOf takenBy
-decoded-said packets bytes (decoded.Packets count left) = refl
+decoded-said packets bytes (decoded.Packets count left dirty) = packets-said packets count left dirty (eqb dirty 0)
 decoded-said packets bytes decoded.Waiting = refl
 decoded-said packets bytes (decoded.Refused r) = refused-said r []
 

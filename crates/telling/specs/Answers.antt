@@ -1,7 +1,9 @@
 -- The line for an answer of the library.
+use mathlib.Core.Bool.{cond}
 use mathlib.Core.List.{List, [], _∷_}
 use Prim.Native.Nat.{ℕ}
 use Prim.Native.String.{String}
+use lib.Dec.{eqb}
 use lib.ListN.{getD}
 use Rattle.refusal.specs.Refusal.{numberOf, offsetOf}
 use Rattle.refusal.specs.declared.Refusal.{Refusal}
@@ -31,6 +33,10 @@ refusedForms =
 abbrev pub packetsForm : String
 packetsForm = "packets: %, records: %, bytes left: %\n"
 
+-- the same with the bytes of their padding that are not zero (Ticket 8)
+abbrev pub dirtyForm : String
+dirtyForm = "packets: %, records: %, bytes left: %, dirty padding bytes: %\n"
+
 -- the first frame is not all there
 abbrev pub waitingForm : String
 waitingForm = "waiting: % bytes, nothing read\n"
@@ -47,9 +53,14 @@ versionForm = "osc ~\n"
 unfoldable pub refusedLine : Refusal → List ℕ
 refusedLine refusal = line (getD refusedForms (numberOf refusal) "") (numberOf refusal ∷ offsetOf refusal ∷ []) []
 
+-- packets that were read: their dirty padding is told where there is any
+abbrev pub packetsLine : ℕ → ℕ → ℕ → ℕ → List ℕ
+packetsLine packets count left dirty =
+    cond (eqb dirty 0) (line packetsForm (packets ∷ count ∷ left ∷ []) []) (line dirtyForm (packets ∷ count ∷ left ∷ dirty ∷ []) [])
+
 -- a decoder's answer to an input of so many packets and bytes
 abbrev pub decodedLine : ℕ → ℕ → Decoded → List ℕ
-decodedLine packets bytes (decoded.Packets count left) = line packetsForm (packets ∷ count ∷ left ∷ []) []
+decodedLine packets bytes (decoded.Packets count left dirty) = packetsLine packets count left dirty
 decodedLine packets bytes decoded.Waiting = line waitingForm (bytes ∷ []) []
 decodedLine packets bytes (decoded.Refused refusal) = refusedLine refusal
 

@@ -20,7 +20,7 @@ use Rattle.encoder.specs.declared.Encoded.{Encoded}
 use Rattle.encoder.specs.declared.Encoded.the-variants as encoded
 use Rattle.telling.specs.Ascii.{ascii}
 use Rattle.telling.specs.Forms.{filledIn}
-use Rattle.telling.specs.Answers.{refusedForms, packetsForm, waitingForm, writtenForm, versionForm}
+use Rattle.telling.specs.Answers.{refusedForms, packetsForm, dirtyForm, waitingForm, writtenForm, versionForm}
 use Rattle.telling.specs.Shown.{recordForm, startForm}
 use Rattle.telling.specs.Troubles.{troubleForm}
 use Rattle.telling.specs.declared.line.Line.{Line}
@@ -37,7 +37,7 @@ forms =
     ∷ troubleForm trouble.LookWords ∷ troubleForm trouble.NoFraming ∷ troubleForm trouble.OnePacket ∷ troubleForm trouble.NoOption
     ∷ troubleForm trouble.Twice ∷ troubleForm trouble.NoNumber ∷ troubleForm trouble.ManyRecords ∷ troubleForm trouble.NoName
     ∷ troubleForm trouble.LongName ∷ troubleForm trouble.NoFile ∷ troubleForm trouble.OneFile ∷ troubleForm trouble.TooLarge
-    ∷ troubleForm trouble.NoTable ∷ versionForm ∷ startForm ∷ [])
+    ∷ troubleForm trouble.NoTable ∷ versionForm ∷ startForm ∷ dirtyForm ∷ [])
 
 -- what a line says, with a text
 unfoldable pub saidBy : Line → List ℕ → List ℕ
@@ -51,9 +51,13 @@ with form a b c d e f = record { form = form; a = a; b = b; c = c; d = d; e = e;
 abbrev pub refusedAs : Refusal → Line
 refusedAs refusal = with (numberOf refusal) (numberOf refusal) (offsetOf refusal) 0 0 0 0
 
+-- packets that were read, with their dirty padding or, where there is none, without
+abbrev pub packetsAs : ℕ → ℕ → ℕ → ℕ → Line
+packetsAs packets count left dirty = cond (eqb dirty 0) (with 22 packets count left 0 0 0) (with 51 packets count left dirty 0 0)
+
 -- a decoder's answer
 abbrev pub decodedAs : ℕ → ℕ → Decoded → Line
-decodedAs packets bytes (decoded.Packets count left) = with 22 packets count left 0 0 0
+decodedAs packets bytes (decoded.Packets count left dirty) = packetsAs packets count left dirty
 decodedAs packets bytes decoded.Waiting = with 23 bytes 0 0 0 0 0
 decodedAs packets bytes (decoded.Refused refusal) = refusedAs refusal
 

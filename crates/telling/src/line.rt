@@ -17,7 +17,7 @@ pub struct Line {
 }
 
 // The forms, a line to each: those of the refusals stand at their numbers, and a line whose number no refusal has is empty.
-const FORMS: [u8; 1955] = *b"
+const FORMS: [u8; 2017] = *b"
 refused %: decode input over 65,535 bytes, or encoded result (prefix included) over it
 refused %: a packet of no bytes
 
@@ -68,6 +68,7 @@ osc: ~: the file is too large: it has at least % bytes
 osc: ~: a table has a multiple of 20 bytes, and this has % bytes
 osc ~
 start %
+packets: %, records: %, bytes left: %, dirty padding bytes: %
 ";
 
 pub const PACKETS: usize = 22;
@@ -98,6 +99,8 @@ pub const TROUBLES: usize = 33;
 pub const VERSION: usize = 49;
 
 pub const START: usize = 50;
+
+pub const DIRTY: usize = 51;
 
 // A line of a form and as many numbers as one has.
 pub fn formed(form: usize, a: u64, b: u64, c: u64, d: u64, e: u64, f: u64) -> Line

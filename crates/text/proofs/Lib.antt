@@ -1,3 +1,4 @@
+pub mod Dirt
 pub mod Nuls
 pub mod Only
 pub mod Passing

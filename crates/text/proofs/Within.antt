@@ -1,5 +1,5 @@
 -- A text that was found lies in its part, and is UTF-8; what a text lacks begins in its part or right after it.
-use mathlib.Core.Path.{_≡_, sym, subst}
+use mathlib.Core.Path.{_≡_, refl, sym, subst}
 use mathlib.Core.Bool.{true}
 use mathlib.Core.List.{List}
 use Prim.Native.Nat.{ℕ, _+_, _<_, _≤_}
@@ -54,3 +54,21 @@ lacks-within l p =
 pub lacks-low : {lack : Lack} (field : Field) (l : List ℕ) (p : ℕ) → Lacks lack ≡ readText l p
     → faultOffset (faultIn field p lack) ≤ p + length l
 lacks-low field l p e = subst (LackLow p (length l)) (sym e) (lacks-within l p) field
+
+-- where a text that is found ends, and what it takes
+abbrev TextEnds : List ℕ → ℕ → Text → Type 0
+TextEnds l p (Found n used) = (n ≡ untilNul l) × (used ≡ reach p (n + 1))
+TextEnds l p (Lacks k) = Unit {0}
+
+text-ends : (l : List ℕ) (p : ℕ) → TextEnds l p (readText l p)
+unfolding readText
+text-ends l p =
+    by-test (TextEnds l p) (ltb (untilNul l) (length l))
+    (λ h. by-le (TextEnds l p) (reach p (untilNul l + 1)) (length l)
+    (λ k. by-test (TextEnds l p) (utf8 (take (untilNul l) l)) (λ e. (refl, refl)) (λ e. tt))
+    (λ k. tt))
+    (λ h. tt)
+
+-- a text that was found ends at its first NUL, and takes its padding: up to 3 bytes
+pub found-ends : {n used : ℕ} (l : List ℕ) (p : ℕ) → Found n used ≡ readText l p → (n ≡ untilNul l) × (used ≡ reach p (n + 1))
+found-ends l p e = subst (TextEnds l p) (sym e) (text-ends l p)

@@ -10,11 +10,15 @@ use lib.ListN.{length, drop}
 abbrev pub special : ℕ → Bool
 special b = cond (eqb b 0) true (ltb 0x7F b)
 
--- how many bytes stand before the first special one; all of them where there is none
-abbrev pub plainOf : List ℕ → ℕ
-plainOf [] = 0
-plainOf (b ∷ l) = cond (special b) 0 (suc (plainOf l))
+-- a NUL
+abbrev pub nul : ℕ → Bool
+nul b = eqb b 0
 
--- none of the first n bytes is special
-abbrev pub Passed : ℕ → List ℕ → Type 0
-Passed n l = (n ≤ length l) × (plainOf l ≡ n + plainOf (drop n l))
+-- how many bytes stand before the first that is as f says; all of them where there is none
+abbrev pub countTo : (ℕ → Bool) → List ℕ → ℕ
+countTo f [] = 0
+countTo f (b ∷ l) = cond (f b) 0 (suc (countTo f l))
+
+-- none of the first n bytes is as f says
+abbrev pub Passed : (ℕ → Bool) → ℕ → List ℕ → Type 0
+Passed f n l = (n ≤ length l) × (countTo f l ≡ n + countTo f (drop n l))

@@ -35,6 +35,15 @@ readText l p =
     (Lacks (Padding (p + untilNul l + 1))))
     (Lacks Nul)
 
+-- one for a byte that is not zero
+abbrev pub dirtOfByte : ℕ → ℕ
+dirtOfByte b = cond (eqb b 0) 0 1
+
+-- how many of these bytes are not zero (document 02, Ticket 8: "how many padding bytes were not zero")
+abbrev pub nonZero : List ℕ → ℕ
+nonZero [] = 0
+nonZero (b ∷ l) = dirtOfByte b + nonZero l
+
 -- the fault of a text at position p that is this field: "a missing NUL belongs to its text", and padding is a field of its own (Ticket 2)
 abbrev pub faultIn : Field → ℕ → Lack → Fault
 faultIn field p Nul = Short field p

@@ -2,12 +2,14 @@
 use refusal::Fault;
 use refusal::Field;
 ghost use mathlib.Core.Path.{_≡_};
+ghost use mathlib.Core.Bool.{true, false};
 ghost use Prim.Native.Nat.{_+_, _≤_};
 ghost use lib.Dec.{ltb};
 ghost use lib.ListN.{length};
 ghost use Rattle.wire.specs.Limits.{longest};
-ghost use Rattle.text.specs.CodePlain.{special, plainOf, Passed};
-ghost use Rattle.text.specs.Text.{untilNul, readText, faultIn};
+ghost use Rattle.text.specs.CodeFound.{TextFound};
+ghost use Rattle.text.specs.CodePlain.{special, nul, countTo, Passed};
+ghost use Rattle.text.specs.Text.{untilNul, reach, readText, dirtOfByte, nonZero, faultIn};
 
 // What a text lacks.
 pub enum Lack {
@@ -24,6 +26,12 @@ pub enum Text {
     // The text has `length` bytes and takes `used` of the input, NUL and padding with it.
     Found { length: usize, used: usize },
     Lacks(Lack),
+}
+
+// Where a text that was found before ends: its `length`, and what it takes of the input, NUL and padding with it.
+pub struct FoundText {
+    pub length: usize,
+    pub used: usize,
 }
 
 // The fault that a packet has by a text at `pos` that is this field and lacks something: a missing NUL belongs to its text.
@@ -52,14 +60,14 @@ fn is_special(byte: u8) -> bool
     0x7F < byte
 }
 
-// Whether one of the first `n` bytes is special. With no early exit, the compiled test takes all of them at once.
-fn any_special(input: &[u8], n: usize) -> bool
-    requires { ⌜ n ≤ length (now input) ⌝ }
-    ensures { λ r. ⌜ r ≡ ltb (plainOf (now (input .entry))) n ⌝ }
+// Whether one of the first 16 bytes is special. With no early exit, the compiled test takes all of them at once.
+fn any_special(input: &[u8]) -> bool
+    requires { ⌜ 16 ≤ length (now input) ⌝ }
+    ensures { λ r. ⌜ r ≡ ltb (countTo special (now (input .entry))) 16 ⌝ }
 {
     let mut any = false;
     let mut i = 0;
-    while i < n {
+    while i < 16 {
         if is_special(input[i]) {
             any = true;
         }
@@ -68,42 +76,103 @@ fn any_special(input: &[u8], n: usize) -> bool
     any
 }
 
-// How many bytes may be passed over, `n` at a time: none of them is special.
-fn skip(input: &[u8], n: usize) -> usize
-    requires { ⌜ 1 ≤ n ⌝ }
-    ensures { λ r. ⌜ Passed r (now (input .entry)) ⌝ }
+// How many bytes may be passed over, 16 at a time: none of them is special.
+fn skip_plain(input: &[u8]) -> usize
+    ensures { λ r. ⌜ Passed special r (now (input .entry)) ⌝ }
 {
     let mut at = 0;
-    while n <= input.len() - at {
-        if any_special(&input[at..], n) {
+    while 16 <= input.len() - at {
+        if any_special(&input[at..]) {
             return at;
         }
-        at += n;
+        at += 16;
     }
     at
 }
 
-// How many bytes stand before the first special one; all of them where there is none. They are passed over 16, 4 and 1 at a time.
-fn count_plain(input: &[u8]) -> usize
-    ensures { λ r. ⌜ (r ≤ length (now (input .entry))) × (r ≡ plainOf (now (input .entry))) ⌝ }
+// Where the first special byte stands, from `start` on, one byte at a time; the end where there is none.
+fn count_few(input: &[u8], start: usize) -> usize
+    requires { ⌜ Passed special start (now input) ⌝ }
+    ensures { λ r. ⌜ (r ≤ length (now (input .entry))) × (r ≡ countTo special (now (input .entry))) ⌝ }
 {
-    let front = skip(input, 16);
-    let rest = &input[front..];
-    let mut at = skip(rest, 4);
-    while at < rest.len() {
-        if is_special(rest[at]) {
-            return front + at;
+    let mut at = start;
+    while at < input.len() {
+        if is_special(input[at]) {
+            return at;
         }
         at += 1;
     }
-    front + at
+    at
 }
 
-// How many bytes stand before the first NUL; all of them where there is none.
-fn until_nul(input: &[u8]) -> usize
-    ensures { λ r. ⌜ (r ≤ length (now (input .entry))) × (r ≡ untilNul (now (input .entry))) ⌝ }
+// The same, with one test of the end for four bytes: most texts are short, and this takes half as long.
+fn count_by_four(input: &[u8], start: usize) -> usize
+    requires { ⌜ Passed special start (now input) ⌝ }
+    ensures { λ r. ⌜ (r ≤ length (now (input .entry))) × (r ≡ countTo special (now (input .entry))) ⌝ }
 {
-    let mut i = 0;
+    let mut at = start;
+    while 4 <= input.len() - at {
+        if is_special(input[at]) {
+            return at;
+        }
+        if is_special(input[at + 1]) {
+            return at + 1;
+        }
+        if is_special(input[at + 2]) {
+            return at + 2;
+        }
+        if is_special(input[at + 3]) {
+            return at + 3;
+        }
+        at += 4;
+    }
+    count_few(input, at)
+}
+
+// How many bytes stand before the first special one; all of them where there is none. They are passed over 16, 4 and 1 at a time.
+fn count_plain(input: &[u8]) -> usize
+    ensures { λ r. ⌜ (r ≤ length (now (input .entry))) × (r ≡ countTo special (now (input .entry))) ⌝ }
+{
+    let front = skip_plain(input);
+    count_by_four(input, front)
+}
+
+// Whether one of the first 16 bytes is NUL: all of them at once, as above.
+fn any_nul(input: &[u8]) -> bool
+    requires { ⌜ 16 ≤ length (now input) ⌝ }
+    ensures { λ r. ⌜ r ≡ ltb (countTo nul (now (input .entry))) 16 ⌝ }
+{
+    let mut any = false;
+    let mut seen = 0;
+    while seen < 16 {
+        if input[seen] == 0 {
+            any = true;
+        }
+        seen += 1;
+    }
+    any
+}
+
+// How many bytes may be passed over, 16 at a time: none of them is NUL.
+fn skip_to_nul(input: &[u8]) -> usize
+    ensures { λ r. ⌜ Passed nul r (now (input .entry)) ⌝ }
+{
+    let mut passed = 0;
+    while 16 <= input.len() - passed {
+        if any_nul(&input[passed..]) {
+            return passed;
+        }
+        passed += 16;
+    }
+    passed
+}
+
+// Where the first NUL stands, from `start` on, one byte at a time; the end where there is none.
+fn nul_in_few(input: &[u8], start: usize) -> usize
+    requires { ⌜ Passed nul start (now input) ⌝ }
+    ensures { λ r. ⌜ (r ≤ length (now (input .entry))) × (r ≡ countTo nul (now (input .entry))) ⌝ }
+{
+    let mut i = start;
     while i < input.len() {
         if input[i] == 0 {
             return i;
@@ -113,8 +182,127 @@ fn until_nul(input: &[u8]) -> usize
     i
 }
 
+// The same, with one test of the end for four bytes.
+fn nul_by_four(input: &[u8], start: usize) -> usize
+    requires { ⌜ Passed nul start (now input) ⌝ }
+    ensures { λ r. ⌜ (r ≤ length (now (input .entry))) × (r ≡ countTo nul (now (input .entry))) ⌝ }
+{
+    let mut i = start;
+    while 4 <= input.len() - i {
+        if input[i] == 0 {
+            return i;
+        }
+        if input[i + 1] == 0 {
+            return i + 1;
+        }
+        if input[i + 2] == 0 {
+            return i + 2;
+        }
+        if input[i + 3] == 0 {
+            return i + 3;
+        }
+        i += 4;
+    }
+    nul_in_few(input, i)
+}
+
+// How many bytes stand before the first NUL; all of them where there is none. They are passed over 16, 4 and 1 at a time.
+fn until_nul(input: &[u8]) -> usize
+    ensures { λ r. ⌜ (r ≤ length (now (input .entry))) × (r ≡ untilNul (now (input .entry))) ⌝ }
+{
+    let front = skip_to_nul(input);
+    nul_by_four(input, front)
+}
+
+// One for a byte that is not zero, and none for one that is.
+fn dirt_in(byte: u8) -> usize
+    ensures { λ r. ⌜ (r ≤ 1) × (r ≡ dirtOfByte byte) ⌝ }
+{
+    if byte == 0 {
+        return 0;
+    }
+    1
+}
+
+// Whether at most three bytes are all zero.
+fn are_zeros(padding: &[u8]) -> bool
+    requires { ⌜ length (now padding) ≤ 3 ⌝ }
+    ensures { λ r. ⌜ (r ≡ true → nonZero (now (padding .entry)) ≡ 0) × (r ≡ false → 1 ≤ length (now (padding .entry))) ⌝ }
+{
+    let n = padding.len();
+    if n == 0 {
+        return true;
+    }
+    if padding[0] != 0 {
+        return false;
+    }
+    if n == 1 {
+        return true;
+    }
+    if padding[1] != 0 {
+        return false;
+    }
+    if n == 2 {
+        return true;
+    }
+    padding[2] == 0
+}
+
+// How many bytes of padding are not zero. A text's padding is what it takes after its NUL. There are at most 3 of them, and almost always
+// all are zero: so that is asked first, and there is no loop, which would be compiled for many bytes and took three times as long.
+//
+// Ruled out: the first such byte alone counted; the bytes that are zero counted.
+pub fn dirty_in(padding: &[u8]) -> usize
+    requires { ⌜ length (now padding) ≤ 3 ⌝ }
+    ensures { λ r. ⌜ (r ≤ 3) × (r ≡ nonZero (now (padding .entry))) ⌝ }
+{
+    if are_zeros(padding) {
+        return 0;
+    }
+    let n = padding.len();
+    let first = dirt_in(padding[0]);
+    if n == 1 {
+        return first;
+    }
+    let two = first + dirt_in(padding[1]);
+    if n == 2 {
+        return two;
+    }
+    two + dirt_in(padding[2])
+}
+
+// How many bytes a text of `n` bytes at `pos` takes, NUL and padding with it: up to a multiple of 4 of the call's input.
+fn taken_by(pos: usize, n: usize) -> usize
+    requires { ⌜ pos + n ≤ longest ⌝ }
+    ensures { λ r. ⌜ r ≡ reach pos (n + 1) ⌝ }
+{
+    (pos + n + 4) / 4 * 4 - pos
+}
+
+// Any text, of which `plain` bytes stand before the first special one and need no UTF-8 test.
+fn read_other(input: &[u8], pos: usize, plain: usize) -> Text
+    requires { ⌜ pos + length (now input) ≤ longest ⌝ }
+    requires { ⌜ (plain ≤ length (now input)) × (plain ≡ countTo special (now input)) ⌝ }
+    ensures { λ r. ⌜ r ≡ readText (now (input .entry)) pos ⌝ }
+{
+    let length = plain + until_nul(&input[plain..]);
+    if length == input.len() {
+        return Text::Lacks(Lack::Nul);
+    }
+    let used = taken_by(pos, length);
+    if input.len() < used {
+        let at = pos + length + 1;
+        return Text::Lacks(Lack::Padding { at });
+    }
+    if utf8::is_utf8(&input[plain..length]) {
+        return Text::Found { length, used };
+    }
+    Text::Lacks(Lack::Utf8)
+}
+
 // The text at the front of `input`, whose first byte stands at `pos` of the call's input: padding counts from there, and not
-// from the front of `input`.
+// from the front of `input`. Almost every text is plain and whole, and is found at once. What `read_other` gives is held in a local:
+// compiled so, a text that is found at once is not first made in memory that the call would fill, and copied from there.
 //
 // Ruled out: `Lack::Utf8` for a text whose padding is missing too; padding looked at, so that a byte other than 0 is refused.
 pub fn read_osc_string(input: &[u8], pos: usize) -> Text
@@ -122,23 +310,33 @@ pub fn read_osc_string(input: &[u8], pos: usize) -> Text
     ensures { λ r. ⌜ r ≡ readText (now (input .entry)) pos ⌝ }
 {
     let plain = count_plain(input);
-    let length = plain + until_nul(&input[plain..]);
-    if length == input.len() {
-        return Text::Lacks(Lack::Nul);
+    let whole = taken_by(pos, plain);
+    if input.len() < whole {
+        let other = read_other(input, pos, plain);
+        return other;
     }
-    let used = (pos + length + 4) / 4 * 4 - pos;
-    if input.len() < used {
-        let at = pos + length + 1;
-        return Text::Lacks(Lack::Padding { at });
+    if input[plain] != 0 {
+        let other = read_other(input, pos, plain);
+        return other;
     }
-    if length == plain {
-        return Text::Found {
-            length: plain,
-            used,
-        };
+    Text::Found {
+        length: plain,
+        used: whole,
     }
-    if utf8::is_utf8(&input[plain..length]) {
-        return Text::Found { length, used };
+}
+
+// The text at the front of `input`, where it was found before: only its NUL is looked for, and no byte is judged again.
+//
+// Ruled out: the NUL counted as a byte of the text; padding that counts from the front of `input`.
+pub fn find_osc_string(input: &[u8], pos: usize) -> FoundText
+    requires { ⌜ pos + length (now input) ≤ longest ⌝ }
+    requires { ⌜ TextFound (now input) pos ⌝ }
+    ensures { λ r. ⌜ readText (now (input .entry)) pos ≡ Text.Found (r .length) (r .used) ⌝ }
+{
+    let length = until_nul(input);
+    let taken = taken_by(pos, length);
+    FoundText {
+        length,
+        used: taken,
     }
-    Text::Lacks(Lack::Utf8)
 }

@@ -2,7 +2,7 @@
 use mathlib.Core.Path.{_≡_, refl, ap, sym, _∙_, subst}
 use mathlib.Core.Bool.{Bool, true, false, cond}
 use mathlib.Core.List.{List, [], _∷_}
-use Prim.Native.Nat.{ℕ, _+_, _-_, _<_, _≤_, max}
+use Prim.Native.Nat.{ℕ, _+_, _-_, _*_, _<_, _≤_, max}
 use native.Mathlib.Nat.{zero-add, add-assoc}
 use native.Mathlib.Omega.{arith}
 use borrow.Author.Tests.{le-leb, lt-leb, leb-true, leb-false}
@@ -19,7 +19,11 @@ use Rattle.node.specs.declared.record.Item.{Item}
 use Rattle.heads.specs.Heads.{prefixOf}
 use Rattle.packet.specs.Packet.{fault, one, readPacket}
 use Rattle.heads.specs.declared.Prefix.the-variants as prefix
-use Rattle.measure.specs.CodeMeasure.{extent}
+use Rattle.argument.specs.CodeParts.{StandsAt}
+use Rattle.argument.specs.Dirt.{packetsPadding, dirtyIn}
+use Rattle.argument.proofs.Pads.{packets-join, dirt-few}
+use Rattle.argument.proofs.Stands.{stands-rest}
+use Rattle.measure.specs.CodeMeasure.{extent, nodeDirt}
 use Rattle.measure.specs.declared.Extent.{Extent}
 use Rattle.measure.specs.declared.Extent.the-variants.{Tree, Deep, Refused}
 use Rattle.measure.proofs.Extents.{extent-after, max-low}
@@ -31,28 +35,30 @@ use Rattle.totals.specs.declared.FrameExtent.the-variants.{Waiting, Pack
 use Rattle.totals.specs.declared.Total.{Total}
 use Rattle.totals.specs.declared.Total.the-variants as total
 use Rattle.totals.proofs.FrameKnot.{FrameIn, frame-in, frames-eq}
+use Rattle.totals.proofs.FrameStarts.{FrameStarts, frame-starts}
 
 -- ---- one frame
 
 module _ (base : ℕ) (l : List ℕ) where
   -- a frame that is ready has the extent of its packet, which stands at 4
-  pub frame-ready : {r : Extent} (limit : ℕ) (rest : List ℕ) → prefix.Ready ≡ prefixOf l → rest ≡ drop 4 l
-      → r ≡ extent limit 4 (readPacket base rest 4) → Packet r ≡ frameExtent limit (readFrame base l)
+  pub frame-ready : {r : Extent} (limit : ℕ) (dirt : Item → Forest → ℕ) (rest : List ℕ) → prefix.Ready ≡ prefixOf l → rest ≡ drop 4 l
+      → r ≡ extent limit 4 dirt (readPacket base rest 4) → Packet r ≡ frameExtent limit dirt (readFrame base l)
   unfolding readFrame
-  frame-ready {r} limit rest e s g =
-      let is : r ≡ extent limit 4 (readPacket base (drop 4 l) 4) = rw s at g in
-      ap Packet (is ∙ extent-after limit 0 4 (readPacket base (drop 4 l) 4)) ∙ ap (λ x. frameExtent limit (frameWith base l x)) e
+  frame-ready {r} limit dirt rest e s g =
+      let is : r ≡ extent limit 4 dirt (readPacket base (drop 4 l) 4) = rw s at g in
+      ap Packet (is ∙ extent-after limit 0 4 dirt (readPacket base (drop 4 l) 4)) ∙ ap (λ x. frameExtent limit dirt (frameWith base l x)) e
 
   -- a frame that is not all there waits
-  pub frame-waits : (limit : ℕ) → prefix.Waiting ≡ prefixOf l → Waiting ≡ frameExtent limit (readFrame base l)
+  pub frame-waits : (limit : ℕ) (dirt : Item → Forest → ℕ) → prefix.Waiting ≡ prefixOf l
+      → Waiting ≡ frameExtent limit dirt (readFrame base l)
   unfolding readFrame
-  frame-waits limit e = ap (λ x. frameExtent limit (frameWith base l x)) e
+  frame-waits limit dirt e = ap (λ x. frameExtent limit dirt (frameWith base l x)) e
 
   -- a prefix that is not all there is refused
-  pub frame-runs-out : (limit : ℕ) → prefix.RunsOut ≡ prefixOf l → Packet (Refused (Short Head 0))
-      ≡ frameExtent limit (readFrame base l)
+  pub frame-runs-out : (limit : ℕ) (dirt : Item → Forest → ℕ) → prefix.RunsOut ≡ prefixOf l
+      → Packet (Refused (Short Head 0)) ≡ frameExtent limit dirt (readFrame base l)
   unfolding readFrame extent
-  frame-runs-out limit e = ap (λ x. frameExtent limit (frameWith base l x)) e
+  frame-runs-out limit dirt e = ap (λ x. frameExtent limit dirt (frameWith base l x)) e
 
 module _ (base : ℕ) (l : List ℕ) where
   -- ---- the list after a frame
@@ -90,89 +96,101 @@ frames-tree {item} {u} {f} base l e = frames-by base l e ∙ ends (leb (length l
 
 -- ---- counting
 
-total-before : (limit : ℕ) (item : Item) (f : Forest) (w : Whole)
-    → totalOf limit (before item f w) ≡ cond (leb (level (item .kind) (depth f)) limit) (added (1 + size f) false (totalOf limit w))
-    (added 0 true (totalOf limit w))
+total-before : (limit : ℕ) (dirt : Forest → ℕ) (item : Item) (f : Forest) (d : ℕ) → ((g : Forest) → dirt (node item f g) ≡ d + dirt g)
+    → (w : Whole)
+    → totalOf limit dirt (before item f w) ≡ cond (leb (level (item .kind) (depth f)) limit)
+    (added (1 + size f) d false (totalOf limit dirt w))
+    (added 0 0 true (totalOf limit dirt w))
 unfolding size depth
-total-before limit item f waiting =
+total-before limit dirt item f d e waiting =
     by-test (λ (x : Total). total.Waiting ≡ x) (leb (level (item .kind) (depth f)) limit) (λ _. refl) (λ _. refl)
-total-before limit item f (refusal j) =
+total-before limit dirt item f d e (refusal j) =
     by-test (λ (x : Total). total.Refused j ≡ x) (leb (level (item .kind) (depth f)) limit) (λ _. refl) (λ _. refl)
-total-before limit item f (trees g left) =
-    by-le (λ (x : Total). totalOf limit (trees (node item f g) left) ≡ x) (level (item .kind) (depth f)) limit
-    (λ h. rw (max-low (level (item .kind) (depth f)) (depth g) limit h)
-    (by-both (λ (x y : Total). x ≡ added (1 + size f) false y) (leb (depth g) limit) refl refl))
+total-before limit dirt item f d e (trees g left) =
+    by-le (λ (x : Total). totalOf limit dirt (trees (node item f g) left) ≡ x) (level (item .kind) (depth f)) limit
+    (λ h. rw (max-low (level (item .kind) (depth f)) (depth g) limit h, e g)
+    (by-both (λ (x y : Total). x ≡ added (1 + size f) d false y) (leb (depth g) limit) refl refl))
     (λ h. let over : limit < max (level (item .kind) (depth f)) (depth g) = omega arith in rw (lt-leb _ _ over)
-    (by-test (λ (x : Total). total.Deep ≡ added 0 true x) (leb (depth g) limit) (λ _. refl) (λ _. refl)))
+    (by-test (λ (x : Total). total.Deep ≡ added 0 0 true x) (leb (depth g) limit) (λ _. refl) (λ _. refl)))
 
-added-none : (x : Total) → added 0 false x ≡ x
-added-none (total.Trees n left) = rw zero-add
+added-none : (x : Total) → added 0 0 false x ≡ x
+added-none (total.Trees n left dirty) = rw (zero-add n, zero-add dirty)
 added-none total.Deep = refl
 added-none total.Waiting = refl
 added-none (total.Refused k) = refl
 
-added-more : (c n : ℕ) (deep : Bool) (x : Total) → added c deep (added n false x) ≡ added (c + n) deep x
-added-more c n true (total.Trees m left) = refl
-added-more c n false (total.Trees m left) = rw add-assoc
-added-more c n true total.Deep = refl
-added-more c n false total.Deep = refl
-added-more c n true total.Waiting = refl
-added-more c n false total.Waiting = refl
-added-more c n true (total.Refused k) = refl
-added-more c n false (total.Refused k) = refl
+added-more : (c d n e : ℕ) (deep : Bool) (x : Total) → added c d deep (added n e false x) ≡ added (c + n) (d + e) deep x
+added-more c d n e true (total.Trees m left dirty) = refl
+added-more c d n e false (total.Trees m left dirty) = rw (add-assoc c n m, add-assoc d e dirty)
+added-more c d n e true total.Deep = refl
+added-more c d n e false total.Deep = refl
+added-more c d n e true total.Waiting = refl
+added-more c d n e false total.Waiting = refl
+added-more c d n e true (total.Refused k) = refl
+added-more c d n e false (total.Refused k) = refl
 
-added-deep : (c n : ℕ) (deep : Bool) (x : Total) → added c deep (added n true x) ≡ added c true x
-added-deep c n true (total.Trees m left) = refl
-added-deep c n false (total.Trees m left) = refl
-added-deep c n true total.Deep = refl
-added-deep c n false total.Deep = refl
-added-deep c n true total.Waiting = refl
-added-deep c n false total.Waiting = refl
-added-deep c n true (total.Refused k) = refl
-added-deep c n false (total.Refused k) = refl
+added-deep : (c d n e : ℕ) (deep : Bool) (x : Total) → added c d deep (added n e true x) ≡ added c d true x
+added-deep c d n e true (total.Trees m left dirty) = refl
+added-deep c d n e false (total.Trees m left dirty) = refl
+added-deep c d n e true total.Deep = refl
+added-deep c d n e false total.Deep = refl
+added-deep c d n e true total.Waiting = refl
+added-deep c d n e false total.Waiting = refl
+added-deep c d n e true (total.Refused k) = refl
+added-deep c d n e false (total.Refused k) = refl
 
-no-trees : (limit left : ℕ) → total.Trees 0 left ≡ totalOf limit (trees nil left)
-unfolding size depth
-no-trees limit left = rw (leb·zero limit)
+no-trees : (limit : ℕ) (msg : List ℕ) (left : ℕ) → total.Trees 0 left 0 ≡ totalOf limit (dirtyIn msg) (trees nil left)
+unfolding size depth packetsPadding
+no-trees limit msg left = rw (leb·zero limit)
 
-module _ (limit base : ℕ) (l : List ℕ) (c : ℕ) (deep : Bool) where
-  -- the total after c records and perhaps a frame that was too deep, by what the next frame is read as
+-- a packet before others adds its own dirt, in the frame that it tells
+dirt-before : (base : ℕ) (msg : List ℕ) (item : Item) (f g : Forest) → item .start - 4 ≡ base
+    → dirtyIn msg (node item f g) ≡ nodeDirt base msg item f + dirtyIn msg g
+dirt-before base msg item f g e = rw (← e) (packets-join msg item f g)
+
+module _ (limit base : ℕ) (msg l : List ℕ) (c d : ℕ) (deep : Bool) where
+  -- the total of a list, with c records, so much dirt and perhaps a frame that was too deep before it
+  abbrev withTotal : Whole → Total
+  withTotal w = added c d deep (totalOf limit (dirtyIn msg) w)
+
+  -- the same by what the next frame is read as
   abbrev onwardPacket : Extent → Total
-  onwardPacket (Tree n next) = added (c + n) deep (totalOf limit (following base l next))
-  onwardPacket (Deep next) = added c true (totalOf limit (following base l next))
+  onwardPacket (Tree n next x) = added (c + n) (d + x) deep (totalOf limit (dirtyIn msg) (following base l next))
+  onwardPacket (Deep next) = added c d true (totalOf limit (dirtyIn msg) (following base l next))
   onwardPacket (Refused k) = total.Refused (movedBy base k)
 
   abbrev onward : FrameExtent → Total
-  onward Waiting = added c deep (total.Trees 0 (length l))
+  onward Waiting = added c d deep (total.Trees 0 (length l) 0)
   onward (Packet x) = onwardPacket x
 
-  by-frame : (x : Frame) → readFrame base l ≡ x → added c deep (totalOf limit (readFrames base l)) ≡ onward (frameExtent limit x)
+  by-frame : (x : Frame) → readFrame base l ≡ x → FrameStarts base x
+      → withTotal (readFrames base l) ≡ onward (frameExtent limit (nodeDirt base msg) x)
   unfolding extent
-  by-frame wait e = ap (λ (w : Whole). added c deep (totalOf limit w)) (frames-by base l e)
-      ∙ ap (added c deep) (sym (no-trees limit (length l)))
-  by-frame (read (fault k)) e = ap (λ (w : Whole). added c deep (totalOf limit w)) (frames-by base l e) ∙ added-refused deep
+  by-frame wait e s = ap withTotal (frames-by base l e) ∙ ap (added c d deep) (sym (no-trees limit msg (length l)))
+  by-frame (read (fault k)) e s = ap withTotal (frames-by base l e) ∙ added-refused deep
     where
-      added-refused : (t : Bool) → added c t (total.Refused (movedBy base k)) ≡ total.Refused (movedBy base k)
+      added-refused : (t : Bool) → added c d t (total.Refused (movedBy base k)) ≡ total.Refused (movedBy base k)
       added-refused true = refl
       added-refused false = refl
-  by-frame (read (one item f u)) e =
-      ap (λ (w : Whole). added c deep (totalOf limit w)) (frames-tree base l e)
-      ∙ ap (added c deep) (total-before limit item f (following base l u))
-      ∙ rw (zero-add u) (by-both (λ (x : Total) (y : Extent). added c deep x ≡ onwardPacket y) (leb (level (item .kind) (depth f)) limit)
-      (added-more c (1 + size f) deep (totalOf limit (following base l u)))
-      (added-deep c 0 deep (totalOf limit (following base l u))))
+  by-frame (read (one item f u)) e s =
+      ap withTotal (frames-tree base l e)
+      ∙ ap (added c d deep) (total-before limit (dirtyIn msg) item f (nodeDirt base msg item f) (λ g. dirt-before base msg item f g s)
+      (following base l u))
+      ∙ rw (zero-add u) (by-both (λ (x : Total) (y : Extent). added c d deep x ≡ onwardPacket y) (leb (level (item .kind) (depth f)) limit)
+      (added-more c d (1 + size f) (nodeDirt base msg item f) deep (totalOf limit (dirtyIn msg) (following base l u)))
+      (added-deep c d 0 0 deep (totalOf limit (dirtyIn msg) (following base l u))))
 
-  next-frame : {x : FrameExtent} → 0 < length l → x ≡ frameExtent limit (readFrame base l)
-      → added c deep (totalOf limit (remaining base l)) ≡ onward x
+  next-frame : {x : FrameExtent} → 0 < length l → x ≡ frameExtent limit (nodeDirt base msg) (readFrame base l)
+      → withTotal (remaining base l) ≡ onward x
   next-frame some h =
-      ap (λ (w : Whole). added c deep (totalOf limit w)) (remaining-list base l some) ∙ by-frame (readFrame base l) refl ∙ ap onward (sym h)
+      ap withTotal (remaining-list base l some) ∙ by-frame (readFrame base l) refl (frame-starts base l) ∙ ap onward (sym h)
 
-  no-frame : length l ≤ 0 → added c deep (total.Trees 0 0) ≡ added c deep (totalOf limit (remaining base l))
-  no-frame none = ap (added c deep) (no-trees limit 0 ∙ ap (totalOf limit) (sym (remaining-none base l none)))
+  no-frame : length l ≤ 0 → added c d deep (total.Trees 0 0 0) ≡ withTotal (remaining base l)
+  no-frame none = ap (added c d deep) (no-trees limit msg 0 ∙ ap (totalOf limit (dirtyIn msg)) (sym (remaining-none base l none)))
 
--- a frame that was measured lies within its input
+-- a frame that was measured lies within its input, and its dirt is small
 abbrev PacketIn : ℕ → Extent → Type 0
-PacketIn m (Tree n next) = (n + 4 ≤ next) × (next ≤ m)
+PacketIn m (Tree n next x) = (n + 4 ≤ next) × (next ≤ m) × (x ≤ 6 * n)
 PacketIn m (Deep next) = (4 ≤ next) × (next ≤ m)
 PacketIn m (Refused k) = faultOffset k ≤ m
 
@@ -180,90 +198,99 @@ abbrev FrameExtentIn : ℕ → FrameExtent → Type 0
 FrameExtentIn m Waiting = Unit {0}
 FrameExtentIn m (Packet x) = PacketIn m x
 
-frame-extent-in : (limit m : ℕ) (x : Frame) → FrameIn m x → FrameExtentIn m (frameExtent limit x)
-unfolding extent
-frame-extent-in limit m wait w = tt
-frame-extent-in limit m (read (fault k)) w = w
-frame-extent-in limit m (read (one item f u)) w =
-    by-test (PacketIn m) (leb (level (item .kind) (depth f)) limit) (λ _. omega arith) (λ _. omega arith)
+frame-extent-in : (limit m base : ℕ) (msg : List ℕ) (x : Frame) → FrameIn m x → FrameExtentIn m (frameExtent limit (nodeDirt base msg) x)
+unfolding extent size
+frame-extent-in limit m base msg wait w = tt
+frame-extent-in limit m base msg (read (fault k)) w = w
+frame-extent-in limit m base msg (read (one item f u)) w =
+    by-test (PacketIn m) (leb (level (item .kind) (depth f)) limit)
+    (λ _. (omega arith, omega arith, omega (arith, dirt-few base msg (node item f nil)))) (λ _. omega arith)
 
 -- a packet that was measured takes its prefix, and lies in its frame
-packet-extent-in : {x : Extent} (limit base : ℕ) (l : List ℕ) → Packet x ≡ frameExtent limit (readFrame base l) → PacketIn (length l) x
-packet-extent-in limit base l e =
-    subst (FrameExtentIn (length l)) (sym e) (frame-extent-in limit (length l) (readFrame base l) (frame-in base l))
+packet-extent-in : {x : Extent} (limit base : ℕ) (msg l : List ℕ) → Packet x ≡ frameExtent limit (nodeDirt base msg) (readFrame base l)
+    → PacketIn (length l) x
+packet-extent-in limit base msg l e =
+    subst (FrameExtentIn (length l)) (sym e) (frame-extent-in limit (length l) base msg (readFrame base l) (frame-in base l))
 
 -- ---- the loop
 
--- the frames of msg have c records so far, one of them perhaps too deep, and those from `at` on are left
-pub record Totalling (limit : ℕ) (msg : List ℕ) (at c : ℕ) (deep : Bool) : Type 0 where
+-- the frames of msg have c records and so much dirt so far, one of them is perhaps too deep, and those from `at` on are left
+pub record Totalling (limit : ℕ) (msg : List ℕ) (at c d : ℕ) (deep : Bool) : Type 0 where
   pub few : c ≤ at
+  pub clean : d ≤ 6 * at
   pub here : at ≤ length msg
-  pub whole : totalOf limit (tcpVec msg) ≡ added c deep (totalOf limit (remaining at (drop at msg)))
+  pub whole : totalOf limit (dirtyIn msg) (tcpVec msg) ≡ added c d deep (totalOf limit (dirtyIn msg) (remaining at (drop at msg)))
 
 -- before the first frame
-pub totalling-start : (limit : ℕ) (msg : List ℕ) → (length msg ≡ 0 → ⊥) → Totalling limit msg 0 0 false
+pub totalling-start : (limit : ℕ) (msg : List ℕ) → (length msg ≡ 0 → ⊥) → Totalling limit msg 0 0 0 false
 unfolding tcpVec
 totalling-start limit msg h =
     record {
       few = omega arith;
+      clean = omega arith;
       here = omega arith;
-      whole = sym (added-none _ ∙ ap (totalOf limit) (remaining-list 0 msg (omega arith)));
+      whole = sym (added-none _ ∙ ap (totalOf limit (dirtyIn msg)) (remaining-list 0 msg (omega arith)));
     }
 
 -- an empty input is refused
 pub empty-list : (limit : ℕ) (msg : List ℕ) → length msg ≡ 0
-    → total.Refused (Short Head 0) ≡ totalOf limit (tcpVec msg)
+    → total.Refused (Short Head 0) ≡ totalOf limit (dirtyIn msg) (tcpVec msg)
 unfolding tcpVec readFrames framesAt readFrame prefixOf
 empty-list limit [] h = refl
 empty-list limit (x ∷ msg) h = absurd (omega arith)
 
-module _ (limit : ℕ) (msg : List ℕ) (at c : ℕ) (deep : Bool) (w : Totalling limit msg at c deep) where
+module _ (limit : ℕ) (msg : List ℕ) (at c d : ℕ) (deep : Bool) (w : Totalling limit msg at c d deep) where
   -- after the last frame
-  pub totalling-end : length msg ≤ at → {r : Total} → r ≡ added c deep (total.Trees 0 0) → r ≡ totalOf limit (tcpVec msg)
-  totalling-end h e = e ∙ no-frame limit at (drop at msg) c deep (omega (arith, length-drop at msg)) ∙ sym (w .whole)
+  pub totalling-end : length msg ≤ at → {r : Total} → r ≡ added c d deep (total.Trees 0 0 0) → r ≡ totalOf limit (dirtyIn msg) (tcpVec msg)
+  totalling-end h e = e ∙ no-frame limit at msg (drop at msg) c d deep (omega (arith, length-drop at msg)) ∙ sym (w .whole)
 
   module _ {rest : List ℕ} {x : FrameExtent} (some : at < length msg) (s : rest ≡ drop at msg)
-      (e : x ≡ frameExtent limit (readFrame at rest)) where
-    frame-here : x ≡ frameExtent limit (readFrame at (drop at msg))
-    frame-here = rw s at e
+      (f : (base : ℕ) (m : List ℕ) → StandsAt m base rest → x ≡ frameExtent limit (nodeDirt base m) (readFrame base rest)) where
+    frame-here : x ≡ frameExtent limit (nodeDirt at msg) (readFrame at (drop at msg))
+    frame-here = rw s at (f at msg (rw s (stands-rest msg at)))
 
-    by-next : totalOf limit (tcpVec msg) ≡ onward limit at (drop at msg) c deep x
-    by-next = w .whole ∙ next-frame limit at (drop at msg) c deep (omega (arith, length-drop at msg)) frame-here
+    by-next : totalOf limit (dirtyIn msg) (tcpVec msg) ≡ onward limit at msg (drop at msg) c d deep x
+    by-next = w .whole ∙ next-frame limit at msg (drop at msg) c d deep (omega (arith, length-drop at msg)) frame-here
 
-    next-turn : {n used : ℕ} {t : Bool} → n ≤ at + used → 4 ≤ used → used ≤ length (drop at msg)
-        → totalOf limit (tcpVec msg) ≡ added n t (totalOf limit (following at (drop at msg) used))
-        → ((4 ≤ used) × (at + used ≤ length msg)) × Totalling limit msg (at + used) n t
-    next-turn {n} {used} few four g i = (
+    next-turn : {n e used : ℕ} {t : Bool} → n ≤ at + used → e ≤ 6 * (at + used) → 4 ≤ used → used ≤ length (drop at msg)
+        → totalOf limit (dirtyIn msg) (tcpVec msg) ≡ added n e t (totalOf limit (dirtyIn msg) (following at (drop at msg) used))
+        → ((4 ≤ used) × (at + used ≤ length msg)) × Totalling limit msg (at + used) n e t
+    next-turn {n} {e} {used} few clean four g i = (
       (four, omega (arith, length-drop at msg)),
       record {
         few = few;
+        clean = clean;
         here = omega (arith, length-drop at msg);
         whole = i ∙ rw (drop-drop used at msg);
       },
     )
 
     -- after a frame that is a tree
-    pub totalling-tree : {n used : ℕ} → x ≡ Packet (Tree n used)
-        → ((4 ≤ used) × (at + used ≤ length msg)) × Totalling limit msg (at + used) (c + n) deep
-    totalling-tree {n} {used} z =
-        let v = packet-extent-in limit at (drop at msg) (sym z ∙ frame-here) in
-        next-turn (omega (arith, w .few)) (omega arith) (v .1) (by-next ∙ ap (onward limit at (drop at msg) c deep) z)
+    pub totalling-tree : {n used y : ℕ} → x ≡ Packet (Tree n used y)
+        → ((4 ≤ used) × (at + used ≤ length msg)) × Totalling limit msg (at + used) (c + n) (d + y) deep
+    totalling-tree {n} {used} {y} z =
+        let v = packet-extent-in limit at msg (drop at msg) (sym z ∙ frame-here) in
+        next-turn (omega (arith, w .few)) (omega (arith, v, w .clean)) (omega arith) (v .1)
+        (by-next ∙ ap (onward limit at msg (drop at msg) c d deep) z)
 
     -- after a frame that is too deep
     pub totalling-deep : {used : ℕ} → x ≡ Packet (Deep used)
-        → ((4 ≤ used) × (at + used ≤ length msg)) × Totalling limit msg (at + used) c true
+        → ((4 ≤ used) × (at + used ≤ length msg)) × Totalling limit msg (at + used) c d true
     totalling-deep {used} z =
-        let v = packet-extent-in limit at (drop at msg) (sym z ∙ frame-here) in
-        next-turn (omega (arith, w .few)) (v .0) (v .1) (by-next ∙ ap (onward limit at (drop at msg) c deep) z)
+        let v = packet-extent-in limit at msg (drop at msg) (sym z ∙ frame-here) in
+        next-turn (omega (arith, w .few)) (omega (arith, w .clean)) (v .0) (v .1)
+        (by-next ∙ ap (onward limit at msg (drop at msg) c d deep) z)
 
     -- at a frame that waits
-    pub totalling-waits : {r : Total} → x ≡ Waiting → r ≡ added c deep (total.Trees 0 (length msg - at)) → r ≡ totalOf limit (tcpVec msg)
-    totalling-waits z f = f ∙ sym (by-next ∙ ap (onward limit at (drop at msg) c deep) z ∙ rw (length-drop at msg))
+    pub totalling-waits : {r : Total} → x ≡ Waiting → r ≡ added c d deep (total.Trees 0 (length msg - at) 0)
+        → r ≡ totalOf limit (dirtyIn msg) (tcpVec msg)
+    totalling-waits z g = g ∙ sym (by-next ∙ ap (onward limit at msg (drop at msg) c d deep) z ∙ rw (length-drop at msg))
 
     -- the fault of a frame begins in the input or right after it
     pub totalling-low : {k : Fault} → x ≡ Packet (Refused k) → at + faultOffset k ≤ length msg
-    totalling-low z = omega (arith, packet-extent-in limit at (drop at msg) (sym z ∙ frame-here), length-drop at msg)
+    totalling-low z = omega (arith, packet-extent-in limit at msg (drop at msg) (sym z ∙ frame-here), length-drop at msg)
 
     -- at a frame that is refused: its offset is added to its fault's place
-    pub totalling-refused : {k j : Fault} → x ≡ Packet (Refused k) → j ≡ movedBy at k → total.Refused j ≡ totalOf limit (tcpVec msg)
-    totalling-refused z m = rw m (sym (by-next ∙ ap (onward limit at (drop at msg) c deep) z))
+    pub totalling-refused : {k j : Fault} → x ≡ Packet (Refused k) → j ≡ movedBy at k
+        → total.Refused j ≡ totalOf limit (dirtyIn msg) (tcpVec msg)
+    totalling-refused z m = rw m (sym (by-next ∙ ap (onward limit at msg (drop at msg) c d deep) z))

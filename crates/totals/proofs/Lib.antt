@@ -1,3 +1,4 @@
 pub mod FrameKnot
+pub mod FrameStarts
 pub mod FrameExtents
 pub mod Totals

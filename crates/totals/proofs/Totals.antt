@@ -1,7 +1,7 @@
 -- The first reading of one packet and of one frame as a whole input.
 use mathlib.Core.Path.{_≡_, refl, ap, sym, _∙_, subst}
 use mathlib.Core.List.{List}
-use Prim.Native.Nat.{ℕ, _+_, _≤_}
+use Prim.Native.Nat.{ℕ, _+_, _-_, _≤_}
 use native.Mathlib.Nat.{zero-add}
 use native.Mathlib.Omega.{arith}
 use lib.Dec.{leb}
@@ -11,7 +11,9 @@ use Rattle.node.specs.Forest.{Forest, nil, node, size, depth, level}
 use Rattle.node.specs.declared.record.Item.{Item}
 use Rattle.packet.specs.Packet.{Out, fault, one, readPacket}
 use Rattle.packet.proofs.Within.{Within, packet-in}
-use Rattle.measure.specs.CodeMeasure.{extent}
+use Rattle.argument.specs.Dirt.{dirtyIn}
+use Rattle.argument.proofs.Pads.{one-packet}
+use Rattle.measure.specs.CodeMeasure.{extent, nodeDirt}
 use Rattle.measure.specs.declared.Extent.{Extent}
 use Rattle.measure.specs.declared.Extent.the-variants.{Tree}
 use Rattle.totals.specs.Framing.{single, udp, Frame, wait, read, readFrame, first, tcp, ruleOf}
@@ -22,6 +24,7 @@ use Rattle.totals.specs.declared.FrameExtent.the-variants as frame
 use Rattle.totals.specs.declared.Total.{Total}
 use Rattle.totals.specs.declared.Total.the-variants as total
 use Rattle.totals.proofs.FrameKnot.{FrameIn, frame-in}
+use Rattle.totals.proofs.FrameStarts.{StartsSo, packet-starts-so, FrameStarts, frame-starts}
 
 one-tree : (item : Item) (f : Forest) → depth (node item f nil) ≡ level (item .kind) (depth f)
 unfolding depth
@@ -31,64 +34,74 @@ one-size : (item : Item) (f : Forest) → size (node item f nil) ≡ 1 + size f
 unfolding size
 one-size item f = omega arith
 
-total-single : (n limit : ℕ) (o : Out) → totalOfOne n (extent limit 0 o) ≡ totalOf limit (single n o)
+-- the dirt of one packet, in a frame that stands where its packet says
+one-dirt : (base : ℕ) (msg : List ℕ) (item : Item) (f : Forest) → item .start - 4 ≡ base
+    → dirtyIn msg (node item f nil) ≡ nodeDirt base msg item f
+one-dirt base msg item f e = rw (← e) (one-packet msg item f)
+
+total-single : (n limit base : ℕ) (msg : List ℕ) (o : Out) → StartsSo base o
+    → totalOfOne n (extent limit 0 (nodeDirt base msg) o) ≡ totalOf limit (dirtyIn msg) (single n o)
 unfolding extent
-total-single n limit (fault k) = refl
-total-single n limit (one item f u) =
-    rw (one-tree item f, one-size item f, zero-add u)
+total-single n limit base msg (fault k) w = refl
+total-single n limit base msg (one item f u) w =
+    rw (one-tree item f, one-size item f, zero-add u, one-dirt base msg item f w)
     (by-both (λ (x : Extent) (y : Total). totalOfOne n x ≡ y) (leb (level (item .kind) (depth f)) limit) refl refl)
 
 -- the total of one packet is that of its extent
-pub udp-total : {r : Extent} (limit : ℕ) (msg : List ℕ) → r ≡ extent limit 0 (readPacket 0 msg 0)
-    → totalOfOne (length msg) r ≡ totalOf limit (udp msg)
+pub udp-total : {r : Extent} (limit : ℕ) (msg : List ℕ) → r ≡ extent limit 0 (nodeDirt 0 msg) (readPacket 0 msg 0)
+    → totalOfOne (length msg) r ≡ totalOf limit (dirtyIn msg) (udp msg)
 unfolding udp
-udp-total limit msg e = ap (totalOfOne (length msg)) e ∙ total-single (length msg) limit (readPacket 0 msg 0)
+udp-total limit msg e =
+    ap (totalOfOne (length msg)) e ∙ total-single (length msg) limit 0 msg (readPacket 0 msg 0) (packet-starts-so msg)
 
 -- the total of one frame of n bytes of input
 abbrev totalOfFrame : ℕ → FrameExtent → Total
 totalOfFrame n frame.Waiting = total.Waiting
 totalOfFrame n (frame.Packet x) = totalOfOne n x
 
-total-first : (n limit : ℕ) (x : Frame) → totalOfFrame n (frameExtent limit x) ≡ totalOf limit (first n x)
-total-first n limit wait = refl
-total-first n limit (read o) = total-single n limit o
+total-first : (n limit base : ℕ) (msg : List ℕ) (x : Frame) → FrameStarts base x
+    → totalOfFrame n (frameExtent limit (nodeDirt base msg) x) ≡ totalOf limit (dirtyIn msg) (first n x)
+total-first n limit base msg wait w = refl
+total-first n limit base msg (read o) w = total-single n limit base msg o w
 
 -- the total of one frame is that of its extent
-pub tcp-total : {r : FrameExtent} (limit : ℕ) (msg : List ℕ) → r ≡ frameExtent limit (readFrame 0 msg)
-    → totalOfFrame (length msg) r ≡ totalOf limit (tcp msg)
+pub tcp-total : {r : FrameExtent} (limit : ℕ) (msg : List ℕ) → r ≡ frameExtent limit (nodeDirt 0 msg) (readFrame 0 msg)
+    → totalOfFrame (length msg) r ≡ totalOf limit (dirtyIn msg) (tcp msg)
 unfolding tcp
-tcp-total limit msg e = ap (totalOfFrame (length msg)) e ∙ total-first (length msg) limit (readFrame 0 msg)
+tcp-total limit msg e =
+    ap (totalOfFrame (length msg)) e ∙ total-first (length msg) limit 0 msg (readFrame 0 msg) (frame-starts 0 msg)
 
-ends-in : (limit n : ℕ) (o : Out) → Within n o → EndsIn n (extent limit 0 o)
+ends-in : (limit n : ℕ) (dirt : Item → Forest → ℕ) (o : Out) → Within n o → EndsIn n (extent limit 0 dirt o)
 unfolding extent
-ends-in limit n (fault k) w = tt
-ends-in limit n (one item f u) w = by-test (EndsIn n) (leb (level (item .kind) (depth f)) limit) (λ _. omega arith) (λ _. tt)
+ends-in limit n dirt (fault k) w = tt
+ends-in limit n dirt (one item f u) w = by-test (EndsIn n) (leb (level (item .kind) (depth f)) limit) (λ _. omega arith) (λ _. tt)
 
 -- one packet ends in its input
-pub udp-ends : {r : Extent} (limit : ℕ) (msg : List ℕ) → r ≡ extent limit 0 (readPacket 0 msg 0) → EndsIn (length msg) r
-udp-ends limit msg e = rw e (ends-in limit (length msg) (readPacket 0 msg 0) (packet-in 0 msg 0))
+pub udp-ends : {r : Extent} (limit : ℕ) (msg : List ℕ) → r ≡ extent limit 0 (nodeDirt 0 msg) (readPacket 0 msg 0) → EndsIn (length msg) r
+udp-ends limit msg e = rw e (ends-in limit (length msg) (nodeDirt 0 msg) (readPacket 0 msg 0) (packet-in 0 msg 0))
 
 -- a frame ends in its input
 abbrev FrameEnds : ℕ → FrameExtent → Type 0
 FrameEnds n frame.Waiting = Unit {0}
 FrameEnds n (frame.Packet x) = EndsIn n x
 
-frame-ends : (limit n : ℕ) (x : Frame) → FrameIn n x → FrameEnds n (frameExtent limit x)
+frame-ends : (limit n : ℕ) (dirt : Item → Forest → ℕ) (x : Frame) → FrameIn n x → FrameEnds n (frameExtent limit dirt x)
 unfolding extent
-frame-ends limit n wait w = tt
-frame-ends limit n (read (fault k)) w = tt
-frame-ends limit n (read (one item f u)) w = by-test (EndsIn n) (leb (level (item .kind) (depth f)) limit) (λ _. omega arith) (λ _. tt)
+frame-ends limit n dirt wait w = tt
+frame-ends limit n dirt (read (fault k)) w = tt
+frame-ends limit n dirt (read (one item f u)) w = by-test (EndsIn n) (leb (level (item .kind) (depth f)) limit) (λ _. omega arith) (λ _. tt)
 
 -- a tree that ends in its input
-pub ends-tree : {x : Extent} {count next : ℕ} (n : ℕ) → x ≡ Tree count next → EndsIn n x → next ≤ n
+pub ends-tree : {x : Extent} {count next dirty : ℕ} (n : ℕ) → x ≡ Tree count next dirty → EndsIn n x → next ≤ n
 ends-tree n e w = subst (EndsIn n) e w
 
 -- the packet of a frame ends in its input
-pub tcp-ends : {x : Extent} (limit : ℕ) (msg : List ℕ) → frame.Packet x ≡ frameExtent limit (readFrame 0 msg) → EndsIn (length msg) x
+pub tcp-ends : {x : Extent} (limit : ℕ) (msg : List ℕ) → frame.Packet x ≡ frameExtent limit (nodeDirt 0 msg) (readFrame 0 msg)
+    → EndsIn (length msg) x
 tcp-ends limit msg e =
-    subst (FrameEnds (length msg)) (sym e) (frame-ends limit (length msg) (readFrame 0 msg) (frame-in 0 msg))
+    subst (FrameEnds (length msg)) (sym e) (frame-ends limit (length msg) (nodeDirt 0 msg) (readFrame 0 msg) (frame-in 0 msg))
 
 -- the first reading by a framing that is known
-pub total-by : {f g : Framing} → f ≡ g → {r : Total} (limit : ℕ) (msg : List ℕ) → r ≡ totalOf limit (ruleOf g msg)
-    → r ≡ totalOf limit (ruleOf f msg)
-total-by e {r} limit msg w = subst (λ (x : Framing). r ≡ totalOf limit (ruleOf x msg)) (sym e) w
+pub total-by : {f g : Framing} → f ≡ g → {r : Total} (limit : ℕ) (msg : List ℕ) → r ≡ totalOf limit (dirtyIn msg) (ruleOf g msg)
+    → r ≡ totalOf limit (dirtyIn msg) (ruleOf f msg)
+total-by e {r} limit msg w = subst (λ (x : Framing). r ≡ totalOf limit (dirtyIn msg) (ruleOf x msg)) (sym e) w

@@ -2,7 +2,8 @@
 use mathlib.Core.Bool.{Bool, true, false, cond}
 use Prim.Native.Nat.{ℕ, _+_, _-_, _≤_}
 use lib.Dec.{leb}
-use Rattle.node.specs.Forest.{size, depth}
+use Rattle.node.specs.Forest.{Forest, size, depth}
+use Rattle.node.specs.declared.record.Item.{Item}
 use Rattle.measure.specs.CodeMeasure.{extent}
 use Rattle.measure.specs.declared.Extent.{Extent}
 use Rattle.measure.specs.declared.Extent.the-variants as extents
@@ -13,32 +14,32 @@ use Rattle.totals.specs.declared.Total.{Total}
 use Rattle.totals.specs.declared.Total.the-variants as total
 
 -- the first reading of a frame
-abbrev pub frameExtent : ℕ → Frame → FrameExtent
-frameExtent limit wait = frame.Waiting
-frameExtent limit (read o) = frame.Packet (extent limit 0 o)
+abbrev pub frameExtent : ℕ → (Item → Forest → ℕ) → Frame → FrameExtent
+frameExtent limit dirt wait = frame.Waiting
+frameExtent limit dirt (read o) = frame.Packet (extent limit 0 dirt o)
 
--- the first reading of a whole input: 9 speaks of all the trees
-abbrev pub totalOf : ℕ → Whole → Total
-totalOf limit (refusal k) = total.Refused k
-totalOf limit waiting = total.Waiting
-totalOf limit (trees f left) = cond (leb (depth f) limit) (total.Trees (size f) left) total.Deep
+-- the first reading of a whole input: 9 speaks of all the trees, and so does the dirt
+abbrev pub totalOf : ℕ → (Forest → ℕ) → Whole → Total
+totalOf limit dirt (refusal k) = total.Refused k
+totalOf limit dirt waiting = total.Waiting
+totalOf limit dirt (trees f left) = cond (leb (depth f) limit) (total.Trees (size f) left (dirt f)) total.Deep
 
 -- a packet of n bytes of input ends among them
 abbrev pub EndsIn : ℕ → Extent → Type 0
-EndsIn n (extents.Tree count next) = next ≤ n
+EndsIn n (extents.Tree count next dirty) = next ≤ n
 EndsIn n (extents.Deep next) = Unit {0}
 EndsIn n (extents.Refused k) = Unit {0}
 
 -- the total of one packet of n bytes of input
 abbrev pub totalOfOne : ℕ → Extent → Total
-totalOfOne n (extents.Tree count next) = total.Trees count (n - next)
+totalOfOne n (extents.Tree count next dirty) = total.Trees count (n - next) dirty
 totalOfOne n (extents.Deep next) = total.Deep
 totalOfOne n (extents.Refused k) = total.Refused k
 
--- frames before others: so many records, one of them too deep or none
-abbrev pub added : ℕ → Bool → Total → Total
-added n true (total.Trees m left) = total.Deep
-added n false (total.Trees m left) = total.Trees (n + m) left
-added n deep total.Deep = total.Deep
-added n deep total.Waiting = total.Waiting
-added n deep (total.Refused k) = total.Refused k
+-- frames before others: so many records and so much dirt, one of them too deep or none
+abbrev pub added : ℕ → ℕ → Bool → Total → Total
+added n dirt true (total.Trees m left dirty) = total.Deep
+added n dirt false (total.Trees m left dirty) = total.Trees (n + m) left (dirt + dirty)
+added n dirt deep total.Deep = total.Deep
+added n dirt deep total.Waiting = total.Waiting
+added n dirt deep (total.Refused k) = total.Refused k

@@ -5,9 +5,13 @@ use refusal::Fault;
 use refusal::Field;
 use refusal::moved;
 ghost use mathlib.Core.Path.{_≡_};
+ghost use mathlib.Core.List.{List};
 ghost use Prim.Native.Nat.{ℕ, _≤_};
 ghost use lib.ListN.{length};
 ghost use Rattle.wire.specs.Limits.{longest};
+ghost use Rattle.argument.specs.CodeParts.{StandsAt};
+ghost use Rattle.argument.specs.Dirt.{dirtyIn};
+ghost use Rattle.measure.specs.CodeMeasure.{nodeDirt};
 ghost use Rattle.totals.specs.Framing.{readFrame, tcp, tcpVec, ruleOf};
 ghost use Rattle.totals.specs.CodeTotals.{frameExtent, EndsIn, totalOf, totalOfOne, added};
 
@@ -30,8 +34,12 @@ pub enum FrameExtent {
 
 // What the first reading of a whole input answers.
 pub enum Total {
-    // The records of all the trees, and the bytes left over.
-    Trees { count: usize, left: usize },
+    // The records of all the trees, the bytes left over, and how many bytes of the padding of all that is kept are not zero.
+    Trees {
+        count: usize,
+        left: usize,
+        dirty: usize,
+    },
     // In one of the trees bundles and arrays are nested deeper than the limit.
     Deep,
     Waiting,
@@ -43,7 +51,7 @@ pub enum Total {
 // Ruled out: a list that ends at a frame that is too deep; a frame's packet cut at its length.
 pub fn measure_input(framing: Framing, msg: &[u8], depth: usize) -> Total
     requires { ⌜ length (now msg) ≤ longest ⌝ }
-    ensures { λ r. ⌜ r ≡ totalOf depth (ruleOf framing (now (msg .entry))) ⌝ }
+    ensures { λ r. ⌜ r ≡ totalOf depth (dirtyIn (now (msg .entry))) (ruleOf framing (now (msg .entry))) ⌝ }
 {
     match framing {
         Framing::Udp => measure_one(measure::measure_packet(msg, 0, depth), msg.len()),
@@ -58,9 +66,10 @@ fn measure_one(extent: Extent, n: usize) -> Total
     ensures { λ r. ⌜ r ≡ totalOfOne n extent ⌝ }
 {
     match extent {
-        Extent::Tree { count, next } => Total::Trees {
+        Extent::Tree { count, next, dirty } => Total::Trees {
             count,
             left: n - next,
+            dirty,
         },
         Extent::Deep { next: _ } => Total::Deep,
         Extent::Refused(fault) => Total::Refused(fault),
@@ -70,7 +79,7 @@ fn measure_one(extent: Extent, n: usize) -> Total
 // The first reading of one frame.
 fn measure_tcp(msg: &[u8], depth: usize) -> Total
     requires { ⌜ length (now msg) ≤ longest ⌝ }
-    ensures { λ r. ⌜ r ≡ totalOf depth (tcp (now (msg .entry))) ⌝ }
+    ensures { λ r. ⌜ r ≡ totalOf depth (dirtyIn (now (msg .entry))) (tcp (now (msg .entry))) ⌝ }
 {
     match measure_frame(msg, depth) {
         FrameExtent::Waiting => Total::Waiting,
@@ -81,7 +90,7 @@ fn measure_tcp(msg: &[u8], depth: usize) -> Total
 // The first reading of a list of frames. A frame that is too deep is passed over: a later one may be refused.
 fn measure_tcp_vec(msg: &[u8], depth: usize) -> Total
     requires { ⌜ length (now msg) ≤ longest ⌝ }
-    ensures { λ r. ⌜ r ≡ totalOf depth (tcpVec (now (msg .entry))) ⌝ }
+    ensures { λ r. ⌜ r ≡ totalOf depth (dirtyIn (now (msg .entry))) (tcpVec (now (msg .entry))) ⌝ }
 {
     if msg.len() == 0 {
         return Total::Refused(Fault::Short {
@@ -91,13 +100,19 @@ fn measure_tcp_vec(msg: &[u8], depth: usize) -> Total
     }
     let mut at = 0;
     let mut count = 0;
+    let mut dirt = 0;
     let mut deep = false;
     while at < msg.len() {
         match measure_frame(&msg[at..], depth) {
-            FrameExtent::Waiting => return counted(count, deep, msg.len() - at),
+            FrameExtent::Waiting => return counted(count, dirt, deep, msg.len() - at),
             FrameExtent::Packet(extent) => match extent {
-                Extent::Tree { count: n, next } => {
+                Extent::Tree {
+                    count: n,
+                    next,
+                    dirty,
+                } => {
                     count += n;
+                    dirt += dirty;
                     at += next;
                 }
                 Extent::Deep { next } => {
@@ -108,23 +123,24 @@ fn measure_tcp_vec(msg: &[u8], depth: usize) -> Total
             },
         }
     }
-    counted(count, deep, 0)
+    counted(count, dirt, deep, 0)
 }
 
 // The total of frames after which nothing more is read.
-fn counted(count: usize, deep: bool, left: usize) -> Total
-    ensures { λ r. ⌜ r ≡ added count deep (Total.Trees 0 left) ⌝ }
+fn counted(count: usize, dirty: usize, deep: bool, left: usize) -> Total
+    ensures { λ r. ⌜ r ≡ added count dirty deep (Total.Trees 0 left 0) ⌝ }
 {
     if deep {
         return Total::Deep;
     }
-    Total::Trees { count, left }
+    Total::Trees { count, left, dirty }
 }
 
 // The first reading of a frame: a packet from everything after the prefix.
 fn measure_frame(input: &[u8], depth: usize) -> FrameExtent
     requires { ⌜ length (now input) ≤ longest ⌝ }
-    ensures { λ r. ⌜ ((base : ℕ) → r ≡ frameExtent depth (readFrame base (now (input .entry)))) ⌝ }
+    ensures { λ r. ⌜ ((base : ℕ) (msg : List ℕ) → StandsAt msg base (now (input .entry))
+        → r ≡ frameExtent depth (nodeDirt base msg) (readFrame base (now (input .entry)))) ⌝ }
 {
     match heads::read_prefix(input) {
         Prefix::Ready => FrameExtent::Packet(measure::measure_packet(&input[4..], 4, depth)),

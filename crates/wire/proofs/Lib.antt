@@ -4,4 +4,5 @@ pub mod Only
 pub mod Parts
 pub mod Numbers
 pub mod Writers
+pub mod Copies
 pub mod Gaps

@@ -1,33 +1,66 @@
--- Big-endian numbers of any width: how far they reach, one byte more read or written, and that each way undoes the other.
+-- Big-endian numbers of any width: how far they reach, one byte more read, four and eight written, and that each way undoes the other.
 use mathlib.Core.Path.{_≡_, refl, _∙_, sym, ap}
 use mathlib.Core.List.{List, [], _∷_, _++_, append-nil}
 use Prim.Native.Nat.{ℕ, zero, suc, _+_, _*_, _/_, _%_, _^_, _<_, _≤_}
 use native.Mathlib.Nat.{pow-suc, pow-zero, pow-le-pow-right, div-add-mod', add-zero, zero-add, add-suc, suc-add, add-mul, mul-assoc}
 use native.Mathlib.Nat.{mul-comm}
-use native.Mathlib.Numerals.{add-one}
 use native.Mathlib.Omega.{arith}
 use lib.Dec.{lit<}
 use lib.Arith.{digits-div, digits-mod}
-use lib.ListN.{length, take, drop, getD, set, length-append, length-drop, take-append-drop}
-use lib.Seq.{drop-cons, take-add, set-split, drop-at, drop-drop, take-at, take-append-seam, append-snoc, length-take-le}
+use lib.ListN.{length, take, drop, getD, length-append, length-drop, take-append-drop}
+use lib.Seq.{drop-cons, take-add, drop-drop, take-at, take-append-seam, append-snoc, length-take-le}
 use Rattle.wire.specs.Number.{from, number, bytes}
+use Rattle.wire.specs.CodeNumber.{LowFirst, highFirst}
 use Rattle.wire.proofs.Parts.{take-small, drop-small}
 
--- ---- writing: one byte more, from the last to the first
-pub write-on : (out : List ℕ) (i j x : ℕ) → i ≡ j + 1 → j < length out
-    → bytes j (x / 256) ++ drop j (set out j (x % 256)) ≡ bytes i x ++ drop i out
-unfolding bytes
-write-on out i j x e h =
-    let l : j ≤ length out = omega arith in
-    let d : drop j (set out j (x % 256)) ≡ x % 256 ∷ drop (suc j) out
-    = rw (set-split out j (x % 256) h) (drop-at (take j out) (x % 256 ∷ drop (suc j) out) j (length-take-le j out l)) in
-    rw (d, e, add-one) (sym (append-snoc (bytes j (x / 256)) (x % 256) (drop (suc j) out)))
+-- ---- writing
 
 -- the n lowest bytes of a number are n
 pub length-bytes : (n x : ℕ) → length (bytes n x) ≡ n
 unfolding bytes
 length-bytes zero x = refl
 length-bytes (suc n) x = length-append (bytes n (x / 256)) (x % 256 ∷ []) ∙ omega (arith, length-bytes n (x / 256))
+
+-- the four lowest bytes of a number, one by one
+pub four-bytes : (x : ℕ) → bytes 4 x ≡ x / 0x100_0000 % 256 ∷ x / 0x1_0000 % 256 ∷ x / 0x100 % 256 ∷ x % 256 ∷ []
+unfolding bytes
+four-bytes x =
+    let p : x / 256 / 256 ≡ x / 0x1_0000 = omega arith in
+    let q : x / 256 / 256 / 256 ≡ x / 0x100_0000 = omega arith in
+    rw (q, p)
+
+-- a number of four digits, and its digits
+digits : (a b c d : ℕ) {r : ℕ} → b < 256 → c < 256 → d < 256 → r ≡ ((a * 256 + b) * 256 + c) * 256 + d
+    → (r % 256 ≡ d) × (r / 0x100 % 256 ≡ c) × (r / 0x1_0000 % 256 ≡ b) × (r / 0x100_0000 ≡ a)
+digits a b c d f g h e = (omega arith, omega arith, omega arith, omega arith)
+
+-- a number that is turned has its four bytes in the other order
+pub turned-bytes : (x : ℕ) {r : ℕ} → x < 256 ^ 4 → r ≡ highFirst x
+    → (r % 256 ∷ r / 0x100 % 256 ∷ r / 0x1_0000 % 256 ∷ r / 0x100_0000 ∷ []) ≡ bytes 4 x
+turned-bytes x h e =
+    let w = digits (x % 256) (x / 0x100 % 256) (x / 0x1_0000 % 256) (x / 0x100_0000) (omega arith) (omega arith) (omega arith) e in
+    let high : x / 0x100_0000 % 256 ≡ x / 0x100_0000 = omega arith in
+    rw (four-bytes, high, w .0, w .1, w .2, w .3)
+
+-- the four lowest bytes are those of the low half
+low-bytes : (x : ℕ) → bytes 4 (x % 0x1_0000_0000) ≡ bytes 4 x
+low-bytes x =
+    let h = x / 0x1_0000_0000 in
+    let l = x % 0x1_0000_0000 in
+    let whole : l ≡ ((l / 0x100_0000 * 256 + l / 0x1_0000 % 256) * 256 + l / 0x100 % 256) * 256 + l % 256 = omega arith in
+    let w = digits (h * 256 + l / 0x100_0000) (l / 0x1_0000 % 256) (l / 0x100 % 256) (l % 256) {r = x}
+    (omega arith) (omega arith) (omega arith) (omega arith) in
+    rw (four-bytes (x % 0x1_0000_0000), four-bytes x, top h (l / 0x100_0000) (w .3), w .0, w .1, w .2)
+  where
+    top : (h m : ℕ) {y : ℕ} → y ≡ h * 256 + m → y % 256 ≡ m % 256
+    top h m e = omega arith
+
+-- eight bytes are those of the two halves
+pub eight-bytes : (x : ℕ) → bytes 4 (x / 0x1_0000_0000) ++ bytes 4 (x % 0x1_0000_0000) ≡ bytes 8 x
+unfolding bytes
+eight-bytes x =
+    let high : x / 256 / 256 / 256 / 256 ≡ x / 0x1_0000_0000 = omega arith in
+    rw (high, low-bytes x)
 
 -- ---- reading: a number of n + m bytes is one of n and one of m
 from-append : (a b : List ℕ) (x : ℕ) → from x (a ++ b) ≡ from (from x a) b
@@ -63,6 +96,22 @@ unfolding number
 number-more n s at h =
     let one : number 1 (drop (at + n) s) ≡ getD s (at + n) 0 = rw (drop-cons s (at + n) 0) (omega arith) in
     number-parts n 1 s at (omega arith) ∙ ap (λ (k : ℕ). number n (drop at s) * 256 + k) one
+
+-- four bytes that stand lowest first, turned, are their number
+pub turned-number : (s : List ℕ) (at x : ℕ) → LowFirst s at x → at + 4 ≤ length s → highFirst x ≡ number 4 (drop at s)
+unfolding number
+turned-number s at x w h =
+    omega (
+      arith,
+      w .lowest,
+      w .second,
+      w .third,
+      w .highest,
+      rw add-zero at (number-more 0 s at (omega arith)),
+      number-more 1 s at (omega arith),
+      number-more 2 s at (omega arith),
+      number-more 3 s at (omega arith),
+    )
 
 -- ---- how far a number of n bytes reaches
 grows : (i x y : ℕ) → x < 256 ^ i → y < 256 → x * 256 + y < 256 ^ (suc i)
@@ -110,12 +159,16 @@ written-read : (s more : List ℕ) → ((i : ℕ) → getD s i 0 < 256) → byte
 unfolding bytes number
 written-read s more h = rw (take-append-seam s more) (rw zero-add at (bytes-from s 0 0 h))
 
+-- the bytes of a number that was read are those that were read
+pub bytes-read : (t : List ℕ) → ((i : ℕ) → getD t i 0 < 256) → (n p : ℕ) → p + n ≤ length t
+    → bytes n (number n (drop p t)) ≡ take n (drop p t)
+bytes-read t small n p h =
+    let s = take n (drop p t) in
+    let l : length s ≡ n = length-take-le n (drop p t) (omega (arith, length-drop p t)) in
+    rw (l, take-append-drop) at (written-read s (drop n (drop p t)) (take-small n (drop p t) (drop-small p t small)))
+
 -- the bytes from p to q are those of the number that they stand for
 pub number-bytes : (t : List ℕ) → ((i : ℕ) → getD t i 0 < 256) → (n p q : ℕ) → p + n ≡ q → q ≤ length t
     → drop p t ≡ bytes n (number n (drop p t)) ++ drop q t
 number-bytes t small n p q e h =
-    let s = take n (drop p t) in
-    let l : length s ≡ n = length-take-le n (drop p t) (omega (arith, length-drop p t)) in
-    let w : bytes n (number n (drop p t)) ≡ s
-    = rw (l, take-append-drop) at (written-read s (drop n (drop p t)) (take-small n (drop p t) (drop-small p t small))) in
-    rw (w, ← e, ← drop-drop) (sym (take-append-drop n (drop p t)))
+    rw (bytes-read t small n p (omega arith), ← e, ← drop-drop) (sym (take-append-drop n (drop p t)))

@@ -4,7 +4,7 @@ use mathlib.Core.List.{List, [], _∷_, _++_, append-assoc}
 use Prim.Native.Nat.{ℕ, suc, _+_, _-_, _<_, _≤_}
 use native.Mathlib.Omega.{arith}
 use lib.ListN.{length, getD, take, drop, set, length-append, length-drop, take-append-drop}
-use lib.Seq.{drop-cons, set-at, take-at, drop-at, drop-drop, length-take-le}
+use lib.Seq.{drop-cons, set-at, take-at, drop-at, drop-drop, length-take-le, drop-append-le}
 use borrow.Rule.Slice.PartMut.{midOf, putMid, same-len-mid}
 use Rattle.wire.specs.Wrote.{Wrote, Filled}
 use Rattle.wire.proofs.Parts.{lent, given-back}
@@ -56,6 +56,18 @@ module _ (bs o₀ o : List ℕ) (w : Wrote bs o₀ o) where
         left = rw (v .left, ek, ← e, take-wrote, drop-drop, append-assoc, length-append);
       }
 
+-- four bytes, one after another
+pub four-written : (o : List ℕ) (a b c d : ℕ) → 4 ≤ length o
+    → Wrote (a ∷ b ∷ c ∷ d ∷ []) o (set (set (set (set o 0 a) 1 b) 2 c) 3 d)
+four-written o a b c d h =
+    wrote-set (a ∷ b ∷ c ∷ []) o _
+    (wrote-set (a ∷ b ∷ []) o _
+    (wrote-set (a ∷ []) o _
+    (wrote-set [] o o (wrote-none o) 0 a refl (omega arith))
+    1 b refl (omega arith))
+    2 c refl (omega arith))
+    3 d refl (omega arith)
+
 -- what stands in front, then what a writer wrote that was lent the later part, `&mut out[k..]`
 pub wrote-lent : {bs o₀ o cs p : List ℕ} (k : ℕ) → Wrote bs o₀ o → length bs ≡ k → Wrote cs (midOf k (length o - k) o) p
     → Wrote (bs ++ cs) o₀ (putMid k (length o - k) o p)
@@ -105,6 +117,17 @@ wrote-over {o₀} {o} {p} hs was bs cs k w e s v =
     record {
       room = rw (← same) (w .room);
       left = v′ .left ∙ rw (n, later, ← same) (simp append-assoc);
+    }
+
+-- bytes that are written over the front of what was written leave the rest of it
+pub wrote-under : {ws bs o₀ o p : List ℕ} → Wrote ws o₀ o → Wrote bs o p → length bs ≤ length ws → Wrote (bs ++ drop (length bs) ws) o₀ p
+wrote-under {ws} {bs} {o₀} {o} {p} w v h =
+    let D = drop (length ws) o₀ in
+    let n : length (bs ++ drop (length bs) ws) ≡ length ws = simp (length-append, length-drop) (omega arith) in
+    let later : drop (length bs) o ≡ drop (length bs) ws ++ D = ap (drop (length bs)) (w .left) ∙ drop-append-le (length bs) ws D h in
+    record {
+      room = rw n (w .room);
+      left = v .left ∙ rw (n, later) (sym (append-assoc bs (drop (length bs) ws) D));
     }
 
 -- ---- the same laws for writers that answer a count

@@ -2,8 +2,9 @@
 //!
 //! A decoder's answer has the refusal's number in bits 56 to 63 (0 where there is an answer), the count of records in bits 32
 //! to 55 and the input bytes left over in bits 0 to 31; Waiting is count 0 with the whole input left. A decoder also writes more,
-//! in every case: for the refusals 17 to 21 bits 32 to 47 are where the field began that was short, and all else is 0. An
-//! encoder's answer has the refusal's number and, in bits 0 to 31, the bytes written.
+//! in every case: for the refusals 17 to 21 bits 32 to 47 are where the field began that was short; where there is an answer bits
+//! 0 to 31 are the number of padding bytes that were not zero, and none are told for Waiting; all else is 0. An encoder's answer
+//! has the refusal's number and, in bits 0 to 31, the bytes written.
 //!
 //! The functions of the crate's root take these answers apart and are what a program should call.
 #![allow(unsafe_code)]
@@ -123,6 +124,13 @@ pub(crate) enum Decoder {
     TcpVec,
 }
 
+/// What a decoder gives: records, the number of input bytes left over, and that of padding bytes that were not zero.
+pub(crate) struct Given<'a> {
+    pub nodes: Nodes<'a>,
+    pub left: usize,
+    pub dirty: usize,
+}
+
 /// The records of well-formed trees, one after another, and the bytes that their ranges lie in.
 ///
 /// The two constructors are the only ones: each asks the library, and its contract is what `value` rests on. Nothing can write
@@ -134,9 +142,9 @@ pub(crate) struct Nodes<'a> {
 }
 
 impl<'a> Nodes<'a> {
-    /// What a decoder gives, and the number of input bytes left over.
+    /// What a decoder gives.
     #[inline]
-    pub fn decode(by: Decoder, msg: &'a [u8], table: &'a mut [u8], depth: u64) -> Result<(Nodes<'a>, usize), Refusal> {
+    pub fn decode(by: Decoder, msg: &'a [u8], table: &'a mut [u8], depth: u64) -> Result<Given<'a>, Refusal> {
         let mut more = 0;
         let answer = match by {
             Decoder::Udp => decode_udp(msg, table, depth, &mut more),
@@ -145,7 +153,8 @@ impl<'a> Nodes<'a> {
         };
         let answer = Refusal::settle(answer, more)?;
         let count = (answer >> 32) as usize;
-        Ok((Nodes { records: &table.as_chunks().0[..count], source: msg }, answer as u32 as usize))
+        let nodes = Nodes { records: &table.as_chunks().0[..count], source: msg };
+        Ok(Given { nodes, left: answer as u32 as usize, dirty: more as u32 as usize })
     }
 
     /// A table from anywhere, if it is well formed. The encoder's first test is that, and 11 is given for nothing else; with no

@@ -91,26 +91,20 @@ impl<'a> Builder<'a> {
 
     /// Appends a value. A message, bundle or array is open from here on.
     pub fn push<'v>(&mut self, value: impl Into<Value<'v>>) -> Result<&mut Self, BuildError> {
-        let value = value.into();
-        let (kind, [a, b], bytes) = fields(value);
-        if !self.may_hold(kind) {
+        let fields = fields(value.into());
+        if !self.may_hold(fields.kind) {
             return Err(BuildError::Misplaced);
         }
         if self.count == self.records.len().min(MOST) {
             return Err(BuildError::TableFull);
         }
-        let [a, b] = match bytes {
-            None => [a, b],
+        let numbers = match fields.bytes {
+            None => fields.numbers,
             Some(bytes) => self.append(bytes)?,
         };
-        let opens = matches!(kind, b'/' | b'#' | b'[');
+        let opens = matches!(fields.kind, b'/' | b'#' | b'[');
         let end = if opens { self.open } else { self.count as u32 + 1 };
-        let record = &mut self.records[self.count];
-        *record = [0; RECORD];
-        record[0] = kind;
-        for (at, word) in [(4, end), (8, a), (12, b)] {
-            record[at..at + 4].copy_from_slice(&word.to_be_bytes());
-        }
+        self.records[self.count] = record(fields.kind, end, numbers);
         if opens {
             self.open = self.count as u32;
         }
@@ -171,28 +165,76 @@ impl fmt::Debug for Builder<'_> {
     }
 }
 
+/// A record that begins at 0.
+#[inline]
+pub(crate) fn record(kind: u8, end: u32, [a, b]: [u32; 2]) -> [u8; RECORD] {
+    // The kind is the first byte of a word, for one store in place of four.
+    let words = [(kind as u32) << 24, end, a, b, 0];
+    let mut record = [0; RECORD];
+    for (four, word) in record.as_chunks_mut().0.iter_mut().zip(words) {
+        *four = word.to_be_bytes();
+    }
+    record
+}
+
 /// A value as a record has it: kind, the two numbers, and in place of a range its bytes.
-pub(crate) fn fields(value: Value<'_>) -> (u8, [u32; 2], Option<&[u8]>) {
-    let halves = |x: u64| [(x >> 32) as u32, x as u32];
-    let four = |x: [u8; 4]| [u32::from_be_bytes(x), 0];
-    let (kind, numbers) = match value {
-        Value::Message(address) => return (b'/', [0, 0], Some(address.as_bytes())),
-        Value::Text(text) => return (b's', [0, 0], Some(text.as_bytes())),
-        Value::Blob(bytes) => return (b'b', [0, 0], Some(bytes)),
-        Value::Bundle(time) => (b'#', [time.seconds, time.fractional]),
-        Value::Time(time) => (b't', [time.seconds, time.fractional]),
-        Value::Int(x) => (b'i', [x as u32, 0]),
-        Value::Float(x) => (b'f', [x.to_bits(), 0]),
-        Value::Long(x) => (b'h', halves(x as u64)),
-        Value::Double(x) => (b'd', halves(x.to_bits())),
-        Value::Char(x) => (b'c', [x as u32, 0]),
-        Value::Color(x) => (b'r', four([x.red, x.green, x.blue, x.alpha])),
-        Value::Midi(x) => (b'm', four([x.port, x.status, x.data1, x.data2])),
-        Value::Bool(true) => (b'T', [0, 0]),
-        Value::Bool(false) => (b'F', [0, 0]),
-        Value::Nil => (b'N', [0, 0]),
-        Value::Inf => (b'I', [0, 0]),
-        Value::Array => (b'[', [0, 0]),
-    };
-    (kind, numbers, None)
+#[derive(Clone, Copy)]
+pub(crate) struct Fields<'a> {
+    pub kind: u8,
+    pub numbers: [u32; 2],
+    pub bytes: Option<&'a [u8]>,
+}
+
+impl<'a> Fields<'a> {
+    /// No number.
+    #[inline]
+    pub fn bare(kind: u8) -> Fields<'a> {
+        Fields::two(kind, 0, 0)
+    }
+
+    /// One number.
+    #[inline]
+    pub fn one(kind: u8, x: u32) -> Fields<'a> {
+        Fields::two(kind, x, 0)
+    }
+
+    /// Two numbers.
+    #[inline]
+    pub fn two(kind: u8, a: u32, b: u32) -> Fields<'a> {
+        Fields { kind, numbers: [a, b], bytes: None }
+    }
+
+    /// A number in two halves.
+    #[inline]
+    pub fn long(kind: u8, x: u64) -> Fields<'a> {
+        Fields::two(kind, (x >> 32) as u32, x as u32)
+    }
+
+    /// A range.
+    #[inline]
+    pub fn range(kind: u8, bytes: &'a [u8]) -> Fields<'a> {
+        Fields { kind, numbers: [0, 0], bytes: Some(bytes) }
+    }
+}
+
+/// The fields of a value.
+fn fields(value: Value<'_>) -> Fields<'_> {
+    match value {
+        Value::Message(address) => Fields::range(b'/', address.as_bytes()),
+        Value::Bundle(time) => Fields::two(b'#', time.seconds, time.fractional),
+        Value::Int(x) => Fields::one(b'i', x as u32),
+        Value::Float(x) => Fields::one(b'f', x.to_bits()),
+        Value::Text(text) => Fields::range(b's', text.as_bytes()),
+        Value::Blob(bytes) => Fields::range(b'b', bytes),
+        Value::Time(time) => Fields::two(b't', time.seconds, time.fractional),
+        Value::Long(x) => Fields::long(b'h', x as u64),
+        Value::Double(x) => Fields::long(b'd', x.to_bits()),
+        Value::Char(x) => Fields::one(b'c', x as u32),
+        Value::Color(x) => Fields::one(b'r', u32::from_be_bytes([x.red, x.green, x.blue, x.alpha])),
+        Value::Midi(x) => Fields::one(b'm', u32::from_be_bytes([x.port, x.status, x.data1, x.data2])),
+        Value::Bool(x) => Fields::bare(if x { b'T' } else { b'F' }),
+        Value::Nil => Fields::bare(b'N'),
+        Value::Inf => Fields::bare(b'I'),
+        Value::Array => Fields::bare(b'['),
+    }
 }

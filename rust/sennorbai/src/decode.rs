@@ -9,7 +9,7 @@ use crate::table::{Packet, Packets};
 pub enum Decoded<'a> {
     /// The first packet of the stream.
     Packet(Packet<'a>),
-    /// More bytes have to come before there is a packet. The table is unchanged.
+    /// More bytes have to come before there is a packet. The table is unchanged, and nothing is said of padding.
     Waiting,
 }
 
@@ -31,7 +31,7 @@ pub enum Decoded<'a> {
 /// assert_eq!(arguments.next().unwrap().value(), Value::Int(7));
 /// assert_eq!(arguments.next().unwrap().value(), Value::Text("go"));
 /// assert!(arguments.next().is_none());
-/// assert_eq!(packet.left(), 0);
+/// assert_eq!((packet.left(), packet.dirty()), (0, 0));
 ///
 /// assert_eq!(decode_udp(b"", &mut table, DEEPEST).unwrap_err(), Refusal::Empty);
 /// assert_eq!(decode_udp(b"/cue\0\0\0\0,[[]]\0\0\0", &mut table, 1).unwrap_err(), Refusal::TooDeep);

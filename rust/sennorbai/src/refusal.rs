@@ -166,8 +166,8 @@ impl Refusal {
         }
     }
 
-    /// The library's answer, or the refusal whose number stands in its bits 56 to 63. A decoder has said more beside it: where a
-    /// field began that was short, in bits 32 to 47.
+    /// The library's answer, or the refusal whose number stands in its bits 56 to 63. A decoder has said more beside it: of a
+    /// refusal, where a field began that was short, in bits 32 to 47.
     #[inline]
     pub(crate) fn settle(answer: u64, more: u64) -> Result<u64, Refusal> {
         match answer >> 56 {

@@ -1,6 +1,6 @@
 //! Node tables: the records that a decoder wrote, read as typed values.
 
-use crate::boundary::{self, Nodes};
+use crate::boundary::{self, Given, Nodes};
 use crate::refusal::Refusal;
 use crate::value::Value;
 use core::fmt;
@@ -36,26 +36,29 @@ impl<'a> Table<'a> {
     /// # Ok::<(), Refusal>(())
     /// ```
     pub fn check(self) -> Result<Packet<'a>, Refusal> {
-        Ok(Packet { nodes: Nodes::check(self.bytes, self.count, self.source)?, left: 0 })
+        let nodes = Nodes::check(self.bytes, self.count, self.source)?;
+        Ok(Packet { nodes, left: 0, dirty: 0 })
     }
 }
 
-/// The records of one well-formed packet, and what was left of the input.
+/// The records of one well-formed packet, what was left of the input, and how much of its padding was not zero.
 ///
 /// Only a decoder or [`Table::check`] gives one, so reading it tests nothing again.
 #[derive(Clone, Copy)]
 pub struct Packet<'a> {
     nodes: Nodes<'a>,
     left: usize,
+    dirty: usize,
 }
 
-/// The records of well-formed packets, one after another, and what was left of the input.
+/// The records of well-formed packets, one after another, what was left of the input, and how much of its padding was not zero.
 ///
 /// Only a decoder gives one, so reading it tests nothing again.
 #[derive(Clone, Copy)]
 pub struct Packets<'a> {
     nodes: Nodes<'a>,
     left: usize,
+    dirty: usize,
 }
 
 /// What one packet and a list of them have in common.
@@ -63,8 +66,8 @@ macro_rules! nodes_impl {
     ($name:ident) => {
         impl<'a> $name<'a> {
             #[inline]
-            pub(crate) fn new((nodes, left): (Nodes<'a>, usize)) -> $name<'a> {
-                $name { nodes, left }
+            pub(crate) fn new(Given { nodes, left, dirty }: Given<'a>) -> $name<'a> {
+                $name { nodes, left, dirty }
             }
 
             /// The number of records.
@@ -85,6 +88,32 @@ macro_rules! nodes_impl {
                 &source[source.len() - self.left..]
             }
 
+            /// The number of padding bytes that were not zero; of a list, the sum over its packets.
+            ///
+            /// Padding follows the NUL of a text, or the bytes of a blob, up to a multiple of 4. It is read over, whatever it
+            /// holds; a sender that leaves old memory there is seen by this number alone. What the records are of counts: each
+            /// message's address and type text, each text and blob, and the `#bundle` of a bundle that is an element at no
+            /// multiple of 4. Arguments that an unclosed `[` loses, and an element that ended its bundle, have no record, and
+            /// their padding does not count.
+            ///
+            /// A table holds no padding, so it is 0 of what [`Table::check`] gives.
+            ///
+            /// ```
+            /// use sennorbai::{decode_tcp_vec, decode_udp, Refusal, DEEPEST};
+            ///
+            /// let mut table = [0; 100];
+            /// assert_eq!(decode_udp(b"/cue\0\0\0\0,s\0\0go\0\0", &mut table, DEEPEST)?.dirty(), 0);
+            /// assert_eq!(decode_udp(b"/cue\0old,s\0\0go\0!", &mut table, DEEPEST)?.dirty(), 4);
+            /// // A list has the sum over its packets.
+            /// let msg = b"\0\0\0\x08/a\0!,\0\0\0\0\0\0\x08/b\0!,\0\0\0";
+            /// assert_eq!(decode_tcp_vec(msg, &mut table, DEEPEST)?.dirty(), 2);
+            /// # Ok::<(), Refusal>(())
+            /// ```
+            #[inline]
+            pub fn dirty(&self) -> usize {
+                self.dirty
+            }
+
             /// Every record, containers before what they contain.
             #[inline]
             pub fn records(&self) -> Records<'a> {
@@ -94,7 +123,8 @@ macro_rules! nodes_impl {
 
         impl fmt::Debug for $name<'_> {
             fn fmt(&self, f: &mut fmt::Formatter<'_>) -> fmt::Result {
-                f.debug_struct(stringify!($name)).field("left", &self.left).field("records", &self.records()).finish()
+                let mut shown = f.debug_struct(stringify!($name));
+                shown.field("left", &self.left).field("dirty", &self.dirty).field("records", &self.records()).finish()
             }
         }
     };

@@ -1,4 +1,5 @@
-//! Document 01's examples, limits and refusals over lent buffers; depth as Ticket 4 has it.
+//! Document 01's examples, limits and refusals over lent buffers; depth as Ticket 4 has it, short fields as Ticket 2, and padding
+//! that is not zero as Ticket 8.
 
 use sennorbai::{
     decode_tcp, decode_tcp_vec, decode_udp, encode, encode_string, encode_tcp, look, pad, Builder, Decoded, Field, Refusal,
@@ -304,4 +305,73 @@ fn short_fields() {
     let swallowed = hex("2362756E 646C6500 00000000 00000001 00000004 2F616263");
     assert_eq!(decode_udp(&swallowed, &mut [0; RECORD], DEEPEST).unwrap().left(), 8);
     assert_eq!(table, [0xAA; 8 * RECORD]);
+}
+
+/// How many bytes of padding were not zero in a UDP packet.
+fn dirty(digits: &str) -> usize {
+    let mut table = [0; 16 * RECORD];
+    decode_udp(&hex(digits), &mut table, DEEPEST).unwrap().dirty()
+}
+
+/// The same in a list.
+fn dirty_list(digits: &str) -> usize {
+    let mut table = [0; 16 * RECORD];
+    decode_tcp_vec(&hex(digits), &mut table, DEEPEST).unwrap().dirty()
+}
+
+#[test]
+fn dirty_padding_of_a_message() {
+    for (due, input) in [
+        (0, "2F610000 2C690000 00000005"),
+        (0, "2F616200 2C000000"),
+        (1, "2F610001 2C000000"),
+        (2, "2F610000 2C00FF02"),
+        (1, "2F610000 2C000001"),
+        (3, "2F610000 00010203"),
+        (2, "2F610000 2C730000 61000203"),
+        (3, "2F610000 2C620000 00000001 61010203"),
+        (4, "2F610001 2C736200 61000203 00000003 61626304"),
+        // Bytes of a blob and those left over are no padding.
+        (0, "2F610000 2C620000 00000004 61626364 FFFFFFFF"),
+        // What an unclosed array loses does not count; the type text and what is kept do.
+        (0, "2F610000 2C735B00 61000101"),
+        (2, "2F610000 2C735B73 00010000 61000101 62000001"),
+        (3, "2F610000 2C5B735D 73000000 61000101 62000001"),
+    ] {
+        assert_eq!(dirty(input), due, "{input}");
+        assert_eq!(dirty_list(&format!("00000000 {input}")), due, "{input} in a frame");
+    }
+}
+
+#[test]
+fn dirty_padding_of_bundles_and_lists() {
+    let bundle = "2362756E 646C6500 00000000 00000001";
+    // A byte too many in an element has what follows begin at an odd place.
+    let odd = format!("{bundle} 00000009 2F610001 2C000000 FF");
+    assert_eq!(dirty(&odd), 1);
+    // An element that fails, and `#bundle` at an odd place, which has padding there.
+    assert_eq!(dirty(&format!("{bundle} 00000008 2F610001 2C780001")), 0);
+    assert_eq!(dirty(&format!("{odd} 00000007 2F0001 2C780001")), 1);
+    assert_eq!(dirty(&format!("{odd} 00000013 2362756E646C6500 010002 0000000000000001")), 3);
+    // In a list padding counts from each prefix.
+    assert_eq!(dirty_list(&format!("00000000 {odd} 00000000 2F610001 2C000002")), 3);
+    assert_eq!(dirty_list("00000008 2F610001 2C000000 00000009 2F610001"), 1);
+    assert_eq!(dirty_list("0000000D 2F610001 2C000000"), 0);
+}
+
+#[test]
+fn dirty_padding_of_one_frame_and_of_a_table() {
+    let mut table = [0; 2 * RECORD];
+    let frame = hex("00000008 2F610001 2C000000 FF");
+    match decode_tcp(&frame, &mut table, DEEPEST) {
+        Ok(Decoded::Packet(packet)) => {
+            assert_eq!((packet.dirty(), packet.left()), (1, 1));
+            assert_eq!(packet.table().check().unwrap().dirty(), 0);
+            assert_eq!(format!("{packet:?}"), "Packet { left: 1, dirty: 1, records: [0..1 Message(\"/a\")] }");
+        }
+        other => panic!("{other:?}"),
+    }
+    // A refusal says nothing of padding, and still where a field was short.
+    let refusal = Refusal::Short { field: Field::TypeText, at: 4 };
+    assert_eq!(decode_udp(&hex("2F610001"), &mut table, DEEPEST).unwrap_err(), refusal);
 }

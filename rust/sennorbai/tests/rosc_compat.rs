@@ -133,6 +133,57 @@ fn limits_are_an_error_of_their_own() {
     assert_eq!(encoder::encode_string("a".repeat(70_000)).len(), 70_004);
 }
 
+#[test]
+fn a_packet_past_several_limits_has_the_refusal_of_the_library() {
+    let refusal = |packet: &OscPacket| match encoder::encode(packet) {
+        Err(OscError::Limit(refusal)) => refusal,
+        other => panic!("no limit: {other:?}"),
+    };
+    let text = || message("/b", vec!["a".repeat(65_536).into()]);
+    assert_eq!(refusal(&bundle(vec![text(), deep(64)])), Refusal::TooDeep);
+    assert_eq!(refusal(&bundle(vec![deep(64), text()])), Refusal::TooDeep);
+    assert_eq!(refusal(&bundle(vec![deep(63), text()])), Refusal::TooLong);
+    // No table holds so many records, so the library is not asked how deep they are.
+    let many = || message("/b", vec![OscType::Nil; 65_535]);
+    assert_eq!(refusal(&bundle(vec![deep(64), many()])), Refusal::TooLong);
+}
+
+/// An output that encodes a packet itself whenever it is written to.
+struct Busy(Vec<u8>);
+
+impl encoder::Output for Busy {
+    type Err = OscError;
+    type Mark = ();
+
+    fn write(&mut self, data: &[u8]) -> Result<usize, OscError> {
+        assert_eq!(encoder::encode(&message("/inner", every_type()))?.len() % 4, 0);
+        self.0.extend(data);
+        Ok(data.len())
+    }
+
+    fn mark(&mut self, _: usize) -> Result<(), OscError> {
+        Ok(())
+    }
+
+    fn place(&mut self, _: (), _: &[u8]) -> Result<(), OscError> {
+        Ok(())
+    }
+}
+
+#[test]
+fn scratch_buffers_grow_and_are_not_shared() {
+    for count in [1, 63, 64, 255, 256, 300, 5_000, 65_526, 3] {
+        let packet = message("/a", vec![OscType::Nil; count]);
+        let bytes = [b"/a\0\0,", &vec![b'N'; count][..], &vec![0; 4 - (count + 1) % 4]].concat();
+        if bytes.len() <= 65_535 {
+            assert_eq!(encoder::encode(&packet).unwrap(), bytes);
+        }
+        let mut busy = Busy(Vec::new());
+        assert_eq!(encoder::encode_into(&packet, &mut busy).unwrap(), bytes.len());
+        assert_eq!(busy.0, bytes);
+    }
+}
+
 /// Both outputs get the same bytes, whose number is answered.
 fn written(packet: &OscPacket) -> [Vec<u8>; 2] {
     let (mut bytes, mut frame) = (vec![7], WriteOutput(Cursor::new(Vec::new())));

@@ -79,7 +79,7 @@ nested = formed (p3.once 0) (p3.within 0) p3.nested-tree refl
 
 -- a list of two frames
 list : Meets (decode TcpVec p3.two (blank 12) 2)
-    (record { answer = decodes.Packets 12 0; lent = tableAfter tcpVec 2 p3.two (blank 12) })
+    (record { answer = decodes.Packets 12 0 0; lent = tableAfter tcpVec 2 p3.two (blank 12) })
 list = record { answered = sym two-answer; left = ap (λ (r : Decoded). tabled r (forestOf (tcpVec p3.two)) (blank 12)) two-answer }
 
 -- a double that is no number, and the byte of a blob

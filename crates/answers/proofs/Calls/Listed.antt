@@ -80,26 +80,27 @@ vec-never msg = frames-never (suc (length msg)) 0 msg
 abbrev Decoding : Bool → Decoded → Type 0
 Decoding b r = Listed decodeOrder b (byDecoded r)
 
-limited-listed : (b : Bool) (capacity limit : ℕ) (w : Whole) → MayWait b w → Decoding b (limited capacity limit w)
-limited-listed b capacity limit (trees f left) h = by-trees (Decoding b) capacity limit f left (λ g. refl) (λ g. refl) (λ g k. tt)
-limited-listed b capacity limit waiting h = h
-limited-listed b capacity limit (refusal Empty) h = refl
-limited-listed b capacity limit (refusal (Short field.Address at)) h = refl
-limited-listed b capacity limit (refusal (Short field.TypeText at)) h = refl
-limited-listed b capacity limit (refusal (Short field.Data at)) h = refl
-limited-listed b capacity limit (refusal (Short field.Padding at)) h = refl
-limited-listed b capacity limit (refusal (Short field.Head at)) h = refl
-limited-listed b capacity limit (refusal NotUtf8) h = refl
-limited-listed b capacity limit (refusal BadStart) h = refl
-limited-listed b capacity limit (refusal NotOpen) h = refl
-limited-listed b capacity limit (refusal UnknownTag) h = refl
-limited-listed b capacity limit (refusal NotScalar) h = refl
+limited-listed : (b : Bool) (capacity limit : ℕ) (msg : List ℕ) (w : Whole) → MayWait b w → Decoding b (limited capacity limit msg w)
+limited-listed b capacity limit msg (trees f left) h =
+    by-trees (Decoding b) capacity limit msg f left (λ g. refl) (λ g. refl) (λ g k. tt)
+limited-listed b capacity limit msg waiting h = h
+limited-listed b capacity limit msg (refusal Empty) h = refl
+limited-listed b capacity limit msg (refusal (Short field.Address at)) h = refl
+limited-listed b capacity limit msg (refusal (Short field.TypeText at)) h = refl
+limited-listed b capacity limit msg (refusal (Short field.Data at)) h = refl
+limited-listed b capacity limit msg (refusal (Short field.Padding at)) h = refl
+limited-listed b capacity limit msg (refusal (Short field.Head at)) h = refl
+limited-listed b capacity limit msg (refusal NotUtf8) h = refl
+limited-listed b capacity limit msg (refusal BadStart) h = refl
+limited-listed b capacity limit msg (refusal NotOpen) h = refl
+limited-listed b capacity limit msg (refusal UnknownTag) h = refl
+limited-listed b capacity limit msg (refusal NotScalar) h = refl
 
 decoded-listed : (b : Bool) (rule : List ℕ → Whole) (capacity limit : ℕ) (msg : List ℕ) {r : Decoded}
     → r ≡ decoded rule capacity limit msg → MayWait b (rule msg) → Decoding b r
 decoded-listed b rule capacity limit msg e h =
     subst (Decoding b) (sym e)
-    (by-decoded (Decoding b) rule capacity limit msg (λ g. refl) (λ g. refl) (λ g k. limited-listed b capacity limit (rule msg) h))
+    (by-decoded (Decoding b) rule capacity limit msg (λ g. refl) (λ g. refl) (λ g k. limited-listed b capacity limit msg (rule msg) h))
 
 -- ---- encoders
 

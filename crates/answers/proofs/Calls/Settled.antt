@@ -69,7 +69,7 @@ met (text-of value packet label) n = n (record { answer = textNamed value packet
 -- ---- nothing changed
 
 decoded-same : (r : Decoded) (f : Forest) (table : List ℕ) → (byDecoded r ≡ result → ⊥) → tabled r f table ≡ table
-decoded-same (Packets count left) f table n = absurd (n refl)
+decoded-same (Packets count left dirty) f table n = absurd (n refl)
 decoded-same Waiting f table n = refl
 decoded-same (Refused k) f table n = refl
 

@@ -12,6 +12,7 @@ use Rattle.node.specs.Forest.{size, depth, snoc}
 use Rattle.node.specs.Tags.{classOf, sortOf}
 use Rattle.text.specs.Text.{readText}
 use Rattle.argument.specs.Argument.{readArg}
+use Rattle.argument.specs.Dirt.{keptPadding, packetsPadding}
 use Rattle.arguments.specs.Arguments.{readTags}
 use Rattle.heads.specs.Heads.{sizeOf, prefixOf}
 use Rattle.packet.specs.FirstText.{startOf}
@@ -30,7 +31,7 @@ p2 = 0x2F ∷ 0 ∷ 0 ∷ 0 ∷ []
 
 p2-refused : answerTo udp 64 p2 (blank 1) ≡ Refused (Unreadable (Short TypeText 4))
 unfolding number size depth snoc classOf sortOf readText readArg readTags startOf sizeOf readMessage bundleBy elementBy elementsBy packetBy
-    packetAt readPacket udp decoded
+    packetAt readPacket udp decoded keptPadding packetsPadding
 p2-refused = refl
 
 p2-short : ShortIn p2 0 (Short TypeText 4)
@@ -42,7 +43,7 @@ p13 = 0 ∷ 0 ∷ 0 ∷ 8 ∷ 0x2F ∷ 0x61 ∷ 0 ∷ 0 ∷ []
 
 p13-refused : answerTo tcp 64 p13 (blank 1) ≡ Refused (Unreadable (Short TypeText 8))
 unfolding number size depth snoc classOf sortOf readText readArg readTags startOf sizeOf prefixOf readMessage bundleBy elementBy
-    elementsBy packetBy packetAt readPacket readFrame tcp decoded
+    elementsBy packetBy packetAt readPacket readFrame tcp decoded keptPadding packetsPadding
 p13-refused = refl
 
 p13-short : ShortIn p13 0 (Short TypeText 8)
@@ -54,7 +55,7 @@ cut-list = 0 ∷ 0 ∷ 0 ∷ 8 ∷ 0x2F ∷ 0x61 ∷ 0 ∷ 0 ∷ 0 ∷ 0 ∷ 0 �
 
 cut-refused : answerTo tcpVec 64 cut-list (blank 1) ≡ Refused (Unreadable (Short Head 12))
 unfolding number size depth snoc classOf sortOf readText readArg readTags startOf sizeOf prefixOf readMessage bundleBy elementBy
-    elementsBy packetBy packetAt readPacket readFrame framesAt readFrames tcpVec decoded
+    elementsBy packetBy packetAt readPacket readFrame framesAt readFrames tcpVec decoded keptPadding packetsPadding
 cut-refused = refl
 
 cut-short : (frame : ℕ) × (frame ≤ 12) × (frame ≤ length cut-list) × ShortIn (drop frame cut-list) 0 (Short Head (12 - frame))

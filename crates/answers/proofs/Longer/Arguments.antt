@@ -30,6 +30,7 @@ use Rattle.argument.specs.declared.Arg.{Arg}
 use Rattle.argument.specs.declared.Arg.the-variants.{Given, Refused}
 use Rattle.answers.specs.Words.{Mendable}
 use Rattle.wire.proofs.Choices.{by-test, by-le}
+use Rattle.text.proofs.Nuls.{nul-longer}
 use Rattle.argument.proofs.Within.{given-within}
 
 -- a text that was found stays, and so does a fault that no bytes mend
@@ -55,15 +56,6 @@ module _ (more : List ℕ) where
   unfolding number
   number-longer n l h = rw (take-append-le n l more h)
 
-  nul-longer : (l : List ℕ) → untilNul l < length l → untilNul (l ++ more) ≡ untilNul l
-  nul-longer [] h = absurd (omega arith)
-  nul-longer (b ∷ l) h = by-nul (eqb b 0) h (λ g. nul-longer l g)
-    where
-      by-nul : (t : Bool) → cond t 0 (suc (untilNul l)) < suc (length l) → (untilNul l < length l → untilNul (l ++ more) ≡ untilNul l)
-          → cond t 0 (suc (untilNul (l ++ more))) ≡ cond t 0 (suc (untilNul l))
-      by-nul true g f = refl
-      by-nul false g f = ap suc (f (omega arith))
-
   same-text : (t : Text) → KeptText t t
   same-text (Found n used) = refl
   same-text (Lacks lack) = λ field p s. refl
@@ -78,7 +70,7 @@ module _ (more : List ℕ) where
       (λ k. let j : n < length l = ltb-true n (length l) h in
       let nul = lt-ltb n (length (l ++ more)) (omega (arith, length-append l more)) in
       let padding = le-leb (reach p (n + 1)) (length (l ++ more)) (omega (arith, length-append l more)) in
-      rw (readText, nul-longer l j, nul, padding, take-append-le n l more (omega arith))
+      rw (readText, nul-longer l more j, nul, padding, take-append-le n l more (omega arith))
       (same-text (cond (utf8 (take n l)) (Found n (reach p (n + 1))) (Lacks Utf8))))
       (λ k field q s. absurd (s tt)))
       (λ h field q s. absurd (s tt))

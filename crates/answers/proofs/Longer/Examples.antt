@@ -12,6 +12,7 @@ use Rattle.node.specs.Forest.{size, depth, snoc}
 use Rattle.node.specs.Tags.{classOf, sortOf}
 use Rattle.text.specs.Text.{readText}
 use Rattle.argument.specs.Argument.{readArg}
+use Rattle.argument.specs.Dirt.{keptPadding, packetsPadding}
 use Rattle.arguments.specs.Arguments.{readTags}
 use Rattle.heads.specs.Heads.{sizeOf, prefixOf}
 use Rattle.packet.specs.FirstText.{startOf}
@@ -29,7 +30,7 @@ use Rattle.answers.proofs.Longer.MoreBytes.{more-bytes-udp, more-bytes-
 use Rattle.answers.proofs.Longer.Faults.{faults-stay-udp, faults-stay-tcp}
 use Rattle.answers.proofs.Room.Examples.{blank, nested-answer}
 
-unlimited : {r : Decoded} {count left : ℕ} → r ≡ Packets count left → Unlimited r
+unlimited : {r : Decoded} {count left dirty : ℕ} → r ≡ Packets count left dirty → Unlimited r
 unlimited e =
     record {
       not-1 = λ p. let z : _≡_ {A = ℕ} 0 1 = cc in omega arith;
@@ -44,28 +45,28 @@ element = 0 ∷ 0 ∷ 0 ∷ 8 ∷ 0x2F ∷ 0x61 ∷ 0 ∷ 0 ∷ 0x2C ∷ 0 ∷ 0
 
 -- ---- a bundle with one element, a bundle, gets a second one
 
-second-element : answerTo udp 2 (nested ++ element) (blank 8) ≡ Packets 8 0
+second-element : answerTo udp 2 (nested ++ element) (blank 8) ≡ Packets 8 0 0
 unfolding number size depth snoc classOf sortOf readText readArg readTags startOf sizeOf readMessage bundleBy elementBy elementsBy packetBy
-    packetAt readPacket udp decoded
+    packetAt readPacket udp decoded keptPadding packetsPadding
 second-element = refl
 
-grown : GoesOn udp nested element 2 2 (blank 7) (blank 8) 7
-grown = more-bytes-udp nested element 2 2 (blank 7) (blank 8) 7 0 (omega arith) (omega arith) nested-answer (unlimited second-element)
+grown : GoesOn udp nested element 2 2 (blank 7) (blank 8) 7 0
+grown = more-bytes-udp nested element 2 2 (blank 7) (blank 8) 7 0 0 (omega arith) (omega arith) nested-answer (unlimited second-element)
 
 -- ---- a message is the same, and the bytes are left over
 
-message : answerTo udp 0 p3.packet (blank 2) ≡ Packets 2 0
+message : answerTo udp 0 p3.packet (blank 2) ≡ Packets 2 0 0
 unfolding number size depth snoc classOf sortOf readText readArg readTags startOf sizeOf readMessage bundleBy elementBy elementsBy packetBy
-    packetAt readPacket udp decoded
+    packetAt readPacket udp decoded keptPadding packetsPadding
 message = refl
 
-message-more : answerTo udp 0 (p3.packet ++ element) (blank 2) ≡ Packets 2 12
+message-more : answerTo udp 0 (p3.packet ++ element) (blank 2) ≡ Packets 2 12 0
 unfolding number size depth snoc classOf sortOf readText readArg readTags startOf sizeOf readMessage bundleBy elementBy elementsBy packetBy
-    packetAt readPacket udp decoded
+    packetAt readPacket udp decoded keptPadding packetsPadding
 message-more = refl
 
-kept : GoesOn udp p3.packet element 0 0 (blank 2) (blank 2) 2
-kept = more-bytes-udp p3.packet element 0 0 (blank 2) (blank 2) 2 0 (omega arith) (omega arith) message (unlimited message-more)
+kept : GoesOn udp p3.packet element 0 0 (blank 2) (blank 2) 2 0
+kept = more-bytes-udp p3.packet element 0 0 (blank 2) (blank 2) 2 0 0 (omega arith) (omega arith) message (unlimited message-more)
 
 -- ---- a frame's bundle takes the next frame as an element
 
@@ -73,21 +74,21 @@ kept = more-bytes-udp p3.packet element 0 0 (blank 2) (blank 2) 2 0 (omega arith
 prefix : List ℕ
 prefix = 0 ∷ 0 ∷ 0 ∷ 16 ∷ []
 
-frame : answerTo tcp 1 (prefix ++ empty) (blank 1) ≡ Packets 1 0
+frame : answerTo tcp 1 (prefix ++ empty) (blank 1) ≡ Packets 1 0 0
 unfolding prefix number size depth snoc classOf sortOf readText readArg readTags startOf sizeOf prefixOf readMessage bundleBy elementBy
-    elementsBy packetBy packetAt readPacket readFrame tcp decoded
+    elementsBy packetBy packetAt readPacket readFrame tcp decoded keptPadding packetsPadding
 frame = refl
 
-next-frame : answerTo tcp 2 ((prefix ++ empty) ++ element) (blank 2) ≡ Packets 2 0
+next-frame : answerTo tcp 2 ((prefix ++ empty) ++ element) (blank 2) ≡ Packets 2 0 0
 unfolding prefix number size depth snoc classOf sortOf readText readArg readTags startOf sizeOf prefixOf readMessage bundleBy elementBy
-    elementsBy packetBy packetAt readPacket readFrame tcp decoded
+    elementsBy packetBy packetAt readPacket readFrame tcp decoded keptPadding packetsPadding
 next-frame = refl
 
-taken : GoesOn tcp (prefix ++ empty) element 1 2 (blank 1) (blank 2) 1
+taken : GoesOn tcp (prefix ++ empty) element 1 2 (blank 1) (blank 2) 1 0
 unfolding prefix
-taken = more-bytes-tcp (prefix ++ empty) element 1 2 (blank 1) (blank 2) 1 0 (omega arith) (omega arith) frame (unlimited next-frame)
+taken = more-bytes-tcp (prefix ++ empty) element 1 2 (blank 1) (blank 2) 1 0 0 (omega arith) (omega arith) frame (unlimited next-frame)
 
--- ---- a refusal with 7 stays, and 2 and 3 are mended
+-- ---- a refusal with 7 stays, and 2 and 18 are mended
 
 -- P8: 2F610000 2C780000, whose tag x is unknown
 abbrev unknown : List ℕ
@@ -95,7 +96,7 @@ unknown = 0x2F ∷ 0x61 ∷ 0 ∷ 0 ∷ 0x2C ∷ 0x78 ∷ 0 ∷ 0 ∷ []
 
 unknown-refused : answerTo udp 64 unknown (blank 1) ≡ Refused (Unreadable UnknownTag)
 unfolding number size depth snoc classOf sortOf readText readArg readTags startOf sizeOf readMessage bundleBy elementBy elementsBy packetBy
-    packetAt readPacket udp decoded
+    packetAt readPacket udp decoded keptPadding packetsPadding
 unknown-refused = refl
 
 still-unknown : answerTo udp 0 (unknown ++ element) (blank 2) ≡ Refused (Unreadable UnknownTag)
@@ -108,16 +109,16 @@ framed = 0 ∷ 0 ∷ 0 ∷ 8 ∷ unknown
 
 framed-refused : answerTo tcp 64 framed (blank 1) ≡ Refused (Unreadable UnknownTag)
 unfolding number size depth snoc classOf sortOf readText readArg readTags startOf sizeOf prefixOf readMessage bundleBy elementBy
-    elementsBy packetBy packetAt readPacket readFrame tcp decoded
+    elementsBy packetBy packetAt readPacket readFrame tcp decoded keptPadding packetsPadding
 framed-refused = refl
 
 still-framed : answerTo tcp 0 (framed ++ element) (blank 2) ≡ Refused (Unreadable UnknownTag)
 still-framed = faults-stay-tcp framed element 64 0 (blank 1) (blank 2) UnknownTag (λ m. m) (omega arith) (omega arith) framed-refused
 
 -- P1, and P3 after it
-none-mended : (answerTo udp 0 [] (blank 2) ≡ Refused (Unreadable Empty)) × (answerTo udp 0 ([] ++ p3.packet) (blank 2) ≡ Packets 2 0)
+none-mended : (answerTo udp 0 [] (blank 2) ≡ Refused (Unreadable Empty)) × (answerTo udp 0 ([] ++ p3.packet) (blank 2) ≡ Packets 2 0 0)
 unfolding number size depth snoc classOf sortOf readText readArg readTags startOf sizeOf readMessage bundleBy elementBy elementsBy packetBy
-    packetAt readPacket udp decoded
+    packetAt readPacket udp decoded keptPadding packetsPadding
 none-mended = (refl, refl)
 
 -- P2, and an empty type text after it
@@ -125,9 +126,9 @@ abbrev short : List ℕ
 short = 0x2F ∷ 0 ∷ 0 ∷ 0 ∷ []
 
 short-mended : (answerTo udp 0 short (blank 1) ≡ Refused (Unreadable (Short TypeText 4)))
-    × (answerTo udp 0 (short ++ (0 ∷ 0 ∷ 0 ∷ 0 ∷ [])) (blank 1) ≡ Packets 1 0)
+    × (answerTo udp 0 (short ++ (0 ∷ 0 ∷ 0 ∷ 0 ∷ [])) (blank 1) ≡ Packets 1 0 0)
 unfolding number size depth snoc classOf sortOf readText readArg readTags startOf sizeOf readMessage bundleBy elementBy elementsBy packetBy
-    packetAt readPacket udp decoded
+    packetAt readPacket udp decoded keptPadding packetsPadding
 short-mended = (refl, refl)
 
 -- ---- lists, for which it is false
@@ -138,13 +139,13 @@ third-refused = (prefix ++ empty) ++ (0 ∷ 0 ∷ 0 ∷ 17 ∷ 0x2F ∷ 0 ∷ 0 
 
 third-as-list : answerTo tcpVec 64 third-refused (blank 2) ≡ Refused (Unreadable BadStart)
 unfolding prefix number size depth snoc classOf sortOf readText readArg readTags startOf sizeOf prefixOf readMessage bundleBy elementBy
-    elementsBy packetBy packetAt readPacket readFrame framesAt readFrames tcpVec decoded
+    elementsBy packetBy packetAt readPacket readFrame framesAt readFrames tcpVec decoded keptPadding packetsPadding
 third-as-list = refl
 
 -- with a byte appended the element is whole, and the bundle takes it
-third-taken : answerTo tcpVec 64 (third-refused ++ (0 ∷ [])) (blank 2) ≡ Packets 2 0
+third-taken : answerTo tcpVec 64 (third-refused ++ (0 ∷ [])) (blank 2) ≡ Packets 2 0 0
 unfolding prefix number size depth snoc classOf sortOf readText readArg readTags startOf sizeOf prefixOf readMessage bundleBy elementBy
-    elementsBy packetBy packetAt readPacket readFrame framesAt readFrames tcpVec decoded
+    elementsBy packetBy packetAt readPacket readFrame framesAt readFrames tcpVec decoded keptPadding packetsPadding
 third-taken = refl
 
 -- after an element of 9 bytes the second frame, 00000009 2F000000 2C780000, is itself refused, with 7
@@ -153,11 +154,11 @@ second-refused =
     (prefix ++ empty) ++ (0 ∷ 0 ∷ 0 ∷ 9 ∷ 0x2F ∷ 0 ∷ 0 ∷ 0 ∷ 0 ∷ 0 ∷ 0 ∷ 0 ∷ 0
     ∷ 0 ∷ 0 ∷ 0 ∷ 9 ∷ 0x2F ∷ 0 ∷ 0 ∷ 0 ∷ 0x2C ∷ 0x78 ∷ 0 ∷ 0 ∷ [])
 
--- as an element it stands at another place, so that its address ends a byte earlier, and its type text is empty
+-- as an element it stands at another place, so that its address ends a byte earlier, and its type text is empty, with `,x` as padding
 second-mended : (answerTo tcpVec 64 second-refused (blank 3) ≡ Refused (Unreadable UnknownTag))
-    × (answerTo tcpVec 64 (second-refused ++ (0 ∷ [])) (blank 3) ≡ Packets 3 0)
+    × (answerTo tcpVec 64 (second-refused ++ (0 ∷ [])) (blank 3) ≡ Packets 3 0 2)
 unfolding prefix number size depth snoc classOf sortOf readText readArg readTags startOf sizeOf prefixOf readMessage bundleBy elementBy
-    elementsBy packetBy packetAt readPacket readFrame framesAt readFrames tcpVec decoded
+    elementsBy packetBy packetAt readPacket readFrame framesAt readFrames tcpVec decoded keptPadding packetsPadding
 second-mended = (refl, refl)
 
 -- so the statement is false of `decode_tcp_vec`

@@ -18,11 +18,11 @@ use Rattle.decoder.proofs.Answers.{no-packets}
 use Rattle.answers.proofs.Longer.Wholes.{Longer, no-tree, udp-longer, tcp-longer}
 
 module _ {k : Fault} where
-  limited-refused : (capacity limit : ℕ) (w : Whole) → limited capacity limit w ≡ Refused (Unreadable k) → w ≡ refusal k
-  limited-refused capacity limit (refusal j) e = let same : j ≡ k = cc in rw same
-  limited-refused capacity limit waiting e = let z : _≡_ {A = ℕ} 0 1 = cc in absurd (omega arith)
-  limited-refused capacity limit (trees f left) e =
-      by-trees (λ r. r ≡ Refused (Unreadable k) → trees f left ≡ refusal k) capacity limit f left
+  limited-refused : (capacity limit : ℕ) (msg : List ℕ) (w : Whole) → limited capacity limit msg w ≡ Refused (Unreadable k) → w ≡ refusal k
+  limited-refused capacity limit msg (refusal j) e = let same : j ≡ k = cc in rw same
+  limited-refused capacity limit msg waiting e = let z : _≡_ {A = ℕ} 0 1 = cc in absurd (omega arith)
+  limited-refused capacity limit msg (trees f left) e =
+      by-trees (λ r. r ≡ Refused (Unreadable k) → trees f left ≡ refusal k) capacity limit msg f left
       (λ h p. let z : _≡_ {A = ℕ} 0 1 = cc in absurd (omega arith))
       (λ h p. let z : _≡_ {A = ℕ} 0 1 = cc in absurd (omega arith))
       (λ h c p. no-packets p) e
@@ -34,7 +34,7 @@ module _ {k : Fault} where
       by-decoded (λ r. r ≡ Refused (Unreadable k) → rule msg ≡ refusal k) rule capacity limit msg
       (λ h p. let z : _≡_ {A = ℕ} 0 1 = cc in absurd (omega arith))
       (λ h p. let z : _≡_ {A = ℕ} 0 1 = cc in absurd (omega arith))
-      (λ h n. limited-refused capacity limit (rule msg))
+      (λ h n. limited-refused capacity limit msg (rule msg))
 
   fault-stays : {w : Whole} → Longer (refusal k) w → (Mendable k → ⊥) → w ≡ refusal k
   fault-stays (no-tree s) = s

@@ -12,6 +12,7 @@ use Rattle.node.specs.Tags.{classOf, sortOf}
 use Rattle.node.specs.Records.{recordSize}
 use Rattle.text.specs.Text.{readText}
 use Rattle.argument.specs.Argument.{readArg}
+use Rattle.argument.specs.Dirt.{keptPadding, packetsPadding}
 use Rattle.arguments.specs.Arguments.{readTags}
 use Rattle.heads.specs.Heads.{sizeOf, prefixOf}
 use Rattle.packet.specs.FirstText.{startOf}
@@ -32,18 +33,18 @@ abbrev pub blank : ℕ → List ℕ
 blank n = replicate (recordSize * n) 0
 
 -- the bundle in a bundle: seven records, depth 2
-pub nested-answer : answerTo udp 2 nested (blank 7) ≡ Packets 7 0
+pub nested-answer : answerTo udp 2 nested (blank 7) ≡ Packets 7 0 0
 unfolding number size depth snoc classOf sortOf readText readArg readTags startOf sizeOf readMessage bundleBy elementBy elementsBy packetBy
-    packetAt readPacket udp decoded
+    packetAt readPacket udp decoded keptPadding packetsPadding
 nested-answer = refl
 
 -- the list of two frames: twelve
-pub two-answer : answerTo tcpVec 2 two (blank 12) ≡ Packets 12 0
+pub two-answer : answerTo tcpVec 2 two (blank 12) ≡ Packets 12 0 0
 unfolding number size depth snoc classOf sortOf readText readArg readTags startOf sizeOf prefixOf readMessage bundleBy elementBy
-    elementsBy packetBy packetAt readPacket readFrame framesAt readFrames tcpVec decoded
+    elementsBy packetBy packetAt readPacket readFrame framesAt readFrames tcpVec decoded keptPadding packetsPadding
 two-answer = refl
 
-not-full : {r : Decoded} {count left : ℕ} → r ≡ Packets count left → NotFull r
+not-full : {r : Decoded} {count left dirty : ℕ} → r ≡ Packets count left dirty → NotFull r
 not-full e = record { not-9 = λ p. let z : _≡_ {A = ℕ} 0 1 = cc in omega arith; not-10 = λ p. let z : _≡_ {A = ℕ} 0 1 = cc in omega arith }
 
 -- a higher limit and a larger table
@@ -55,7 +56,7 @@ list-higher = more-room tcpVec two 2 64 (blank 12) (blank 13) (omega arith) (λ 
 
 -- a limit of 65 is refused with 13, in a table that has too few records
 over : answerTo udp 65 nested (blank 1) ≡ Refused DepthLimit
-unfolding decoded
+unfolding decoded keptPadding packetsPadding
 over = refl
 
 -- 13 is neither 9 nor 10
@@ -75,7 +76,7 @@ over-by-more =
 -- six records are not enough, so the bound says something
 full : decoded udp 6 64 nested ≡ Refused TableFull
 unfolding number size depth snoc classOf sortOf readText readArg readTags startOf sizeOf readMessage bundleBy elementBy elementsBy packetBy
-    packetAt readPacket udp decoded
+    packetAt readPacket udp decoded keptPadding packetsPadding
 full = refl
 
 -- 76 bytes, 76 records; 120 bytes of a list, 120

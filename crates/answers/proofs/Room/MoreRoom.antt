@@ -17,11 +17,12 @@ use Rattle.decoder.proofs.Chosen.{by-decoded, by-trees}
 use Rattle.answers.proofs.Answered.{after-records}
 
 module _ {capacity capacity' limit limit' : ℕ} (c : capacity ≤ capacity') (d : limit ≤ limit') where
-  limited-room : (w : Whole) → NotFull (limited capacity limit w) → limited capacity' limit' w ≡ limited capacity limit w
-  limited-room (refusal k) n = refl
-  limited-room waiting n = refl
-  limited-room (trees f left) n =
-      by-trees (λ r. NotFull r → limited capacity' limit' (trees f left) ≡ r) capacity limit f left
+  limited-room : (msg : List ℕ) (w : Whole) → NotFull (limited capacity limit msg w)
+      → limited capacity' limit' msg w ≡ limited capacity limit msg w
+  limited-room msg (refusal k) n = refl
+  limited-room msg waiting n = refl
+  limited-room msg (trees f left) n =
+      by-trees (λ r. NotFull r → limited capacity' limit' msg (trees f left) ≡ r) capacity limit msg f left
       (λ h m. absurd (m .not-9 refl)) (λ h m. absurd (m .not-10 refl))
       (λ h k m. rw (le-leb (depth f) limit' (omega arith), le-leb (size f) capacity' (omega arith))) n
 
@@ -31,7 +32,7 @@ module _ {capacity capacity' limit limit' : ℕ} (c : capacity ≤ capacity') (d
   within-room rule msg h =
       by-decoded (λ r. NotFull r → decoded rule capacity' limit' msg ≡ r) rule capacity limit msg (λ g n. absurd (omega arith))
       (λ g n. rw (decoded, le-leb limit' deepest h, lt-leb (length msg) longest g))
-      (λ g k n. rw (decoded, le-leb limit' deepest h, le-leb (length msg) longest k) (limited-room (rule msg) n))
+      (λ g k n. rw (decoded, le-leb limit' deepest h, le-leb (length msg) longest k) (limited-room msg (rule msg) n))
 
   -- a limit over 64 is refused with 13, and so is a higher one
   above-room : (rule : List ℕ → Whole) (msg : List ℕ) → deepest < limit
@@ -50,5 +51,5 @@ more-room rule msg limit limit' table table' d h c n =
     let same = decoded-room {limit = limit} {limit' = limit'} c (omega arith) rule msg (λ g. omega (arith, h g)) n in
     record {
       answers = same;
-      records = λ count left e. after-records rule limit' msg table' (same ∙ e) ∙ sym (after-records rule limit msg table e);
+      records = λ count left dirty e. after-records rule limit' msg table' (same ∙ e) ∙ sym (after-records rule limit msg table e);
     }

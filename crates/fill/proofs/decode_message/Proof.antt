@@ -4,6 +4,7 @@ use Rattle.fill.proofs.Fills.{args-refused, args-room, kept-known, mess
 use Rattle.heads.proofs.Heads.{types-tags, args-fit}
 use Rattle.text.proofs.Within.{found-in}
 use Rattle.packet.proofs.Within.{types-lack}
+use Rattle.arguments.specs.CodeReadings.{noDirt}
 use Rattle.arguments.proofs.Counts.{measured-within}
 use lib.ListN.{length-drop}
 use native.Mathlib.Omega.{arith}
@@ -40,15 +41,15 @@ part-rest-start c =
     let a = p5 .before .before .before .args in
     omega (arith, found-in (a .input .now) (a .pos) (sym (p3 .length .given .1) ∙ p5 .read-osc-string .ensures))
 
-add-measure-osc-args : tie.Need-add-measure-osc-args
-add-measure-osc-args c =
+add-count-osc-args : tie.Need-add-count-osc-args
+add-count-osc-args c =
     let p4 = c .before .before .before .before in
     let p6 = p4 .before .before in
     let a = p6 .before .before .before .args in
     omega (arith, found-in (a .input .now) (a .pos) (sym (p4 .length .given .1) ∙ p6 .read-osc-string .ensures))
 
-measure-osc-args-requires : tie.Need-measure-osc-args-requires
-measure-osc-args-requires c κs =
+count-osc-args-requires : tie.Need-count-osc-args-requires
+count-osc-args-requires c κs =
     let p4 = c .before .before .before .before in
     let p6 = p4 .before .before in
     let a = p6 .before .before .before .args in
@@ -75,7 +76,7 @@ add-put-message-2 c =
     let w = found-in l (a .pos) (sym (p9 .length .given .1) ∙ p11 .read-osc-string .ensures) in
     omega (
       arith,
-      measured-within (a .base) _ _ _ (sym (p2 .count .given .1) ∙ p4 .measure-osc-args .ensures (a .base)),
+      measured-within noDirt (a .base) _ _ _ (sym (p2 .count .given .1) ∙ p4 .count-osc-args .ensures (a .base)),
       args-fit l (p9 .length .given .0 .0) (p9 .length .given .0 .1 .0) (p6 .tags-in .ensures),
     )
 
@@ -93,11 +94,12 @@ put-message-requires c κs =
     let e = sym (p9 .length .given .1) ∙ p11 .read-osc-string .ensures in
     let w = found-in l (a .pos) e in
     let t = types-tags l (p9 .length .given .0 .0) (p6 .tags-in .ensures) in
-    let s = tail l (p9 .length .given .0 .1 .0) in (
+    let u = p9 .length .given .0 .1 .0 in
+    let s = tail l u in (
       rw s (omega (arith, p14 .pre .0, length-drop (p9 .length .given .0 .1 .0) l)),
       (
         args-room (a .base) (a .item) l (a .pos) e t s (p14 .pre .1),
-        kept-known (a .base) (a .item) l (a .pos) e t s (sym (p2 .count .given .1) ∙ p4 .measure-osc-args .ensures (a .base)),
+        kept-known (a .base) (a .item) l (a .pos) e t s noDirt (sym (p2 .count .given .1) ∙ p4 .count-osc-args .ensures (a .base)),
       ),
     )
 
@@ -113,7 +115,7 @@ add-t24 c =
     let w = found-in l (a .pos) (sym (p12 .length .given .1) ∙ p14 .read-osc-string .ensures) in
     omega (
       arith,
-      measured-within (a .base) _ _ _ (sym (p5 .count .given .1) ∙ p7 .measure-osc-args .ensures (a .base)),
+      measured-within noDirt (a .base) _ _ _ (sym (p5 .count .given .1) ∙ p7 .count-osc-args .ensures (a .base)),
       args-fit l (p12 .length .given .0 .0) (p12 .length .given .0 .1 .0) (p9 .tags-in .ensures),
     )
 
@@ -139,7 +141,7 @@ add-t28 c =
     let w = found-in l (a .pos) (sym (p12 .length .given .1) ∙ p14 .read-osc-string .ensures) in
     omega (
       arith,
-      measured-within (a .base) _ _ _ (sym (p5 .count .given .1) ∙ p7 .measure-osc-args .ensures (a .base)),
+      measured-within noDirt (a .base) _ _ _ (sym (p5 .count .given .1) ∙ p7 .count-osc-args .ensures (a .base)),
       args-fit l (p12 .length .given .0 .0) (p12 .length .given .0 .1 .0) (p9 .tags-in .ensures),
       p17 .pre .0,
     )
@@ -155,9 +157,10 @@ returns c =
     let p17 = p14 .before .before .before in
     let a = p17 .args in
     let l = a .input .now in
+    let u = p12 .length .given .0 .1 .0 in
     message-fills (a .base) (a .item) l (a .pos) (sym (p12 .length .given .1) ∙ p14 .read-osc-string .ensures)
-    (types-tags l (p12 .length .given .0 .0) (p9 .tags-in .ensures)) (tail l (p12 .length .given .0 .1 .0))
-    (sym (p5 .count .given .1) ∙ p7 .measure-osc-args .ensures (a .base)) (a .index) (a .table .now) (p2 .put-message .ensures)
+    (types-tags l (p12 .length .given .0 .0) (p9 .tags-in .ensures)) (tail l u) noDirt
+    (sym (p5 .count .given .1) ∙ p7 .count-osc-args .ensures (a .base)) (a .index) (a .table .now) (p2 .put-message .ensures)
 
 returns-2 : tie.Need-returns-2
 returns-2 c =
@@ -167,9 +170,10 @@ returns-2 c =
     let p9 = p7 .before .before in
     let a = p9 .before .before .before .args in
     let l = a .input .now in
+    let u = p7 .length .given .0 .1 .0 in
     fills-none (args-refused (a .base) _ l (a .pos) (sym (p7 .length .given .1) ∙ p9 .read-osc-string .ensures)
-    (types-tags l (p7 .length .given .0 .0) (p4 .tags-in .ensures)) (tail l (p7 .length .given .0 .1 .0))
-    (sym (c .enum-told .given .1) ∙ p2 .measure-osc-args .ensures (a .base)))
+    (types-tags l (p7 .length .given .0 .0) (p4 .tags-in .ensures)) (tail l u) noDirt
+    (sym (c .enum-told .given .1) ∙ p2 .count-osc-args .ensures (a .base)))
 
 returns-3 : tie.Need-returns-3
 returns-3 c = fills-none (types-lack _ _ _ _ (sym (c .enum-told2 .given .1) ∙ c .before .before .read-osc-string .ensures))
@@ -187,8 +191,8 @@ decode-message-spec =
     sub-rest
     part-rest-start
     (λ c. search needs)
-    add-measure-osc-args
-    measure-osc-args-requires
+    add-count-osc-args
+    count-osc-args-requires
     (λ c. search needs)
     add-put-message
     add-put-message-2

@@ -11,6 +11,7 @@ use Rattle.node.specs.Tags.{classOf, sortOf}
 use Rattle.node.specs.Records.{recordOf, recordsOf, kindAt, fieldAt, stored}
 use Rattle.text.specs.Text.{readText}
 use Rattle.argument.specs.Argument.{readArg}
+use Rattle.argument.specs.Dirt.{keptPadding, packetsPadding}
 use Rattle.arguments.specs.Arguments.{readTags}
 use Rattle.heads.specs.Heads.{sizeOf, prefixOf}
 use Rattle.packet.specs.FirstText.{startOf}
@@ -32,23 +33,23 @@ framed = 0 ∷ 0 ∷ 0 ∷ 36 ∷ mixed
 by-udp : WellFormed (tableAfter udp 2 nested (blank 7)) 7 nested
 unfolding number size depth snoc classOf sortOf readText readArg readTags startOf sizeOf readMessage bundleBy elementBy elementsBy packetBy
     packetAt readPacket udp
-by-udp = encodable Udp nested (small-bytes nested tt) 2 (blank 7) (once 0) (within 0) 0 7 refl nested-answer
+by-udp = encodable Udp nested (small-bytes nested tt) 2 (blank 7) (once 0) (within 0) 0 7 0 refl nested-answer
 
 by-tcp : WellFormed (tableAfter tcp 64 framed (blank 5)) 5 framed
 unfolding number size depth snoc classOf sortOf readText readArg readTags startOf prefixOf readMessage packetBy packetAt
-    readPacket readFrame tcp decoded
-by-tcp = encodable Tcp framed (small-bytes framed tt) 64 (blank 5) (mixed-item 4) (mixed-arguments 4) 0 5 refl refl
+    readPacket readFrame tcp decoded keptPadding packetsPadding
+by-tcp = encodable Tcp framed (small-bytes framed tt) 64 (blank 5) (mixed-item 4) (mixed-arguments 4) 0 5 0 refl refl
 
 by-vec : WellFormed (tableAfter tcpVec 64 framed (blank 5)) 5 framed
 unfolding number size depth snoc classOf sortOf readText readArg readTags startOf prefixOf readMessage packetBy packetAt
-    readPacket readFrame framesAt readFrames tcpVec decoded
-by-vec = encodable TcpVec framed (small-bytes framed tt) 64 (blank 5) (mixed-item 4) (mixed-arguments 4) 0 5 refl refl
+    readPacket readFrame framesAt readFrames tcpVec decoded keptPadding packetsPadding
+by-vec = encodable TcpVec framed (small-bytes framed tt) 64 (blank 5) (mixed-item 4) (mixed-arguments 4) 0 5 0 refl refl
 
 -- twelve records, of two trees
 by-list : AreTrees (tableAfter tcpVec 2 two (blank 12)) 12 two (node (mixed-item 4) (mixed-arguments 4) (node (once 44) (within 44) nil))
 unfolding number size depth snoc classOf sortOf readText readArg readTags startOf sizeOf prefixOf readMessage bundleBy elementBy
     elementsBy packetBy packetAt readPacket readFrame framesAt readFrames tcpVec
-by-list = gives-trees TcpVec two (small-bytes two tt) 2 (blank 12) 12 0 two-answer
+by-list = gives-trees TcpVec two (small-bytes two tt) 2 (blank 12) 12 0 0 two-answer
 
 -- record 1's text is é
 its-text : Octets (0xC3 ∷ 0xA9 ∷ [])

@@ -117,11 +117,11 @@ record InLimits (limit : ℕ) (msg : List ℕ) (F : Forest) : Type 0 where
 
 module _ (rule : List ℕ → Whole) (limit : ℕ) (msg : List ℕ) (F : Forest) (n : ℕ) (e : rule msg ≡ trees F n) where
   -- it was given within the limits
-  within : (capacity : ℕ) {count left : ℕ} → decoded rule capacity limit msg ≡ Packets count left → InLimits limit msg F
-  within capacity {count} {left} =
-      let P : Decoded → Type 0 = λ r. r ≡ Packets count left → InLimits limit msg F in
+  within : (capacity : ℕ) {count left dirty : ℕ} → decoded rule capacity limit msg ≡ Packets count left dirty → InLimits limit msg F
+  within capacity {count} {left} {dirty} =
+      let P : Decoded → Type 0 = λ r. r ≡ Packets count left dirty → InLimits limit msg F in
       by-decoded P rule capacity limit msg (λ _ q. no-packets (sym q)) (λ _ q. no-packets (sym q))
-      (λ h k. rw e (by-trees P capacity limit F n (λ _ q. no-packets (sym q)) (λ _ q. no-packets (sym q))
+      (λ h k. rw e (by-trees P capacity limit msg F n (λ _ q. no-packets (sym q)) (λ _ q. no-packets (sym q))
       (λ d c q. record { limits = h; short = k; shallow = d })))
 
   -- there are no more nodes than bytes, since so many records always hold them
@@ -143,7 +143,7 @@ module _ (rule : List ℕ → Whole) (limit : ℕ) (msg : List ℕ) (F : Forest)
 
 -- the records that a decoder answers with are trees that obey the rules over the call's input, however many packets they are
 pub gives-trees : (framing : Framing) → GivesTrees (ruleOf framing)
-gives-trees framing msg small limit table count left q =
+gives-trees framing msg small limit table count left dirty q =
     let rule = ruleOf framing in
     let F = forestOf (rule msg) in
     let t = tableAfter rule limit msg table in
@@ -165,9 +165,9 @@ gives-trees framing msg small limit table count left q =
 
 -- a table that a decoder answers for one packet is well formed over the call's input
 pub encodable : (framing : Framing) → Encodable (ruleOf framing)
-encodable framing msg small limit table item inside left count e q =
+encodable framing msg small limit table item inside left count dirty e q =
     let t = tableAfter (ruleOf framing) limit msg table in
     let w : AreTrees t count msg (node item inside nil)
-    = subst (λ (f : Forest). AreTrees t count msg f) (ap forestOf e) (gives-trees framing msg small limit table count left q) in
+    = subst (λ (f : Forest). AreTrees t count msg f) (ap forestOf e) (gives-trees framing msg small limit table count left dirty q) in
     tree-formed {item = item} {inside = inside}
     (record { spans = w .spans; obeys = w .obeys; few = w .few; fits = w .fits; zeros = w .zeros })

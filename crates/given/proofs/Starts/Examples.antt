@@ -14,11 +14,11 @@ use Rattle.given.proofs.Starts.Tables.{gives-starts}
 
 -- the starts of the bundle's seven records
 by-udp : StartsHold (tableAfter udp 2 nested (blank 7)) 7 (length nested)
-by-udp = gives-starts Udp nested (small-bytes nested tt) 2 (blank 7) 7 0 nested-answer
+by-udp = gives-starts Udp nested (small-bytes nested tt) 2 (blank 7) 7 0 0 nested-answer
 
 -- those of the list's twelve: the bundle's, record 5, is not before the message's last argument
 by-list : StartsHold (tableAfter tcpVec 2 two (blank 12)) 12 (length two)
-by-list = gives-starts TcpVec two (small-bytes two tt) 2 (blank 12) 12 0 two-answer
+by-list = gives-starts TcpVec two (small-bytes two tt) 2 (blank 12) 12 0 0 two-answer
 
 later : startAt (tableAfter tcpVec 2 two (blank 12)) 4 ≤ startAt (tableAfter tcpVec 2 two (blank 12)) 5
 later = by-list .rise 4 5 (omega arith) (omega arith)

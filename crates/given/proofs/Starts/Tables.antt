@@ -110,10 +110,10 @@ whole-begun TcpVec msg =
 
 -- the starts of the records that a decoder answers with, however many packets they are
 pub gives-starts : (framing : Framing) → GivesStarts (ruleOf framing)
-gives-starts framing msg small limit table count left q =
+gives-starts framing msg small limit table count left dirty q =
     let rule = ruleOf framing in
     let t = tableAfter rule limit msg table in
-    let s = gives-trees framing msg small limit table count left q .spans in
+    let s = gives-trees framing msg small limit table count left dirty q .spans in
     let b : Begun 0 (forestOf (rule msg)) (length msg)
     = subst (WholeBegun 0 (length msg)) (accepted rule _ limit msg q .read) (whole-begun framing msg) in
     let each : (i : ℕ) → i < count → BegunAt t 0 (length msg) i = λ i h. each-begun t 0 count s b i (omega arith) h in

@@ -4,16 +4,20 @@ use Rattle.measure.proofs.measure_message.Reads as measure-message-read
 use Rattle.heads.proofs.read_size.Reads as read-size-reads
 use Rattle.packet.proofs.read_start.Reads as read-start-reads
 use Rattle.measure.proofs.skim_elements.Reads as skim-elements-reads
-use Rattle.measure.proofs.Extents.{refused-is, packet-by-message, packet-by-bundle}
+use Rattle.text.proofs.dirty_in.Reads as dirty-in-reads
+use Rattle.text.proofs.Within.{found-in, found-ends}
+use Rattle.measure.proofs.Extents.{refused-is, packet-by-message, packet-by-bundle, stands-after, stands-in, next-in}
 use Rattle.heads.proofs.Heads.{part-4, size-in}
-use Rattle.packet.proofs.FirstText.{message-start-in, bundle-start-in}
+use Rattle.packet.proofs.FirstText.{message-start-in, bundle-start-in, message-text, bundle-text}
 use Rattle.packet.proofs.Knot.{starts-refused, element-runs-out}
-use Rattle.measure.proofs.Extents.{element-by-packet, bundle-deep, Going, going-start, going-on, going-deep, going-done, turned}
-use Rattle.packet.proofs.Bundles.{bundle-short, counted-in}
+use Rattle.measure.proofs.Extents.{element-by-packet, bundle-deep, Going, going-start, going-on, going-deep, going-done}
+use Rattle.packet.proofs.Bundles.{bundle-short}
+use Rattle.argument.specs.CodeParts.{StandsAt}
 use Rattle.wire.proofs.Parts.{tail}
-use lib.ListN.{length}
+use lib.ListN.{length, drop, length-take}
 use Prim.Native.Nat.{ℕ, _+_, _-_, _≤_, _<_}
 use mathlib.Core.Path.{_≡_, sym, _∙_}
+use mathlib.Core.List.{List}
 use native.Mathlib.Omega.{arith}
 use borrow.Author.Needs.{needs}
 use borrow.Fn.Kinds.{In}
@@ -88,11 +92,12 @@ measure-packet-below t =
     measure-packet.Pre
 
 abbrev measure-bundle-Inv-loop : measure-bundle-lts.InvT-loop
-measure-bundle-Inv-loop input pos room rest₀ at₀ count₀ rest at count =
-    (at + length rest ≡ pos + length input) × (pos + 8 ≤ at) × ((base : ℕ) → Going base input pos (room - 1) rest at count)
+measure-bundle-Inv-loop input pos room dirt rest₀ at₀ count₀ sum₀ rest at count sum =
+    (at + length rest ≡ pos + length input) × (pos + 8 ≤ at)
+    × ((base : ℕ) (msg : List ℕ) → StandsAt msg (base + pos) input → Going base msg input pos (room - 1) dirt rest at count sum)
 
 abbrev measure-bundle-μ-loop : measure-bundle-lts.MeasureT-loop
-measure-bundle-μ-loop input pos room rest₀ at₀ count₀ rest at count = length rest
+measure-bundle-μ-loop input pos room dirt rest₀ at₀ count₀ sum₀ rest at count sum = length rest
 
 pub +measure-bundle+measure-element+measure-packet-spec : {M : Type 1} → statement M
 +measure-bundle+measure-element+measure-packet-spec =
@@ -106,90 +111,102 @@ pub +measure-bundle+measure-element+measure-packet-spec : {M : Type 1} → state
     measure-bundle.Post
     measure-bundle-Inv-loop
     measure-bundle-μ-loop
-    (λ c. λ base start. refused-is _ _ (bundle-short base start _ _ (c .if1 .taken)))
+    (λ c. λ base msg w start. refused-is _ _ _ (bundle-short base start _ _ (c .if1 .taken)))
     (λ c. search needs)
     (λ c. search needs)
     (λ c. search needs)
-    (λ c. search needs)
-    (λ c κs. omega (arith, (c .before .rest .given .2)))
-    (λ c. let p3 = c .before .before .before in let p5 = p3 .before .before in
-    λ base start. bundle-deep base start (p5 .args .input .now) (p5 .args .pos) (p5 .args .room) (p3 .if1 .left)
-    (omega (arith, (c .before .if2 .taken))) ((c .skim-elements .ensures) base ∙ rw (tail (p5 .args .input .now) 8)))
-    (λ c. let p4 = c .before .before .before .before in (
+    (λ c. let s = c .before .before .before in omega (arith, s .pre .1 .0))
+    (λ c κs. let s = c .before .before .before .before in omega (arith, s .pre .1 .0, (c .before .rest .given .2)))
+    (λ c. let p3 = c .before .before .before in let a = p3 .before .before .args in
+    λ base msg w start. bundle-deep base start (a .input .now) (a .pos) _ (a .room) (p3 .if1 .left)
+    (omega (arith, (c .before .if2 .taken))) ((c .skim-elements .ensures) base ∙ rw (tail (a .input .now) 8)))
+    (λ c. let p2 = c .before .before in let a = p2 .before .before .args in (
       omega (arith, (c .before .rest .given .2)),
       search needs,
-      λ base. going-start base (p4 .args .input .now) (p4 .args .pos)
-          ((p4 .args .room) - 1),
+      λ base msg w. going-start base msg (a .input .now) (a .pos) ((a .room) - 1) (a .dirt) w (p2 .if1 .left),
     ))
     (λ c. search needs)
-    (λ c κs. search needs)
-    (λ c. search needs)
-    (λ c. let p3 = c .before .before .before in let p4 = p3 .before in let p9 = p4 .before .before .before .before .before in
-    omega (
-      arith,
-      turned 0 (p4 .loop .rest .now) (p4 .loop .at) ((p9 .args .room) - 1)
-          (sym (c .before .n .given .1) ∙ (p3 .measure-element .ensures) 0) .step,
-      (p4 .loop .inv .2) 0 .counted,
-      counted-in 0
-          (p9 .args .input .now) (p9 .args .pos),
-    ))
-    (λ c. let p3 = c .before .before .before in let p4 = p3 .before in let p9 = p4 .before .before .before .before .before in
-    omega (
-      arith,
-      turned 0 (p4 .loop .rest .now) (p4 .loop .at) ((p9 .args .room) - 1)
-          (sym (c .before .n .given .1) ∙ (p3 .measure-element .ensures) 0) .step,
-    ))
-    (λ c. let p3 = c .before .before .before in let p4 = p3 .before in let p9 = p4 .before .before .before .before .before in
-    omega (
-      arith,
-      turned 0 (p4 .loop .rest .now) (p4 .loop .at) ((p9 .args .room) - 1)
-          (sym (c .before .n .given .1) ∙ (p3 .measure-element .ensures) 0) .step,
-    ))
-    (λ c. let p3 = c .before .before .before in let p4 = p3 .before in let p9 = p4 .before .before .before .before .before in
-    omega (
-      arith,
-      turned 0 (p4 .loop .rest .now) (p4 .loop .at) ((p9 .args .room) - 1)
-          (sym (c .before .n .given .1) ∙ (p3 .measure-element .ensures) 0) .step,
+    (λ c κs. let s = c .before .before .before .before .before in (
+      omega (arith, (c .loop .inv .0), (c .loop .inv .1)),
+      omega (arith, s .pre .1 .0, (c .loop .inv .0), (c .loop .inv .1)),
     ))
     (λ c. search needs)
-    (λ c. let p2 = c .before .before in let p4 = p2 .before .before in let p5 = p4 .before in
-    let p10 = p5 .before .before .before .before .before in
+    (λ c. let p3 = c .before .before .before in let l = p3 .before .loop in
+    let s = p3 .before .before .before .before .before .before in
     omega (
       arith,
-      turned 0 (p5 .loop .rest .now) (p5 .loop .at) ((p10 .args .room) - 1)
-          (sym (p2 .n .given .1) ∙ (p4 .measure-element .ensures) 0) .step,
+      next-in (s .args .input .now) (s .args .pos) ((s .args .room) - 1) (s .args .dirt) (l .rest .now) (l .at) (l .count) (l .sum)
+          (l .inv .2) (λ base msg w. sym (c .before .n .given .1) ∙ (p3 .measure-element .ensures) base msg w),
+      s .pre .1,
+    ))
+    (λ c. let p3 = c .before .before .before in let l = p3 .before .loop in
+    let s = p3 .before .before .before .before .before .before in
+    omega (
+      arith,
+      next-in (s .args .input .now) (s .args .pos) ((s .args .room) - 1) (s .args .dirt) (l .rest .now) (l .at) (l .count) (l .sum)
+          (l .inv .2) (λ base msg w. sym (c .before .n .given .1) ∙ (p3 .measure-element .ensures) base msg w),
+      s .pre .1,
+    ))
+    (λ c. let p3 = c .before .before .before in let l = p3 .before .loop in
+    let s = p3 .before .before .before .before .before .before in
+    omega (
+      arith,
+      next-in (s .args .input .now) (s .args .pos) ((s .args .room) - 1) (s .args .dirt) (l .rest .now) (l .at) (l .count) (l .sum)
+          (l .inv .2) (λ base msg w. sym (c .before .n .given .1) ∙ (p3 .measure-element .ensures) base msg w),
+    ))
+    (λ c. let p3 = c .before .before .before in let l = p3 .before .loop in
+    let s = p3 .before .before .before .before .before .before in
+    omega (
+      arith,
+      next-in (s .args .input .now) (s .args .pos) ((s .args .room) - 1) (s .args .dirt) (l .rest .now) (l .at) (l .count) (l .sum)
+          (l .inv .2) (λ base msg w. sym (c .before .n .given .1) ∙ (p3 .measure-element .ensures) base msg w),
+    ))
+    (λ c. let p3 = c .before .before .before in let l = p3 .before .loop in
+    let s = p3 .before .before .before .before .before .before in
+    omega (
+      arith,
+      next-in (s .args .input .now) (s .args .pos) ((s .args .room) - 1) (s .args .dirt) (l .rest .now) (l .at) (l .count) (l .sum)
+          (l .inv .2) (λ base msg w. sym (c .before .n .given .1) ∙ (p3 .measure-element .ensures) base msg w),
+    ))
+    (λ c. search needs)
+    (λ c. let p2 = c .before .before in let p4 = p2 .before .before in let l = p4 .before .loop in
+    let s = p4 .before .before .before .before .before .before in
+    omega (
+      arith,
+      next-in (s .args .input .now) (s .args .pos) ((s .args .room) - 1) (s .args .dirt) (l .rest .now) (l .at) (l .count) (l .sum)
+          (l .inv .2) (λ base msg w. sym (p2 .n .given .1) ∙ (p4 .measure-element .ensures) base msg w),
       (c .rest2 .given .2),
     ))
-    (λ c. let p2 = c .before .before in let p4 = p2 .before .before in let p5 = p4 .before in
-    let p10 = p5 .before .before .before .before .before in (
-      omega (
-        arith,
-        turned 0 (p5 .loop .rest .now) (p5 .loop .at) ((p10 .args .room) - 1)
-            (sym (p2 .n .given .1) ∙ (p4 .measure-element .ensures) 0) .step,
-        (c .rest2 .given .2),
-      ),
-      omega (
-        arith,
-        turned 0 (p5 .loop .rest .now)
-            (p5 .loop .at) ((p10 .args .room) - 1) (sym (p2 .n .given .1) ∙ (p4 .measure-element .ensures) 0) .step,
-      ),
-      λ base. going-on base
-          (p10 .args .input .now) (p10 .args .pos) ((p10 .args .room) - 1) (p5 .loop .rest .now) (p5 .loop .at) (p5 .loop .count)
-          ((p5 .loop .inv .2) base) (sym (p2 .n .given .1) ∙ (p4 .measure-element .ensures) base),
+    (λ c. let p2 = c .before .before in let p4 = p2 .before .before in let l = p4 .before .loop in
+    let s = p4 .before .before .before .before .before .before in
+    let a = s .args in
+    let b = next-in (a .input .now) (a .pos) ((a .room) - 1) (a .dirt) (l .rest .now) (l .at) (l .count) (l .sum) (l .inv .2)
+    (λ base msg w. sym (p2 .n .given .1) ∙ (p4 .measure-element .ensures) base msg w) in (
+      omega (arith, b, l .inv .0, (c .rest2 .given .2)),
+      omega (arith, b, l .inv .1),
+      λ base msg w.
+          let g = (l .inv .2) base msg w in
+          going-on base msg (a .input .now) (a .pos) ((a .room) - 1) (a .dirt) (l .rest .now) (l .at) (l .count) (l .sum) g
+          (sym (p2 .n .given .1) ∙ (p4 .measure-element .ensures) base msg (g .stands)),
     ))
     (λ c. search needs)
-    (λ c κs. search needs)
+    (λ c κs. let p3 = c .before .before .before in let s = p3 .before .before .before .before .before in
+    omega (arith, s .pre .1 .0, (p3 .loop .inv .0), (p3 .loop .inv .1)))
     (λ c. let p3 = c .before .before .before in let p4 = p3 .before in let p5 = p4 .before in let p7 = p5 .before .before in
-    let p9 = p7 .before .before in
-    λ base start. going-deep base (p9 .args .input .now) (p9 .args .pos) ((p9 .args .room) - 1) (p4 .loop .rest .now) (p4 .loop .at)
-    (p4 .loop .count) ((p4 .loop .inv .2) base) start (omega (arith, (p5 .if2 .left))) (p7 .if1 .left)
-    (sym (c .before .enum-told .given .1) ∙ (p3 .measure-element .ensures) base) ((c .skim-elements2 .ensures) base))
+    let a = p7 .before .before .args in let l = p4 .loop in
+    λ base msg w start.
+    let g = (l .inv .2) base msg w in
+    going-deep base msg (a .input .now) (a .pos) ((a .room) - 1) (a .dirt) (l .rest .now) (l .at) (l .count) (l .sum) g start
+    (omega (arith, (p5 .if2 .left))) (p7 .if1 .left)
+    (sym (c .before .enum-told .given .1) ∙ (p3 .measure-element .ensures) base msg (g .stands)) ((c .skim-elements2 .ensures) base))
     (λ c. search needs)
     (λ c. let p2 = c .before .before in let p3 = p2 .before in let p4 = p3 .before in let p6 = p4 .before .before in
-    let p8 = p6 .before .before in
-    λ base start. going-done base (p8 .args .input .now) (p8 .args .pos) ((p8 .args .room) - 1) (p3 .loop .rest .now) (p3 .loop .at)
-    (p3 .loop .count) ((p3 .loop .inv .2) base) start (omega (arith, (p4 .if2 .left))) (p6 .if1 .left)
-    (sym (c .enum-told2 .given .1) ∙ (p2 .measure-element .ensures) base)))
+    let a = p6 .before .before .args in let l = p3 .loop in
+    λ base msg w start.
+    let g = (l .inv .2) base msg w in
+    going-done base msg (a .input .now) (a .pos) ((a .room) - 1) (a .dirt) (l .rest .now) (l .at) (l .count) (l .sum) g start
+    (omega (arith, (p4 .if2 .left))) (p6 .if1 .left)
+    (sym (c .enum-told2 .given .1) ∙ (p2 .measure-element .ensures) base msg (g .stands))))
     (λ t. measure-element-lts.spec (
       read-size-reads.Asked,
       read-size-reads.Learnt,
@@ -224,20 +241,34 @@ pub +measure-bundle+measure-element+measure-packet-spec : {M : Type 1} → state
     (λ c. search needs)
     (λ c. let p3 = c .before .before .before in let p6 = p3 .before .before .before in let p8 = p6 .before .before in
     let p10 = p8 .before .before in
-    λ base. element-by-packet base _ (p10 .args .input .now) _ _ (sym (p6 .size .given .1) ∙ (p8 .read-size .ensures))
-    (part-4 (p10 .args .input .now) (p6 .size .given .0 .0)) (sym (c .before .count .given .1) ∙ (p3 .measure-packet .ensures) base))
+    let l = p10 .args .input .now in let n = p6 .size .given .0 .0 in
+    let e = sym (p6 .size .given .1) ∙ (p8 .read-size .ensures) in
+    let long : 4 ≤ length l = omega (arith, size-in l e) in
+    λ base msg w. element-by-packet base msg _ l _ _ e (part-4 l n)
+    (sym (c .before .count .given .1)
+    ∙ (p3 .measure-packet .ensures) base msg (stands-in base (p10 .args .pos) n l msg w long (part-4 l n))))
     (λ c. let p2 = c .before .before in let p5 = p2 .before .before .before in let p7 = p5 .before .before in
     let p9 = p7 .before .before in
-    λ base. element-by-packet base _ (p9 .args .input .now) _ _ (sym (p5 .size .given .1) ∙ (p7 .read-size .ensures))
-    (part-4 (p9 .args .input .now) (p5 .size .given .0 .0)) (sym (c .enum-told .given .1) ∙ (p2 .measure-packet .ensures) base))
+    let l = p9 .args .input .now in let n = p5 .size .given .0 .0 in
+    let e = sym (p5 .size .given .1) ∙ (p7 .read-size .ensures) in
+    let long : 4 ≤ length l = omega (arith, size-in l e) in
+    λ base msg w. element-by-packet base msg _ l _ _ e (part-4 l n)
+    (sym (c .enum-told .given .1) ∙ (p2 .measure-packet .ensures) base msg (stands-in base (p9 .args .pos) n l msg w long (part-4 l n))))
     (λ c. let p3 = c .before .before .before in let p6 = p3 .before .before .before in let p8 = p6 .before .before in
     let p10 = p8 .before .before in
-    λ base. element-by-packet base _ (p10 .args .input .now) _ _ (sym (p6 .size .given .1) ∙ (p8 .read-size .ensures))
-    (part-4 (p10 .args .input .now) (p6 .size .given .0 .0)) (sym (c .before .fault .given .1) ∙ (p3 .measure-packet .ensures) base))
-    (λ c. λ base. refused-is _ _ (element-runs-out base _ _ (sym (c .enum-told2 .given .1) ∙ (c .before .before .read-size .ensures)))))
+    let l = p10 .args .input .now in let n = p6 .size .given .0 .0 in
+    let e = sym (p6 .size .given .1) ∙ (p8 .read-size .ensures) in
+    let long : 4 ≤ length l = omega (arith, size-in l e) in
+    λ base msg w. element-by-packet base msg _ l _ _ e (part-4 l n)
+    (sym (c .before .fault .given .1)
+    ∙ (p3 .measure-packet .ensures) base msg (stands-in base (p10 .args .pos) n l msg w long (part-4 l n))))
+    (λ c. λ base msg w. refused-is _ _ _
+    (element-runs-out base _ _ (sym (c .enum-told2 .given .1) ∙ (c .before .before .read-size .ensures)))))
     λ t. measure-packet-lts.spec (
       read-start-reads.Asked,
       read-start-reads.Learnt,
+      dirty-in-reads.Asked,
+      dirty-in-reads.Learnt,
       measure-message-reads.Asked,
       measure-message-reads.Learnt,
       measure-bundle-below t,
@@ -247,36 +278,79 @@ pub +measure-bundle+measure-element+measure-packet-spec : {M : Type 1} → state
     measure-packet.Post
     (λ c κs. search needs)
     (λ c. search needs)
-    (λ c. let p3 = c .before .before .before in let p5 = p3 .before .before in
-    omega (arith, message-start-in (p5 .args .input .now) (p5 .args .pos) (sym (c .before .used .given .1) ∙ (p3 .read-start .ensures))))
-    (λ c. let p3 = c .before .before .before in let p5 = p3 .before .before in
-    omega (arith, message-start-in (p5 .args .input .now) (p5 .args .pos) (sym (c .before .used .given .1) ∙ (p3 .read-start .ensures))))
-    (λ c. search needs)
-    (λ c. let p2 = c .before .before in let p4 = p2 .before .before in let p6 = p4 .before .before in
-    omega (arith, message-start-in (p6 .args .input .now) (p6 .args .pos) (sym (p2 .used .given .1) ∙ (p4 .read-start .ensures))))
-    (λ c κs. let p2 = c .before .before in let p4 = p2 .before .before in let p6 = p4 .before .before in
+    (λ c. let p3 = c .before .before .before in let s = p3 .before .before in
+    let a = s .args in
+    omega (arith, s .pre .1, message-start-in (a .input .now) (a .pos) (sym (c .before .length .given .1) ∙ (p3 .read-start .ensures))))
+    (λ c. let p3 = c .before .before .before in let a = p3 .before .before .args in
+    omega (arith, message-start-in (a .input .now) (a .pos) (sym (c .before .length .given .1) ∙ (p3 .read-start .ensures))))
+    (λ c. let p3 = c .before .before .before in let a = p3 .before .before .args in
+    omega (arith, message-start-in (a .input .now) (a .pos) (sym (c .before .length .given .1) ∙ (p3 .read-start .ensures))))
+    (λ c. let p3 = c .before .before .before in let a = p3 .before .before .args in
+    omega (arith, message-start-in (a .input .now) (a .pos) (sym (c .before .length .given .1) ∙ (p3 .read-start .ensures))))
+    (λ c κs. let p2 = c .before .before in let p4 = p2 .before .before in let a = p4 .before .before .args in
+    let n = p2 .length .given .0 .0 in let u = p2 .length .given .0 .1 .0 in let l = a .input .now in
     omega (
       arith,
-      message-start-in (p6 .args .input .now) (p6 .args .pos) (sym (p2 .used .given .1) ∙ (p4 .read-start .ensures)),
-      (c .measure-message-arg .given .2),
+      found-ends l (a .pos) (message-text l (a .pos) (sym (p2 .length .given .1) ∙ (p4 .read-start .ensures))),
+      length-take (u - (n + 1)) (drop (n + 1) l),
+    ))
+    (λ c. let p3 = c .before .before .before in let p5 = p3 .before .before in let a = p5 .before .before .args in
+    omega (arith, message-start-in (a .input .now) (a .pos) (sym (p3 .length .given .1) ∙ (p5 .read-start .ensures))))
+    (λ c. let p3 = c .before .before .before in let p5 = p3 .before .before in let a = p5 .before .before .args in
+    omega (arith, message-start-in (a .input .now) (a .pos) (sym (p3 .length .given .1) ∙ (p5 .read-start .ensures))))
+    (λ c. search needs)
+    (λ c. let p4 = c .before .before .before .before in let p6 = p4 .before .before in let s = p6 .before .before in
+    let a = s .args in
+    omega (arith, s .pre .1, message-start-in (a .input .now) (a .pos) (sym (p4 .length .given .1) ∙ (p6 .read-start .ensures))))
+    (λ c κs. let p4 = c .before .before .before .before in let p6 = p4 .before .before in let s = p6 .before .before in
+    let l = s .args .input .now in
+    let w = message-start-in l (s .args .pos) (sym (p4 .length .given .1) ∙ (p6 .read-start .ensures)) in (
+      omega (arith, s .pre .1, w, (c .measure-message-arg .given .2)),
+      omega (arith, s .pre .1, w, c .before .dirty-in .ensures .0),
     ))
     (λ c. search needs)
-    (λ c. let p3 = c .before .before .before in let p5 = p3 .before .before in
-    omega (arith, bundle-start-in (p5 .args .input .now) (p5 .args .pos) (sym (c .before .used2 .given .1) ∙ (p3 .read-start .ensures))))
-    (λ c. let p3 = c .before .before .before in let p5 = p3 .before .before in
-    omega (arith, bundle-start-in (p5 .args .input .now) (p5 .args .pos) (sym (c .before .used2 .given .1) ∙ (p3 .read-start .ensures))))
+    (λ c. let p3 = c .before .before .before in let a = p3 .before .before .args in
+    let l = a .input .now in
+    omega (arith, found-in l (a .pos) (bundle-text l (a .pos) (sym (c .before .used .given .1) ∙ (p3 .read-start .ensures)))))
+    (λ c. let p3 = c .before .before .before in let a = p3 .before .before .args in
+    let l = a .input .now in
+    omega (arith, found-in l (a .pos) (bundle-text l (a .pos) (sym (c .before .used .given .1) ∙ (p3 .read-start .ensures)))))
+    (λ c. let p3 = c .before .before .before in let a = p3 .before .before .args in
+    let l = a .input .now in
+    omega (arith, found-in l (a .pos) (bundle-text l (a .pos) (sym (c .before .used .given .1) ∙ (p3 .read-start .ensures)))))
+    (λ c κs. let p2 = c .before .before in let p4 = p2 .before .before in let a = p4 .before .before .args in
+    let u = p2 .used .given .0 .0 in let l = a .input .now in
+    omega (
+      arith,
+      found-ends l (a .pos) (bundle-text l (a .pos) (sym (p2 .used .given .1) ∙ (p4 .read-start .ensures))),
+      length-take (u - 8) (drop 8 l),
+    ))
+    (λ c. let p3 = c .before .before .before in let p5 = p3 .before .before in let a = p5 .before .before .args in
+    omega (arith, bundle-start-in (a .input .now) (a .pos) (sym (p3 .used .given .1) ∙ (p5 .read-start .ensures))))
+    (λ c. let p3 = c .before .before .before in let p5 = p3 .before .before in let a = p5 .before .before .args in
+    omega (arith, bundle-start-in (a .input .now) (a .pos) (sym (p3 .used .given .1) ∙ (p5 .read-start .ensures))))
     (λ c. search needs)
-    (λ c. let p2 = c .before .before in let p4 = p2 .before .before in let p6 = p4 .before .before in
-    omega (arith, bundle-start-in (p6 .args .input .now) (p6 .args .pos) (sym (p2 .used2 .given .1) ∙ (p4 .read-start .ensures))))
-    (λ c κs. let p2 = c .before .before in let p4 = p2 .before .before in let p6 = p4 .before .before in
-    let w = bundle-start-in (p6 .args .input .now) (p6 .args .pos) (sym (p2 .used2 .given .1) ∙ (p4 .read-start .ensures)) in
-    (omega (arith, (c .measure-bundle-arg .given .2)), omega (arith, (c .measure-bundle-arg .given .2))))
+    (λ c. let p4 = c .before .before .before .before in let p6 = p4 .before .before in let s = p6 .before .before in
+    omega (arith, s .pre .1, bundle-start-in (s .args .input .now) (s .args .pos) (sym (p4 .used .given .1) ∙ (p6 .read-start .ensures))))
+    (λ c κs. let p4 = c .before .before .before .before in let p6 = p4 .before .before in let s = p6 .before .before in
+    let l = s .args .input .now in
+    let w = bundle-start-in l (s .args .pos) (sym (p4 .used .given .1) ∙ (p6 .read-start .ensures)) in (
+      omega (arith, s .pre .0, w, (c .measure-bundle-arg .given .2)),
+      (
+        omega (arith, s .pre .1, w, (c .measure-bundle-arg .given .2)),
+        omega (arith, s .pre .1, w, c .before .dirty-in2 .ensures .0),
+      ),
+    ))
     (λ c. search needs)
-    (λ c. let p3 = c .before .before .before in let p5 = p3 .before .before in let p7 = p5 .before .before in
-    λ base. packet-by-message base _ (p7 .args .input .now) _ _ (sym (p3 .used .given .1) ∙ (p5 .read-start .ensures))
-    (tail (p7 .args .input .now) (p3 .used .given .0 .1 .0)) (c .measure-message .ensures base _ _))
-    (λ c. let p3 = c .before .before .before in let p5 = p3 .before .before in let p7 = p5 .before .before in
-    λ base. packet-by-bundle base _ (p7 .args .input .now) _ _ (sym (p3 .used2 .given .1) ∙ (p5 .read-start .ensures))
-    (tail (p7 .args .input .now) (p3 .used2 .given .0 .0)) (c .measure-bundle .ensures base (base + p7 .args .pos)))
-    (λ c. λ base. refused-is _ _
+    (λ c. let p2 = c .before .before in let p5 = p2 .before .before .before in let p7 = p5 .before .before in
+    let a = p7 .before .before .args in let l = a .input .now in let u = p5 .length .given .0 .1 .0 in
+    let e = sym (p5 .length .given .1) ∙ (p7 .read-start .ensures) in
+    λ base msg w. packet-by-message base msg _ l _ _ w e (tail l u) (p2 .dirty-in .ensures .1)
+    (c .measure-message .ensures base msg (stands-after base (a .pos) l msg w (message-start-in l (a .pos) e .1) (tail l u)) _ _))
+    (λ c. let p2 = c .before .before in let p5 = p2 .before .before .before in let p7 = p5 .before .before in
+    let a = p7 .before .before .args in let l = a .input .now in let u = p5 .used .given .0 .0 in
+    let e = sym (p5 .used .given .1) ∙ (p7 .read-start .ensures) in
+    λ base msg w. packet-by-bundle base msg _ l _ _ w e (tail l u) (p2 .dirty-in2 .ensures .1)
+    (c .measure-bundle .ensures base msg (stands-after base (a .pos) l msg w (bundle-start-in l (a .pos) e .1) (tail l u)) (base + a .pos)))
+    (λ c. λ base msg w. refused-is _ _ _
     (starts-refused base _ _ (sym (c .before .fault .given .1) ∙ (c .before .before .before .read-start .ensures))))

@@ -2,6 +2,9 @@
 use Rattle.measure.proofs.Skims.{is-message, is-bundle, is-no-bundle, is-refused}
 use Rattle.packet.proofs.FirstText.{message-start-in, bundle-start-in}
 use Rattle.wire.proofs.Parts.{tail}
+use Rattle.argument.proofs.Stands.{stands-somewhere}
+use lib.ListN.{length, take, drop}
+use Prim.Native.Nat.{_+_, _-_}
 use native.Mathlib.Omega.{arith}
 use mathlib.Core.Path.{sym, _∙_}
 use borrow.Author.Needs.{needs}
@@ -42,27 +45,39 @@ returns-2 c =
     let p2 = c .before .before in
     let p5 = p2 .before .before .before in
     let p7 = p5 .before .before in
-    let p9 = p7 .before .before in
-    λ base. is-message base _ _ _ (sym (p5 .used .given .1) ∙ (p7 .read-start .ensures))
-    (tail (p9 .args .input .now) (p5 .used .given .0 .1 .0)) (sym (c .enum-told .given .1) ∙ (p2 .measure-message .ensures) base _ _)
+    let a = p7 .before .before .args in
+    let l = a .input .now in
+    let u = p5 .used .given .0 .1 .0 in
+    λ base. is-message base _ _ _ _ (sym (p5 .used .given .1) ∙ (p7 .read-start .ensures))
+    (tail l u)
+    (sym (c .enum-told .given .1)
+    ∙ (p2 .measure-message .ensures) base _ (stands-somewhere (base + (a .pos + u)) (take (length l - u) (drop u l))) _ _)
 
 returns-3 : tie.Need-returns-3
 returns-3 c =
     let p2 = c .before .before in
     let p5 = p2 .before .before .before in
     let p7 = p5 .before .before in
-    let p9 = p7 .before .before in
-    λ base. is-message base _ _ _ (sym (p5 .used .given .1) ∙ (p7 .read-start .ensures))
-    (tail (p9 .args .input .now) (p5 .used .given .0 .1 .0)) (sym (c .enum-told2 .given .1) ∙ (p2 .measure-message .ensures) base _ _)
+    let a = p7 .before .before .args in
+    let l = a .input .now in
+    let u = p5 .used .given .0 .1 .0 in
+    λ base. is-message base _ _ _ _ (sym (p5 .used .given .1) ∙ (p7 .read-start .ensures))
+    (tail l u)
+    (sym (c .enum-told2 .given .1)
+    ∙ (p2 .measure-message .ensures) base _ (stands-somewhere (base + (a .pos + u)) (take (length l - u) (drop u l))) _ _)
 
 returns-4 : tie.Need-returns-4
 returns-4 c =
     let p2 = c .before .before in
     let p5 = p2 .before .before .before in
     let p7 = p5 .before .before in
-    let p9 = p7 .before .before in
-    λ base. is-message base _ _ _ (sym (p5 .used .given .1) ∙ (p7 .read-start .ensures))
-    (tail (p9 .args .input .now) (p5 .used .given .0 .1 .0)) (sym (c .enum-told3 .given .1) ∙ (p2 .measure-message .ensures) base _ _)
+    let a = p7 .before .before .args in
+    let l = a .input .now in
+    let u = p5 .used .given .0 .1 .0 in
+    λ base. is-message base _ _ _ _ (sym (p5 .used .given .1) ∙ (p7 .read-start .ensures))
+    (tail l u)
+    (sym (c .enum-told3 .given .1)
+    ∙ (p2 .measure-message .ensures) base _ (stands-somewhere (base + (a .pos + u)) (take (length l - u) (drop u l))) _ _)
 
 returns-5 : tie.Need-returns-5
 returns-5 c =

@@ -10,10 +10,10 @@ use Rattle.scan.proofs.scan_args.Statement.{statement}
 use Rattle.scan.proofs.scan_args.Tie as tie
 
 abbrev Inv-loop : tie.InvT-loop
-Inv-loop tags input pos left₀ rest₀ at₀ waiting₀ left rest at waiting = Scanning tags input pos left rest at waiting
+Inv-loop tags input pos left₀ rest₀ at₀ waiting₀ dirt₀ left rest at waiting dirt = Scanning tags input pos left rest at waiting dirt
 
 abbrev μ-loop : tie.MeasureT-loop
-μ-loop tags input pos left₀ rest₀ at₀ waiting₀ left rest at waiting = length left
+μ-loop tags input pos left₀ rest₀ at₀ waiting₀ dirt₀ left rest at waiting dirt = length left
 
 loop-holds : tie.Need-loop-holds Inv-loop μ-loop
 loop-holds c = scanning-start _ _ _
@@ -51,12 +51,12 @@ pass-arg-requires c κs =
 sub-rest : tie.Need-sub-rest Inv-loop μ-loop
 sub-rest c =
     let g = sym (c .before .used .given .1) ∙ c .before .before .before .pass-arg .ensures in
-    used-within _ _ _ _ _ g
+    used-within _ _ _ _ _ g .0
 
 part-rest-start : tie.Need-part-rest-start Inv-loop μ-loop
 part-rest-start c =
     let g = sym (c .before .used .given .1) ∙ c .before .before .before .pass-arg .ensures in
-    used-within _ _ _ _ _ g
+    used-within _ _ _ _ _ g .0
 
 add-at : tie.Need-add-at Inv-loop μ-loop
 add-at c =
@@ -66,6 +66,15 @@ add-at c =
     let p15 = p12 .before .before .before in
     let g = sym (p2 .used .given .1) ∙ p4 .pass-arg .ensures in
     omega (arith, used-within _ _ _ _ _ g, p12 .loop .inv .ends, p15 .pre)
+
+add-dirt : tie.Need-add-dirt Inv-loop μ-loop
+add-dirt c =
+    let p2 = c .before .before in
+    let p4 = p2 .before .before in
+    let p12 = p4 .before .before .before .before .before .before .before .before in
+    let p15 = p12 .before .before .before in
+    let g = sym (p2 .used .given .1) ∙ p4 .pass-arg .ensures in
+    omega (arith, used-within _ _ _ _ _ g, p12 .loop .inv .clean, p12 .loop .inv .ends, p15 .pre)
 
 loop-again-3 : tie.Need-loop-again-3 Inv-loop μ-loop
 loop-again-3 c =
@@ -120,6 +129,7 @@ scan-args-spec =
     part-rest-start
     (λ c. search needs)
     add-at
+    add-dirt
     (λ c. search needs)
     loop-again-3
     (λ c. search needs)

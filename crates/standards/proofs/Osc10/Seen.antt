@@ -201,7 +201,7 @@ module _ (framing : Framing) (P : Packet) (l : List ℕ) (h : Allowed P) (low : 
       let F = node (A .item) (A .inside) nil in
       let count = length (entriesOf P) in
       let c : size F ≡ count = omega (arith, packet-size (A .stands)) in
-      let q : answerTo rule deepest l table ≡ Packets count 0 = rw c at (A .decodes (capacity table) (omega arith)) in
+      let q : answerTo rule deepest l table ≡ Packets count 0 0 = rw c at (A .decodes (capacity table) (omega arith)) in
       let few : size F + 0 ≤ length l = subst (WholeIn (length l)) (A .read) (whole-in framing l) in
       let t = tableAfter rule deepest l table in
       let b : Begun 0 F (length l) = subst (WholeBegun 0 (length l)) (A .read) (whole-begun framing l) in

@@ -16,15 +16,12 @@ use Rattle.osc10.specs.Osc10 as osc
 use Rattle.given.specs.Encodable.{rangedKind}
 use Rattle.standards.specs.Trip.{SameItem, Same, both}
 use Rattle.standards.specs.Trip as trip
-use Rattle.wire.proofs.Parts.{length-part}
+use Rattle.osc10.proofs.Placed.{range-length}
 use Rattle.osc10.proofs.Tags.{of-among, scalar-small}
 use Rattle.given.proofs.Starts.Forests.{Begun, begun-le}
 use Rattle.given.proofs.Starts.Forests as begun
 
 -- ---- the same tree
-
-range-length : {s : List ℕ} {a b : ℕ} {w : List ℕ} → RangeHolds s a b w → b ≡ length w
-range-length {s} {a} {b} r = sym (length-part s a b (r .lies)) ∙ ap length (r .holds)
 
 module _ {s s' : List ℕ} where
   -- nodes with the same numbers, of a kind that has no range

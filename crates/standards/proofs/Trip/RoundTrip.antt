@@ -35,7 +35,7 @@ use Rattle.standards.proofs.Osc10.Written.{outcome-is, written-held, wr
 
 -- bytes that spell the packet of a table's tree are decoded to a table that holds the same
 record Back (t : List ℕ) (count : ℕ) (source l table : List ℕ) : Type 0 where
-  decodes : answerTo udp deepest l table ≡ Packets count 0
+  decodes : answerTo udp deepest l table ≡ Packets count 0 0
   same : SameTable source t l (tableAfter udp deepest l table) count
 
 module _ {t : List ℕ} {count : ℕ} {source : List ℕ} {item : Item} {inside : Forest} (w : IsTree t count source item inside) where
@@ -47,7 +47,7 @@ module _ {t : List ℕ} {count : ℕ} {source : List ℕ} {item : Item} {inside 
       let T = node (A .item) (A .inside) nil in
       let same : Same source l F T = same-tree (S .packet) (S .allowed) (S .stands) (A .stands) trip.Same.none in
       let n : size T ≡ count = sym (same-size same) ∙ tree-size w in
-      let d : answerTo udp deepest l table ≡ Packets count 0 = rw n at (A .decodes (capacity table) (omega arith)) in
+      let d : answerTo udp deepest l table ≡ Packets count 0 0 = rw n at (A .decodes (capacity table) (omega arith)) in
       let b : Begun 0 T (length l) = subst (WholeBegun 0 (length l)) (A .read) (whole-begun Udp l) in
       let f : FieldsFit T = packet-fits (omega arith) (S .packet) (S .allowed) (A .stands) b (omega arith) in
       let s = after-held udp deepest l table d T (ap forestOf (A .read)) f (omega (arith, w .few)) .spans in

@@ -7,39 +7,38 @@ use borrow.Author.Needs.{needs}
 use borrow.Author.Tests.{le-ltb}
 use lib.Dec.{ltb}
 use lib.ListN.{length}
-use Rattle.text.specs.CodePlain.{plainOf}
+use Rattle.text.specs.CodePlain.{special, countTo}
 use Rattle.text.proofs.Passing.{met, not-met}
 use Rattle.text.proofs.any_special.Statement.{statement}
 use Rattle.text.proofs.any_special.Tie as tie
 
 abbrev Inv-loop : tie.InvT-loop
-Inv-loop input n any₀ i₀ any i = (i ≤ n) × (any ≡ ltb (plainOf input) i)
+Inv-loop input any₀ i₀ any i = (i ≤ 16) × (any ≡ ltb (countTo special input) i)
 
 abbrev μ-loop : tie.MeasureT-loop
-μ-loop input n any₀ i₀ any i = n - i
+μ-loop input any₀ i₀ any i = 16 - i
 
 loop-holds : tie.Need-loop-holds Inv-loop μ-loop
-loop-holds c = (search needs, sym (le-ltb (plainOf (c .before .args .input .now)) 0 (omega arith)))
+loop-holds c = (search needs, sym (le-ltb (countTo special (c .before .args .input .now)) 0 (omega arith)))
 
 loop-again : tie.Need-loop-again Inv-loop μ-loop
 loop-again c =
     let p4 = c .before .before .before .before in
-    let p4 = p4 in
     let p6 = p4 .before .before in
     let l = p4 .loop in
     let input = p6 .args .input .now in
     let within : l .i < length input = omega arith in (
       search needs,
       ⊎-elim
-          (λ w. w .1 ∙ met input (l .i) within (sym (c .before .is-special .ensures) ∙ w .0 .taken))
-          (λ w. w .1 ∙ l .inv .1 ∙ not-met input (l .i) within (sym (c .before .is-special .ensures) ∙ w .0 .left))
+          (λ w. w .1 ∙ met special input (l .i) within (sym (c .before .is-special .ensures) ∙ w .0 .taken))
+          (λ w. w .1 ∙ l .inv .1 ∙ not-met special input (l .i) within (sym (c .before .is-special .ensures) ∙ w .0 .left))
           (c .if1 .came),
     )
 
 returns : tie.Need-returns Inv-loop μ-loop
 returns c =
     let l = c .before .loop in
-    let e : l .i ≡ c .before .before .before .args .n = omega arith in
+    let e : l .i ≡ 16 = omega arith in
     rw e at (l .inv .1)
 
 pub any-special-spec : {M : Type 1} → statement M

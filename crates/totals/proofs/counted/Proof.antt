@@ -7,7 +7,7 @@ returns : tie.Need-returns
 returns c = rw (c .if1 .taken)
 
 returns-2 : tie.Need-returns-2
-returns-2 c = rw (c .if1 .left, add-zero)
+returns-2 c = rw (c .if1 .left, add-zero (c .before .args .count), add-zero (c .before .args .dirty))
 
 pub counted-spec : {M : Type 1} → statement M
 counted-spec = tie.close (tie.spec returns returns-2)

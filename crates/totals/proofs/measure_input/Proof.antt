@@ -1,5 +1,6 @@
 -- `totals::measure_input` meets its contract. The first reading by each framing.
 use Rattle.totals.proofs.Totals.{udp-total, udp-ends, total-by}
+use Rattle.argument.proofs.Stands.{stands-rest}
 use mathlib.Core.Path.{_∙_}
 use borrow.Author.Needs.{needs}
 use Rattle.totals.proofs.measure_input.Statement.{statement}
@@ -8,14 +9,15 @@ use Rattle.totals.proofs.measure_input.Tie as tie
 measure-one-requires : tie.Need-measure-one-requires
 measure-one-requires c κs =
     let a = c .before .before .before .before .args in
-    udp-ends (a .depth) (a .msg .now) (c .measure-packet .ensures 0)
+    udp-ends (a .depth) (a .msg .now) (c .measure-packet .ensures 0 (a .msg .now) (stands-rest (a .msg .now) 0))
 
 returns : tie.Need-returns
 returns c =
     let p2 = c .before .before in
     let a = p2 .before .before .before .args in
     total-by (p2 .enum-told .given .1) (a .depth) (a .msg .now)
-    (c .measure-one .ensures ∙ udp-total (a .depth) (a .msg .now) (c .before .measure-packet .ensures 0))
+    (c .measure-one .ensures ∙ udp-total (a .depth) (a .msg .now)
+    (c .before .measure-packet .ensures 0 (a .msg .now) (stands-rest (a .msg .now) 0)))
 
 returns-2 : tie.Need-returns-2
 returns-2 c =

@@ -5,8 +5,8 @@ use borrow.Author.Needs.{needs}
 use Rattle.totals.proofs.measure_one.Statement.{statement}
 use Rattle.totals.proofs.measure_one.Tie as tie
 
-sub-t7 : tie.Need-sub-t7
-sub-t7 c =
+sub-t8 : tie.Need-sub-t8
+sub-t8 c =
     let p3 = c .before .before .before in
     omega (arith, ends-tree (p3 .args .n) (c .before .extent .given .1) (p3 .pre))
 
@@ -21,7 +21,7 @@ measure-one-spec =
     tie.close
     (tie.spec
     (λ c. search needs)
-    sub-t7
+    sub-t8
     (λ c. search needs)
     (λ c. search needs)
     returns

@@ -13,10 +13,10 @@ use Rattle.totals.proofs.measure_tcp_vec.Statement.{statement}
 use Rattle.totals.proofs.measure_tcp_vec.Tie as tie
 
 abbrev Inv-loop : tie.InvT-loop
-Inv-loop msg depth at₀ count₀ deep₀ at count deep = Totalling depth msg at count deep
+Inv-loop msg depth at₀ count₀ dirt₀ deep₀ at count dirt deep = Totalling depth msg at count dirt deep
 
 abbrev μ-loop : tie.MeasureT-loop
-μ-loop msg depth at₀ count₀ deep₀ at count deep = length msg - at
+μ-loop msg depth at₀ count₀ dirt₀ deep₀ at count dirt deep = length msg - at
 
 returns : tie.Need-returns Inv-loop μ-loop
 returns c = empty-list _ _ (c .if1 .taken)
@@ -33,8 +33,9 @@ returns-2 c =
     let p5 = p3 .before .before in
     let p6 = p5 .before in
     let a = p6 .before .before .before .args in
-    totalling-waits (a .depth) (a .msg .now) (p6 .loop .at) (p6 .loop .count) (p6 .loop .deep) (p6 .loop .inv) (p5 .loop-test .taken)
-    (tail (a .msg .now) (p6 .loop .at)) (p3 .measure-frame .ensures (p6 .loop .at)) (c .before .enum-told .given .1) (c .counted .ensures)
+    totalling-waits (a .depth) (a .msg .now) (p6 .loop .at) (p6 .loop .count) (p6 .loop .dirt) (p6 .loop .deep) (p6 .loop .inv)
+    (p5 .loop-test .taken) (tail (a .msg .now) (p6 .loop .at)) (p3 .measure-frame .ensures)
+    (c .before .enum-told .given .1) (c .counted .ensures)
 
 add-count : tie.Need-add-count Inv-loop μ-loop
 add-count c =
@@ -44,10 +45,24 @@ add-count c =
     let p8 = p6 .before .before in
     let p9 = p8 .before in
     let a = p9 .before .before .before .args in
-    let w = totalling-tree (a .depth) (a .msg .now) (p9 .loop .at) (p9 .loop .count) (p9 .loop .deep) (p9 .loop .inv) (p8 .loop-test .taken)
-    (tail (a .msg .now) (p9 .loop .at)) (p6 .measure-frame .ensures (p9 .loop .at))
+    let w = totalling-tree (a .depth) (a .msg .now) (p9 .loop .at) (p9 .loop .count) (p9 .loop .dirt) (p9 .loop .deep) (p9 .loop .inv)
+    (p8 .loop-test .taken) (tail (a .msg .now) (p9 .loop .at)) (p6 .measure-frame .ensures)
     (p4 .extent .given .1 ∙ ap Packet (p1 .extent2 .given .1)) in
     omega (arith, w .0, w .1)
+
+add-dirt : tie.Need-add-dirt Inv-loop μ-loop
+add-dirt c =
+    let p1 = c .before in
+    let p4 = p1 .before .before .before in
+    let p6 = p4 .before .before in
+    let p8 = p6 .before .before in
+    let p9 = p8 .before in
+    let s = p9 .before .before .before in
+    let a = s .args in
+    let w = totalling-tree (a .depth) (a .msg .now) (p9 .loop .at) (p9 .loop .count) (p9 .loop .dirt) (p9 .loop .deep) (p9 .loop .inv)
+    (p8 .loop-test .taken) (tail (a .msg .now) (p9 .loop .at)) (p6 .measure-frame .ensures)
+    (p4 .extent .given .1 ∙ ap Packet (p1 .extent2 .given .1)) in
+    omega (arith, w .0, w .1 .clean, s .pre)
 
 add-at : tie.Need-add-at Inv-loop μ-loop
 add-at c =
@@ -57,8 +72,8 @@ add-at c =
     let p8 = p6 .before .before in
     let p9 = p8 .before in
     let a = p9 .before .before .before .args in
-    let w = totalling-tree (a .depth) (a .msg .now) (p9 .loop .at) (p9 .loop .count) (p9 .loop .deep) (p9 .loop .inv) (p8 .loop-test .taken)
-    (tail (a .msg .now) (p9 .loop .at)) (p6 .measure-frame .ensures (p9 .loop .at))
+    let w = totalling-tree (a .depth) (a .msg .now) (p9 .loop .at) (p9 .loop .count) (p9 .loop .dirt) (p9 .loop .deep) (p9 .loop .inv)
+    (p8 .loop-test .taken) (tail (a .msg .now) (p9 .loop .at)) (p6 .measure-frame .ensures)
     (p4 .extent .given .1 ∙ ap Packet (p1 .extent2 .given .1)) in
     omega (arith, w .0, w .1)
 
@@ -70,8 +85,8 @@ loop-less c =
     let p8 = p6 .before .before in
     let p9 = p8 .before in
     let a = p9 .before .before .before .args in
-    let w = totalling-tree (a .depth) (a .msg .now) (p9 .loop .at) (p9 .loop .count) (p9 .loop .deep) (p9 .loop .inv) (p8 .loop-test .taken)
-    (tail (a .msg .now) (p9 .loop .at)) (p6 .measure-frame .ensures (p9 .loop .at))
+    let w = totalling-tree (a .depth) (a .msg .now) (p9 .loop .at) (p9 .loop .count) (p9 .loop .dirt) (p9 .loop .deep) (p9 .loop .inv)
+    (p8 .loop-test .taken) (tail (a .msg .now) (p9 .loop .at)) (p6 .measure-frame .ensures)
     (p4 .extent .given .1 ∙ ap Packet (p1 .extent2 .given .1)) in
     omega (arith, w .0, w .1)
 
@@ -83,8 +98,8 @@ loop-again c =
     let p8 = p6 .before .before in
     let p9 = p8 .before in
     let a = p9 .before .before .before .args in
-    totalling-tree (a .depth) (a .msg .now) (p9 .loop .at) (p9 .loop .count) (p9 .loop .deep) (p9 .loop .inv) (p8 .loop-test .taken)
-    (tail (a .msg .now) (p9 .loop .at)) (p6 .measure-frame .ensures (p9 .loop .at))
+    totalling-tree (a .depth) (a .msg .now) (p9 .loop .at) (p9 .loop .count) (p9 .loop .dirt) (p9 .loop .deep) (p9 .loop .inv)
+    (p8 .loop-test .taken) (tail (a .msg .now) (p9 .loop .at)) (p6 .measure-frame .ensures)
     (p4 .extent .given .1 ∙ ap Packet (p1 .extent2 .given .1)) .1
 
 add-at-2 : tie.Need-add-at-2 Inv-loop μ-loop
@@ -95,8 +110,8 @@ add-at-2 c =
     let p8 = p6 .before .before in
     let p9 = p8 .before in
     let a = p9 .before .before .before .args in
-    let w = totalling-deep (a .depth) (a .msg .now) (p9 .loop .at) (p9 .loop .count) (p9 .loop .deep) (p9 .loop .inv) (p8 .loop-test .taken)
-    (tail (a .msg .now) (p9 .loop .at)) (p6 .measure-frame .ensures (p9 .loop .at))
+    let w = totalling-deep (a .depth) (a .msg .now) (p9 .loop .at) (p9 .loop .count) (p9 .loop .dirt) (p9 .loop .deep) (p9 .loop .inv)
+    (p8 .loop-test .taken) (tail (a .msg .now) (p9 .loop .at)) (p6 .measure-frame .ensures)
     (p4 .extent .given .1 ∙ ap Packet (p1 .extent3 .given .1)) in
     omega (arith, w .0)
 
@@ -108,8 +123,8 @@ loop-less-2 c =
     let p8 = p6 .before .before in
     let p9 = p8 .before in
     let a = p9 .before .before .before .args in
-    let w = totalling-deep (a .depth) (a .msg .now) (p9 .loop .at) (p9 .loop .count) (p9 .loop .deep) (p9 .loop .inv) (p8 .loop-test .taken)
-    (tail (a .msg .now) (p9 .loop .at)) (p6 .measure-frame .ensures (p9 .loop .at))
+    let w = totalling-deep (a .depth) (a .msg .now) (p9 .loop .at) (p9 .loop .count) (p9 .loop .dirt) (p9 .loop .deep) (p9 .loop .inv)
+    (p8 .loop-test .taken) (tail (a .msg .now) (p9 .loop .at)) (p6 .measure-frame .ensures)
     (p4 .extent .given .1 ∙ ap Packet (p1 .extent3 .given .1)) in
     omega (arith, w .0)
 
@@ -121,8 +136,8 @@ loop-again-2 c =
     let p8 = p6 .before .before in
     let p9 = p8 .before in
     let a = p9 .before .before .before .args in
-    totalling-deep (a .depth) (a .msg .now) (p9 .loop .at) (p9 .loop .count) (p9 .loop .deep) (p9 .loop .inv) (p8 .loop-test .taken)
-    (tail (a .msg .now) (p9 .loop .at)) (p6 .measure-frame .ensures (p9 .loop .at))
+    totalling-deep (a .depth) (a .msg .now) (p9 .loop .at) (p9 .loop .count) (p9 .loop .dirt) (p9 .loop .deep) (p9 .loop .inv)
+    (p8 .loop-test .taken) (tail (a .msg .now) (p9 .loop .at)) (p6 .measure-frame .ensures)
     (p4 .extent .given .1 ∙ ap Packet (p1 .extent3 .given .1)) .1
 
 moved-requires : tie.Need-moved-requires Inv-loop μ-loop
@@ -135,8 +150,8 @@ moved-requires c κs =
     let a = p9 .before .before .before .args in
     omega (
       arith,
-      totalling-low (a .depth) (a .msg .now) (p9 .loop .at) (p9 .loop .count) (p9 .loop .deep) (p9 .loop .inv) (p8 .loop-test .taken)
-          (tail (a .msg .now) (p9 .loop .at)) (p6 .measure-frame .ensures (p9 .loop .at))
+      totalling-low (a .depth) (a .msg .now) (p9 .loop .at) (p9 .loop .count) (p9 .loop .dirt) (p9 .loop .deep) (p9 .loop .inv)
+          (p8 .loop-test .taken) (tail (a .msg .now) (p9 .loop .at)) (p6 .measure-frame .ensures)
           (p4 .extent .given .1 ∙ ap Packet (p1 .extent4 .given .1)),
       p9 .before .before .before .pre,
     )
@@ -149,15 +164,15 @@ returns-3 c =
     let p9 = p7 .before .before in
     let p10 = p9 .before in
     let a = p10 .before .before .before .args in
-    totalling-refused (a .depth) (a .msg .now) (p10 .loop .at) (p10 .loop .count) (p10 .loop .deep) (p10 .loop .inv)
-    (p9 .loop-test .taken) (tail (a .msg .now) (p10 .loop .at)) (p7 .measure-frame .ensures (p10 .loop .at))
+    totalling-refused (a .depth) (a .msg .now) (p10 .loop .at) (p10 .loop .count) (p10 .loop .dirt) (p10 .loop .deep) (p10 .loop .inv)
+    (p9 .loop-test .taken) (tail (a .msg .now) (p10 .loop .at)) (p7 .measure-frame .ensures)
     (p5 .extent .given .1 ∙ ap Packet (p2 .extent4 .given .1)) (c .moved .ensures)
 
 returns-4 : tie.Need-returns-4 Inv-loop μ-loop
 returns-4 c =
     let p2 = c .before .before in
     let a = p2 .before .before .before .args in
-    totalling-end (a .depth) (a .msg .now) (p2 .loop .at) (p2 .loop .count) (p2 .loop .deep) (p2 .loop .inv) (search needs)
+    totalling-end (a .depth) (a .msg .now) (p2 .loop .at) (p2 .loop .count) (p2 .loop .dirt) (p2 .loop .deep) (p2 .loop .inv) (search needs)
     (c .counted2 .ensures)
 
 pub measure-tcp-vec-spec : {M : Type 1} → statement M
@@ -179,6 +194,7 @@ measure-tcp-vec-spec =
     (λ c. search needs)
     (λ c. search needs)
     add-count
+    add-dirt
     add-at
     loop-less
     loop-again

@@ -1,26 +1,31 @@
 //! The chart, docs/benchmark.svg: for each input, how many times the port's time the others take, on a scale of powers of 10.
 
 use crate::clock::Row;
+use crate::origin;
 use crate::work::{Side, Task, SIDES};
 use std::path::Path;
 
 const PLACE: &str = "docs/benchmark.svg";
 const TITLE: &str = "Time per call, as a multiple of the port's (right of 1: the port is faster)";
-const REMARK: &str = "Dashed: the goal against rosc. Not drawn: memcpy, and answers that are not rosc's.";
+const REMARKS: [&str; 2] = [
+    "rosc into: `encode_into` a vector that is used again. compat: the port by `rosc_compat`. Dashed: the goal against rosc.",
+    "An empty place: the port or that side gives another answer than rosc, lacks an argument, or has nothing to encode.",
+];
 const ROW: f64 = 26.0;
-const TOP: f64 = 112.0;
+const TOP: f64 = 166.0;
 const LABELS: f64 = 215.0;
 const PANEL: f64 = 400.0;
 const VALUES: f64 = 80.0;
 
-/// What is drawn for a side: its colour. memcpy has none, since it would squeeze the scale.
+/// What is drawn for a side: its colour. memcpy has none, since it would squeeze the scale, and compat has one mark.
 fn colour(side: Side) -> Option<&'static str> {
     match side {
         Side::Rosc => Some("#4878a8"),
+        Side::RoscInto => Some("#7fc4ea"),
         Side::Liblo => Some("#c8641e"),
         Side::Oscpack => Some("#3c8c50"),
         Side::Compat => Some("#8e5ba6"),
-        Side::Port | Side::Memcpy => None,
+        Side::Port | Side::CompatInto | Side::Memcpy => None,
     }
 }
 
@@ -31,16 +36,22 @@ pub fn draw(timed: &[(Task, Vec<Row>)]) -> Result<&'static str, String> {
     Ok(PLACE)
 }
 
+/// Both panels have the rows of the first, which are the packets: a table has only the port's time.
 fn svg(timed: &[(Task, Vec<Row>)]) -> String {
     let rows = &timed[0].1;
+    let count = rows.len();
     let width = LABELS + timed.len() as f64 * (PANEL + VALUES) + 10.0;
-    let height = TOP + ROW * rows.len() as f64 + 40.0;
+    let height = TOP + ROW * count as f64 + 40.0;
     let mut svg = format!(
         "<svg xmlns='http://www.w3.org/2000/svg' viewBox='0 0 {width} {height}' width='{width}' height='{height}' \
          font-family='DejaVu Sans, Arial, sans-serif' font-size='13'>\n<rect width='{width}' height='{height}' fill='white'/>\n"
     );
     svg += &text(12.0, 26.0, "start", "font-size='17' font-weight='bold'", TITLE);
+    svg += &text(12.0, 50.0, "start", "", &escaped(&origin::origin()));
     svg += &legend();
+    for (i, remark) in REMARKS.iter().enumerate() {
+        svg += &text(12.0, 100.0 + 18.0 * i as f64, "start", "fill='#555'", remark);
+    }
     for (i, row) in rows.iter().enumerate() {
         if i % 2 == 1 {
             svg += &format!("<rect x='0' y='{}' width='{width}' height='{ROW}' fill='#f3f3f3'/>\n", TOP + ROW * i as f64);
@@ -49,13 +60,18 @@ fn svg(timed: &[(Task, Vec<Row>)]) -> String {
     }
     for (i, (task, rows)) in timed.iter().enumerate() {
         let left = LABELS + i as f64 * (PANEL + VALUES);
-        svg += &Panel { left, scale: Scale::of(rows), task: *task }.drawn(rows);
+        svg += &Panel { left, scale: Scale::of(rows), task: *task }.drawn(&rows[..count]);
     }
     svg + "</svg>\n"
 }
 
 fn text(x: f64, y: f64, anchor: &str, style: &str, words: &str) -> String {
     format!("<text x='{x:.1}' y='{y:.1}' text-anchor='{anchor}' {style}>{words}</text>\n")
+}
+
+/// Words that come from elsewhere, as SVG has them.
+fn escaped(words: &str) -> String {
+    words.replace('&', "&amp;").replace('<', "&lt;")
 }
 
 fn line(x: f64, y0: f64, y1: f64, style: &str) -> String {
@@ -72,11 +88,11 @@ fn legend() -> String {
     let mut x = 12.0;
     for (side, colour) in SIDES.iter().filter_map(|&side| Some((side, colour(side)?))) {
         let words = if side.installed() { side.name().to_string() } else { format!("{} (not installed)", side.name()) };
-        legend += &mark(side, x + 8.0, 47.0, x, colour);
-        legend += &text(x + 24.0, 52.0, "start", "", &words);
+        legend += &mark(side, x + 8.0, 71.0, x, colour);
+        legend += &text(x + 24.0, 76.0, "start", "", &words);
         x += 40.0 + 9.0 * words.len() as f64;
     }
-    legend + &text(x, 52.0, "start", "fill='#555'", REMARK)
+    legend
 }
 
 /// A bar from `from` for rosc, a dot for the others.
@@ -134,8 +150,8 @@ impl Panel {
 
     fn drawn(&self, rows: &[Row]) -> String {
         let bottom = TOP + ROW * rows.len() as f64;
-        let mut drawn = text(self.left, 82.0, "start", "font-weight='bold'", self.task.title());
-        drawn += &text(self.left + PANEL + VALUES - 14.0, 100.0, "end", "fill='#555'", "rosc/port");
+        let mut drawn = text(self.left, TOP - 12.0, "start", "font-weight='bold'", self.task.title());
+        drawn += &text(self.left + PANEL + VALUES - 14.0, TOP - 12.0, "end", "fill='#555'", "rosc/port");
         for power in self.scale.low..=self.scale.high {
             let ratio = 10f64.powi(power);
             drawn += &line(self.x(ratio), TOP, bottom, if power == 0 { "stroke='black'" } else { "stroke='#ccc'" });

@@ -11,6 +11,9 @@ pub const ROUNDS: usize = 51;
 /// How long a turn takes, at least: so short that few turns are interrupted.
 const TURN: Duration = Duration::from_micros(300);
 
+/// How long a call may take that is made more than once.
+const LONG: Duration = Duration::from_millis(100);
+
 /// What a side took for an input.
 #[derive(Clone, Copy)]
 pub struct Figure {
@@ -35,18 +38,23 @@ impl Row {
 
 /// Times every side on an input.
 pub fn time(task: Task, input: &Input) -> Row {
-    let mut turns: Vec<Option<Turns>> = SIDES.iter().map(|&side| work(side, task, input).map(Turns::new)).collect();
+    let figures = alternate(SIDES.iter().map(|&side| work(side, task, input)).collect());
+    Row { name: input.name, bytes: input.bytes.len(), figures }
+}
+
+/// Times pieces of work that take turns.
+pub fn alternate(all: Vec<Option<Work>>) -> Vec<Option<Figure>> {
+    let mut turns: Vec<Option<Turns>> = all.into_iter().map(|work| work.map(Turns::new)).collect();
     for _ in 0..ROUNDS {
         turns.iter_mut().flatten().for_each(Turns::take);
     }
-    let figures = turns.into_iter().map(|turns| turns.map(Turns::median)).collect();
-    Row { name: input.name, bytes: input.bytes.len(), figures }
+    turns.into_iter().map(|turns| turns.map(Turns::median)).collect()
 }
 
 /// A side's turns.
 struct Turns<'a> {
     work: Work<'a>,
-    /// Calls in a turn.
+    /// Calls in a turn; none where the first call was long and is all that counts.
     calls: u32,
     /// Nanoseconds per call of each turn.
     taken: Vec<f64>,
@@ -55,6 +63,10 @@ struct Turns<'a> {
 impl<'a> Turns<'a> {
     /// Finds out how many calls fill a turn.
     fn new(mut work: Work<'a>) -> Turns<'a> {
+        let first = taken(&mut work, 1);
+        if first > LONG {
+            return Turns { work, calls: 0, taken: vec![first.as_nanos() as f64] };
+        }
         let mut calls = 1;
         while taken(&mut work, calls) < TURN {
             calls *= 2;
@@ -63,13 +75,15 @@ impl<'a> Turns<'a> {
     }
 
     fn take(&mut self) {
-        let taken = taken(&mut self.work, self.calls);
-        self.taken.push(taken.as_nanos() as f64 / self.calls as f64);
+        if self.calls > 0 {
+            let taken = taken(&mut self.work, self.calls);
+            self.taken.push(taken.as_nanos() as f64 / self.calls as f64);
+        }
     }
 
     fn median(mut self) -> Figure {
         self.taken.sort_by(f64::total_cmp);
-        Figure { per_call: self.taken[ROUNDS / 2], agrees: self.work.agrees }
+        Figure { per_call: self.taken[self.taken.len() / 2], agrees: self.work.agrees }
     }
 }
 

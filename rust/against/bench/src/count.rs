@@ -3,10 +3,11 @@
 
 use crate::clock::{Figure, Row};
 use crate::inputs::Input;
+use crate::text;
 use crate::work::{work, Task, Work, SIDES, TASKS};
 use std::fs;
 use std::path::{Path, PathBuf};
-use std::process::{Command, Stdio};
+use std::process::Command;
 
 /// The argument that makes the benchmark do each piece of work once to be counted.
 pub const CHILD: &str = "--counted";
@@ -18,13 +19,14 @@ pub extern "Rust" fn counted(work: &mut Work) {
     (work.times)(1);
 }
 
-/// Under callgrind: each piece of work, in the order of the rows.
+/// Under callgrind: each piece of work, in the order of the rows. Tables would take many minutes and are left out.
 pub fn child(inputs: &[Input]) {
     for task in TASKS {
-        for input in inputs {
+        for input in inputs.iter().filter(|input| input.is_packet()) {
             SIDES.iter().filter_map(|&side| work(side, task, input)).for_each(once);
         }
     }
+    text::all().iter().map(|text| text::work(text)).for_each(once);
 }
 
 /// Under callgrind by hand: the work of one side on one input, to see which functions the instructions go to; false where there is
@@ -44,30 +46,33 @@ fn once(mut work: Work) {
     counted(&mut work);
 }
 
-/// Counts every side on every input, or says why not.
-pub fn count(inputs: &[Input]) -> Result<Vec<(Task, Vec<Row>)>, String> {
+/// What was counted: the rows of each task, and a figure for each text.
+pub struct Counted {
+    pub tasks: Vec<(Task, Vec<Row>)>,
+    pub texts: Vec<Figure>,
+}
+
+/// Counts every side on every packet, and every text, or says why not.
+pub fn count(inputs: &[Input]) -> Result<Counted, String> {
     let place = std::env::temp_dir().join(format!("sennorbai-counts-{}", std::process::id()));
-    fs::create_dir(&place).map_err(|error| error.to_string())?;
+    fs::create_dir(&place).map_err(|error| format!("{}: {error}", place.display()))?;
     let file = place.join("counts");
-    let mut counts = Counts { file: file.clone(), next: 1 };
-    let both = |()| TASKS.iter().map(|&task| Ok((task, counts.rows(task, inputs)?))).collect();
-    let rows = under_callgrind(&file).and_then(both);
-    fs::remove_dir_all(&place).map_err(|error| error.to_string())?;
-    rows
+    let counted = under_callgrind(&file).and_then(|()| Counts { file, next: 1 }.all(inputs));
+    fs::remove_dir_all(&place).map_err(|error| format!("{}: {error}", place.display()))?;
+    counted
 }
 
 fn under_callgrind(file: &Path) -> Result<(), String> {
     let program = std::env::current_exe().map_err(|error| error.to_string())?;
-    let status = Command::new("valgrind")
+    let output = Command::new("valgrind")
         .args(["--tool=callgrind", "--toggle-collect=counted", "--dump-after=counted"])
         .arg(format!("--callgrind-out-file={}", file.display()))
         .arg(program)
         .arg(CHILD)
-        .stderr(Stdio::null())
-        .status();
-    match status {
-        Ok(status) if status.success() => Ok(()),
-        Ok(status) => Err(format!("valgrind ended with {status}")),
+        .output();
+    match output {
+        Ok(output) if output.status.success() => Ok(()),
+        Ok(output) => Err(format!("valgrind ended with {}\n{}", output.status, String::from_utf8_lossy(&output.stderr))),
         Err(error) => Err(format!("valgrind: {error}")),
     }
 }
@@ -79,8 +84,15 @@ struct Counts {
 }
 
 impl Counts {
+    /// The counts in the order of `child`.
+    fn all(mut self, inputs: &[Input]) -> Result<Counted, String> {
+        let tasks = TASKS.iter().map(|&task| Ok((task, self.rows(task, inputs)?))).collect::<Result<_, String>>()?;
+        let texts = text::all().iter().map(|text| self.figure(text::work(text).agrees)).collect::<Result<_, String>>()?;
+        Ok(Counted { tasks, texts })
+    }
+
     fn rows(&mut self, task: Task, inputs: &[Input]) -> Result<Vec<Row>, String> {
-        inputs.iter().map(|input| self.row(task, input)).collect()
+        inputs.iter().filter(|input| input.is_packet()).map(|input| self.row(task, input)).collect()
     }
 
     fn row(&mut self, task: Task, input: &Input) -> Result<Row, String> {

@@ -1,11 +1,26 @@
 //! The inputs, the same bytes for every side.
 
 use rosc::{encoder, OscBundle, OscColor, OscMessage, OscMidiMessage, OscPacket, OscTime, OscType};
+use sennorbai::{MOST, RECORD};
 
-/// One input: its name and the bytes of a UDP packet.
+/// One input: its name and the bytes of a UDP packet, or a table of the port.
 pub struct Input {
     pub name: &'static str,
+    /// The packet; of a table, the source that its ranges lie in.
     pub bytes: Vec<u8>,
+    /// The records of a table, which no other side has a shape for and which is only encoded.
+    pub records: Option<Vec<u8>>,
+}
+
+impl Input {
+    fn packet(name: &'static str, bytes: Vec<u8>) -> Input {
+        Input { name, bytes, records: None }
+    }
+
+    /// Whether it is a packet, and no table.
+    pub fn is_packet(&self) -> bool {
+        self.records.is_none()
+    }
 }
 
 /// The input that the goal for decoding leaves out.
@@ -18,6 +33,7 @@ const LONGEST: usize = 65_535;
 pub fn all() -> Vec<Input> {
     let mut inputs = ordinary();
     inputs.extend(hostile());
+    inputs.extend(overlapping());
     inputs
 }
 
@@ -32,11 +48,12 @@ fn ordinary() -> Vec<Input> {
         encoded("bundle of 20", &bundle((0..20).map(fader).collect())),
         encoded("bundles 8 deep", &(0..8).fold(fader(8), |inner, level| bundle(vec![fader(level), inner]))),
         encoded("60 KB bundle", &bundle((0..1870).map(fader).collect())),
+        encoded("60 KB bundle, varied", &bundle(varied())),
     ]
 }
 
 fn encoded(name: &'static str, packet: &OscPacket) -> Input {
-    Input { name, bytes: encoder::encode(packet).expect("rosc encodes every packet") }
+    Input::packet(name, encoder::encode(packet).expect("rosc encodes every packet"))
 }
 
 fn message(addr: &str, args: Vec<OscType>) -> OscPacket {
@@ -50,6 +67,34 @@ fn bundle(content: Vec<OscPacket>) -> OscPacket {
 /// What a mixing console sends for one fader.
 fn fader(channel: u32) -> OscPacket {
     message(&format!("/ch/{:02}/mix/fader", channel % 100), vec![OscType::Float(0.75)])
+}
+
+/// Messages of 60 KB with one float each, whose addresses of 3 to 36 bytes follow no pattern.
+fn varied() -> Vec<OscPacket> {
+    const PARTS: [&str; 8] = ["ch", "bus", "mix", "level", "fader", "eq", "sends", "dynamics"];
+    let mut random = Random(1);
+    let mut content = Vec::new();
+    let mut bytes = HEAD.len();
+    while bytes < 59_800 {
+        let parts = (0..1 + random.below(4)).map(|_| format!("/{}", PARTS[random.below(PARTS.len())]));
+        let addr: String = parts.collect();
+        bytes += 4 + (addr.len() + 4) / 4 * 4 + 8;
+        content.push(message(&addr, vec![OscType::Float(0.75)]));
+    }
+    content
+}
+
+/// Numbers without a pattern, the same in each run (xorshift).
+pub struct Random(pub u64);
+
+impl Random {
+    /// A number below `limit`.
+    pub fn below(&mut self, limit: usize) -> usize {
+        self.0 ^= self.0 << 13;
+        self.0 ^= self.0 >> 7;
+        self.0 ^= self.0 << 17;
+        (self.0 >> 33) as usize % limit
+    }
 }
 
 /// 24 arguments of every kind that all the libraries have.
@@ -84,7 +129,7 @@ fn nested() -> Vec<OscType> {
 
 /// Inputs of 65,535 bytes that are meant to cost much.
 fn hostile() -> Vec<Input> {
-    let of = |name, bytes: Vec<u8>| Input { name, bytes: filled(bytes) };
+    let of = |name, bytes: Vec<u8>| Input::packet(name, filled(bytes));
     let typed = |tags: String| [b"/a\0\0,".to_vec(), tags.into_bytes()].concat();
     let many = LONGEST - 9;
     let bad = b"\0\0\0\x08x\0\0\0,\0\0\0";
@@ -99,11 +144,35 @@ fn hostile() -> Vec<Input> {
         of("arrays 32,763 deep, bad end", typed("[".repeat(many / 2) + &"]".repeat(many / 2 - 1) + "?")),
         of("65,526 tags N", typed("N".repeat(many))),
         of("65,525 tags N, bad end", typed("N".repeat(many - 1) + "?")),
-        Input { name: "text without an end", bytes: vec![b'/'; LONGEST] },
+        Input::packet("text without an end", vec![b'/'; LONGEST]),
         of("text with a last byte FF", broken),
         of("empty bundles in a bundle", [HEAD.to_vec(), [&[0, 0, 0, 16], HEAD].concat().repeat(3_275)].concat()),
         of("5,458 messages, a bad one", [HEAD, &SMALL.repeat(5_458), bad].concat()),
     ]
+}
+
+/// Tables of as many records as there may be: a message whose texts are all the same 64 KiB of source. Each is judged for itself,
+/// and only then is the result too long; a text that is not UTF-8, or a depth that is too much, would end it sooner.
+fn overlapping() -> Vec<Input> {
+    const SOURCE: usize = 1 << 16;
+    let of = |name, characters: &str| {
+        let mut source = characters.repeat(SOURCE / characters.len());
+        source.extend((source.len()..SOURCE).map(|_| 'a'));
+        let message = record(b'/', MOST as u32, 0);
+        let texts = (1..MOST as u32).map(|place| record(b's', place + 1, SOURCE as u32));
+        let records = std::iter::once(message).chain(texts).flatten().collect();
+        Input { name, bytes: source.into_bytes(), records: Some(records) }
+    };
+    vec![of("table, ASCII in one range", "a"), of("table, other text in one", "aé")]
+}
+
+/// A record with a range at the source's begin.
+fn record(kind: u8, end: u32, length: u32) -> [u8; RECORD] {
+    let mut record = [0; RECORD];
+    record[0] = kind;
+    record[4..8].copy_from_slice(&end.to_be_bytes());
+    record[12..16].copy_from_slice(&length.to_be_bytes());
+    record
 }
 
 /// The head of a bundle: its text and a time tag.

@@ -1,20 +1,37 @@
 //! The table in print.
 
 use crate::clock::{Figure, Row};
+use crate::text::{LENGTHS, SHARES};
 use crate::work::{Side, Task, SIDES};
 
-/// Prints the rows of a task: each side's figure, how many times the port's it is, and how many times memcpy's the port's is.
+/// Prints the rows of a task: each side's figure, and how many times one side's another's is.
 pub fn print(task: Task, unit: &str, rows: &[Row]) {
     println!("\n{}: {unit} per call", task.title());
-    let heads: String = SIDES.iter().map(|side| format!("{:>14}", side.name())).collect();
-    let ratios: String = PAIRS.iter().map(|(a, b)| format!("{:>13}", format!("{}/{}", a.name(), b.name()))).collect();
-    println!("{:<28}{:>7}{heads}{ratios}", "input", "bytes");
+    let sides: Vec<Side> = SIDES.into_iter().filter(|side| side.does(task)).collect();
+    let pairs: Vec<(Side, Side)> = PAIRS.into_iter().filter(|(a, b)| a.does(task) && b.does(task)).collect();
+    let above: String = pairs.iter().map(|(a, _)| format!("{:>9}", a.last_word())).collect();
+    println!("{:<28}{:>7}{}{above}", "", "", " ".repeat(12 * sides.len()));
+    let heads: String = sides.iter().map(|side| format!("{:>12}", side.name())).collect();
+    let below: String = pairs.iter().map(|(_, b)| format!("{:>9}", format!("/{}", b.last_word()))).collect();
+    println!("{:<28}{:>7}{heads}{below}", "input", "bytes");
     for row in rows {
-        let figures: String = SIDES.iter().map(|&side| format!("{:>14}", cell(side, row.of(side)))).collect();
-        let ratios: String = PAIRS.iter().map(|&(a, b)| format!("{:>13}", ratio(row.of(a), row.of(b)))).collect();
+        let figures: String = sides.iter().map(|&side| format!("{:>12}", cell(side, row.of(side)))).collect();
+        let ratios: String = pairs.iter().map(|&(a, b)| format!("{:>9}", ratio(row.of(a), row.of(b)))).collect();
         println!("{:<28}{:>7}{figures}{ratios}", row.name, row.bytes);
     }
     print_goal(task, rows);
+}
+
+/// Prints the figures of the texts for each byte, a row for each share of ASCII.
+pub fn print_texts(unit: &str, figures: &[Figure]) {
+    println!("\ntexts by encode_string, which tests UTF-8: {unit} per byte");
+    let heads: String = LENGTHS.iter().map(|length| format!("{:>12}", format!("{length} bytes"))).collect();
+    println!("{:<28}{heads}", "bytes that are ASCII");
+    for (share, row) in SHARES.iter().zip(figures.chunks(LENGTHS.len())) {
+        let cells = row.iter().zip(LENGTHS).map(|(figure, length)| figure.per_call / length as f64);
+        let cells: String = cells.map(|per_byte| format!("{per_byte:>12.3}")).collect();
+        println!("{:<28}{cells}", format!("{share} %"));
+    }
 }
 
 /// Says where rosc takes fewer times the port's figure than it should.
@@ -29,21 +46,24 @@ fn print_goal(task: Task, rows: &[Row]) {
 }
 
 /// The ratios.
-const PAIRS: [(Side, Side); 5] = [
+const PAIRS: [(Side, Side); 7] = [
     (Side::Rosc, Side::Port),
+    (Side::RoscInto, Side::Port),
     (Side::Rosc, Side::Compat),
+    (Side::RoscInto, Side::CompatInto),
     (Side::Liblo, Side::Port),
     (Side::Oscpack, Side::Port),
     (Side::Port, Side::Memcpy),
 ];
 
-/// A figure; a star where the side's answer is not rosc's.
+/// A figure, from 100 million on in millions; a star where the side's answer is not rosc's.
 fn cell(side: Side, figure: Option<Figure>) -> String {
     match figure {
         Some(figure) if figure.per_call < 999.5 => format!("{:.1}{}", figure.per_call, star(figure)),
-        Some(figure) => format!("{}{}", grouped(figure.per_call), star(figure)),
+        Some(figure) if figure.per_call < 1e8 => format!("{}{}", grouped(figure.per_call), star(figure)),
+        Some(figure) => format!("{} M{}", grouped(figure.per_call / 1e6), star(figure)),
         None if side.installed() => "-".to_string(),
-        None => "not installed".to_string(),
+        None => "not there".to_string(),
     }
 }
 

@@ -1,5 +1,5 @@
 // A crate with rosc's types and signatures: rosc itself, and the port's module of the same shape. Its decoder allocates a tree
-// and its encoder a vector, for each call. The module that includes this file names the crate.
+// and `encode` a vector, for each call. The module that includes this file names the crate.
 
 /// Decodes, reads every value, sums what it read and drops the tree; an error gives none.
 pub fn decode(msg: &[u8]) -> Option<u64> {
@@ -15,6 +15,11 @@ pub fn tree(msg: &[u8]) -> Option<OscPacket> {
 /// The bytes of a tree.
 pub fn encode(packet: &OscPacket) -> Vec<u8> {
     encoder::encode(packet).expect("every packet can be encoded")
+}
+
+/// Appends the bytes of a tree to a vector.
+pub fn encode_into(packet: &OscPacket, out: &mut Vec<u8>) {
+    encoder::encode_into(packet, out).expect("a vector takes everything");
 }
 
 fn packet_sum(packet: &OscPacket) -> u64 {

@@ -11,26 +11,43 @@ use std::hint::black_box;
 pub enum Side {
     Port,
     Rosc,
+    /// rosc's `encode_into`, into a vector that is used again.
+    RoscInto,
     /// The port by the module that has rosc's types and signatures.
     Compat,
+    /// The same module's `encode_into`.
+    CompatInto,
     Liblo,
     Oscpack,
     Memcpy,
 }
 
 /// The sides in the table's order.
-pub const SIDES: [Side; 6] = [Side::Port, Side::Rosc, Side::Compat, Side::Liblo, Side::Oscpack, Side::Memcpy];
+pub const SIDES: [Side; 8] =
+    [Side::Port, Side::Rosc, Side::RoscInto, Side::Compat, Side::CompatInto, Side::Liblo, Side::Oscpack, Side::Memcpy];
 
 impl Side {
     pub fn name(self) -> &'static str {
         match self {
             Side::Port => "port",
             Side::Rosc => "rosc",
+            Side::RoscInto => "rosc into",
             Side::Compat => "compat",
+            Side::CompatInto => "compat into",
             Side::Liblo => "liblo",
             Side::Oscpack => "oscpack",
             Side::Memcpy => "memcpy",
         }
+    }
+
+    /// The last word of its name, for the heads of the ratios.
+    pub fn last_word(self) -> &'static str {
+        self.name().split(' ').next_back().unwrap_or_default()
+    }
+
+    /// Whether it has a function for a task.
+    pub fn does(self, task: Task) -> bool {
+        task == Task::Encode || !matches!(self, Side::RoscInto | Side::CompatInto)
     }
 
     /// Whether it was there when the benchmark was built.
@@ -67,6 +84,11 @@ impl Task {
         }
     }
 
+    /// Whether it can be done with an input.
+    pub fn takes(self, input: &Input) -> bool {
+        self == Task::Encode || input.is_packet()
+    }
+
     /// How many times the port's time rosc should take, at least.
     pub fn goal(self) -> f64 {
         match self {
@@ -94,7 +116,13 @@ const ROOM: usize = 1 << 18;
 
 /// The work of a side on an input, or none where there is nothing to do: not installed, or no tree to encode.
 pub fn work<'a>(side: Side, task: Task, input: &'a Input) -> Option<Work<'a>> {
-    let msg = &input.bytes[..];
+    match &input.records {
+        None => packet_work(side, task, &input.bytes),
+        Some(records) => (side == Side::Port && task.takes(input)).then(|| table_work(records, &input.bytes)),
+    }
+}
+
+fn packet_work(side: Side, task: Task, msg: &[u8]) -> Option<Work<'_>> {
     match (side, task) {
         (Side::Memcpy, Task::Decode) => Some(copy(msg.to_vec())),
         (Side::Memcpy, Task::Encode) => rosc_bytes(msg).map(copy),
@@ -108,7 +136,10 @@ pub fn work<'a>(side: Side, task: Task, input: &'a Input) -> Option<Work<'a>> {
         (Side::Oscpack, Task::Decode) => Some(peer_decode(peer::OSCPACK?, msg)),
         (Side::Port, Task::Encode) => port_encode(msg),
         (Side::Rosc, Task::Encode) => tree_encode(crate_rosc::tree(msg)?, crate_rosc::encode, msg),
+        (Side::RoscInto, Task::Encode) => tree_encode_into(crate_rosc::tree(msg)?, crate_rosc::encode_into, msg),
         (Side::Compat, Task::Encode) => tree_encode(compat::tree(msg)?, compat::encode, msg),
+        (Side::CompatInto, Task::Encode) => tree_encode_into(compat::tree(msg)?, compat::encode_into, msg),
+        (Side::RoscInto | Side::CompatInto, Task::Decode) => None,
         (Side::Liblo, Task::Encode) => peer_encode(peer::LIBLO?, msg),
         (Side::Oscpack, Task::Encode) => peer_encode(peer::OSCPACK?, msg),
     }
@@ -162,6 +193,30 @@ fn tree_encode<'a, T: 'a>(tree: T, encode: fn(&T) -> Vec<u8>, msg: &[u8]) -> Opt
         }
     };
     Some(Work { times: Box::new(times), agrees })
+}
+
+fn tree_encode_into<'a, T: 'a>(tree: T, encode_into: fn(&T, &mut Vec<u8>), msg: &[u8]) -> Option<Work<'a>> {
+    let mut out = Vec::new();
+    encode_into(&tree, &mut out);
+    let agrees = out == rosc_bytes(msg)?;
+    let times = move |n| {
+        for _ in 0..n {
+            out.clear();
+            encode_into(black_box(&tree), black_box(&mut out));
+        }
+    };
+    Some(Work { times: Box::new(times), agrees })
+}
+
+/// A table whose packet is too long: rosc has no such refusal, and no tree so large.
+fn table_work<'a>(records: &'a [u8], source: &'a [u8]) -> Work<'a> {
+    let mut out = vec![0; ROOM];
+    let times = move |n| {
+        for _ in 0..n {
+            assert!(port::encode(black_box(records), black_box(source), &mut out).is_none(), "the table is refused");
+        }
+    };
+    Work { times: Box::new(times), agrees: true }
 }
 
 /// What rosc writes for the tree that it reads from a packet.

@@ -6,7 +6,7 @@ use crate::met::{Met, Rule, Seen};
 use crate::peers::Peers;
 use crate::random::Random;
 use crate::table::RECORD;
-use crate::{edges, inputs, short, spoil};
+use crate::{edges, inputs, short, soiled, spoil};
 use rosc::{OscMessage, OscPacket, OscType};
 
 /// One case, in memory that the next one uses again.
@@ -113,6 +113,10 @@ impl Case {
             12 => edges::nested(r),
             13..=14 => edges::arrays(r),
             19..=20 => edges::cut_bundle(r),
+            21..=24 => {
+                soiled::input(r, frames, &mut self.asked.first);
+                return self.decode_due(r);
+            }
             15..=18 if peers.any() => peers.one(r, &mut self.seen),
             _ => {
                 inputs::structured(r, frames, &mut self.asked.first);

@@ -7,26 +7,32 @@ use crate::random::Random;
 
 /// Appends a text with its NULs.
 fn push_text(to: &mut Vec<u8>, text: &[u8]) {
+    push_filled(to, text, 0);
+}
+
+/// Appends a text with its NUL, and padding that is all one byte.
+fn push_filled(to: &mut Vec<u8>, text: &[u8], fill: u8) {
     to.extend_from_slice(text);
     to.push(0);
-    to.resize(to.len().next_multiple_of(4), 0);
+    to.resize(to.len().next_multiple_of(4), fill);
 }
 
 /// A message with an address, a text and a blob of any length up to 40, cut off around any of their boundaries; the blob's
-/// size may be off by some bytes or far off.
+/// size may be off by some bytes or far off. Some have no zero in the padding.
 pub fn lengths(r: &mut Random) -> Vec<u8> {
+    let fill = r.pick(&[0, 0, 0xAA]);
     let mut bytes = vec![b'/'];
     bytes.resize(1 + r.below(41), b'a');
-    push_text(&mut bytes, b"");
+    push_filled(&mut bytes, b"", fill);
     let (types, blob_first) = r.pick(&[(",sb", false), (",bs", true), (",sbi", false), (",[s]b", false)]);
-    push_text(&mut bytes, types.as_bytes());
+    push_filled(&mut bytes, types.as_bytes(), fill);
     let mut ends = [bytes.len(); 3];
     for (turn, blob) in [blob_first, !blob_first].into_iter().enumerate() {
         let length = r.below(41);
         if blob {
-            push_blob(r, &mut bytes, length);
+            push_blob(r, &mut bytes, length, fill);
         } else {
-            push_text(&mut bytes, &vec![b't'; length]);
+            push_filled(&mut bytes, &vec![b't'; length], fill);
         }
         ends[turn + 1] = bytes.len();
     }
@@ -36,8 +42,8 @@ pub fn lengths(r: &mut Random) -> Vec<u8> {
     bytes
 }
 
-/// Appends a blob, now and then with another size before it.
-fn push_blob(r: &mut Random, to: &mut Vec<u8>, length: usize) {
+/// Appends a blob, now and then with another size before it, and padding that is all one byte.
+fn push_blob(r: &mut Random, to: &mut Vec<u8>, length: usize, fill: u8) {
     let size = match r.below(6) {
         0 => (length + r.below(9)).saturating_sub(4) as u32,
         1 => r.pick(&[u32::MAX, u32::MAX - 3, 1 << 31, 65_535]),
@@ -45,7 +51,7 @@ fn push_blob(r: &mut Random, to: &mut Vec<u8>, length: usize) {
     };
     to.extend_from_slice(&size.to_be_bytes());
     to.resize(to.len() + length, 0xBB);
-    to.resize(to.len().next_multiple_of(4), 0);
+    to.resize(to.len().next_multiple_of(4), fill);
 }
 
 /// A message with one character on either side of a border, which is noted.
@@ -248,6 +254,9 @@ fn spoil(r: &mut Random, bytes: &mut [u8]) {
     }
 }
 
+/// A small packet after its size, as an element or a frame: with and without zeros in its padding.
+const SMALL: &[&[u8]] = &[b"\0\0\0\x08/\0\0\0,\0\0\0", b"\0\0\0\x08/\0\x01\x7F,\0\x80\xFF"];
+
 /// A whole input, prefixes included, of around 65,535 bytes: a long address, text, blob or type text, or many small packets.
 pub fn longest(r: &mut Random, framed: bool) -> Vec<u8> {
     let target = 65_528 + r.below(16);
@@ -273,9 +282,14 @@ pub fn longest(r: &mut Random, framed: bool) -> Vec<u8> {
         }
         4 => {
             bytes.extend_from_slice(b"#bundle\0\0\0\0\0\0\0\0\x01");
-            many(&mut bytes, target, b"\0\0\0\x08/\0\0\0,\0\0\0");
+            many(&mut bytes, target, r.pick(SMALL));
         }
-        5 => many(&mut bytes, target, b"\0\0\0\x08/\0\0\0,\0\0\0"),
+        5 => {
+            // These have prefixes of their own; what is left of a list waits.
+            bytes.clear();
+            many(&mut bytes, target, r.pick(SMALL));
+            bytes.resize(target, 0xFF);
+        }
         _ => {
             let all = r.pick(&[0, b'/', 0xFF]);
             bytes.resize(target, all);

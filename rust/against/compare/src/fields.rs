@@ -1,9 +1,10 @@
-//! Which field of an input was short, and where it began. The crate does not tell, so this is a reader of its own, written from
-//! document 01 and Ticket 2 and from neither the crate nor the port. It walks over the bytes by their positions and keeps nothing
-//! of what it reads. Whatever else it decides is held to the crate: the class of each refusal, and the bytes left over.
+//! Which field of an input was short and where it began, and how many bytes of padding are not zero. The crate does not tell, so
+//! this is a reader of its own, written from document 01, Ticket 2 and Ticket 8 and from neither the crate nor the port. It walks
+//! over the bytes by their positions and keeps nothing of what it reads. Whatever else it decides is held to the crate: the class
+//! of each refusal, and the bytes left over; the padding is held to what the crate's packets have.
 
 use crate::ask::Call;
-use crate::met::Rule;
+use crate::met::{Rule, Seen};
 
 /// Why bytes are not a packet.
 #[derive(Clone, Copy, Debug, PartialEq, Eq)]
@@ -56,27 +57,25 @@ impl Fault {
     }
 }
 
+/// The padding of what is kept: how many of its bytes are not zero, and the rules that were at work. Where there is a fault, it is
+/// the padding that was read before.
+#[derive(Clone, Copy, Debug, Default, PartialEq, Eq)]
+pub struct Dirty {
+    pub bytes: usize,
+    pub seen: Seen,
+}
+
 /// What a decoder makes of an input: how many bytes are left over, or the first fault and the frame that has it, by the offset of
-/// the frame's prefix.
-pub fn read(call: Call, input: &[u8]) -> Result<usize, (Fault, usize)> {
-    let mut reader = Reader { input, base: 0, at: 0, end: input.len() };
-    match call {
-        Call::Udp => reader.packet().map_err(|fault| (fault, 0))?,
-        Call::Tcp => drop(reader.frame().map_err(|fault| (fault, 0))?),
-        _ => loop {
-            let from = reader.at;
-            let waits = reader.frame().map_err(|fault| (fault, from))?;
-            if waits || reader.at == input.len() {
-                break;
-            }
-        },
-    }
-    Ok(input.len() - reader.at)
+/// the frame's prefix; and the padding.
+pub fn read(call: Call, input: &[u8]) -> (Result<usize, (Fault, usize)>, Dirty) {
+    let mut reader = Reader::new(input, 0, 0, input.len());
+    let read = reader.whole(call);
+    (read.map(|()| input.len() - reader.at), reader.dirty)
 }
 
 /// Why the element whose size stands at a place is none; padding counts from `base`, and the bytes of the bundle end at `end`.
 pub fn element(input: &[u8], base: usize, at: usize, end: usize) -> Option<Fault> {
-    Reader { input, base, at, end }.element().err()
+    Reader::new(input, base, at, end).element().err()
 }
 
 struct Reader<'a> {
@@ -87,9 +86,30 @@ struct Reader<'a> {
     at: usize,
     /// Where the bytes end that may be read: those of the input, or of an element.
     end: usize,
+    /// The padding of what was kept so far.
+    dirty: Dirty,
 }
 
 impl<'a> Reader<'a> {
+    fn new(input: &'a [u8], base: usize, at: usize, end: usize) -> Reader<'a> {
+        Reader { input, base, at, end, dirty: Dirty::default() }
+    }
+
+    /// All that a decoder reads.
+    fn whole(&mut self, call: Call) -> Result<(), (Fault, usize)> {
+        match call {
+            Call::Udp => self.packet().map_err(|fault| (fault, 0)),
+            Call::Tcp => self.frame().map(drop).map_err(|fault| (fault, 0)),
+            _ => loop {
+                let from = self.at;
+                let waits = self.frame().map_err(|fault| (fault, from))?;
+                if waits || self.at == self.input.len() {
+                    return Ok(());
+                }
+            },
+        }
+    }
+
     /// Steps over so many bytes, and answers them, or the fault.
     fn take(&mut self, many: usize, fault: Fault) -> Result<&'a [u8], Fault> {
         if self.end - self.at < many {
@@ -111,7 +131,9 @@ impl<'a> Reader<'a> {
         let from = self.at;
         let many = (4 - (from - self.base) % 4) % 4;
         let rule = if from < self.end { Rule::ShortPaddingPart } else { Rule::ShortPaddingNone };
-        self.take(many, Fault::Short { number: PADDING, at: from, what: What { rule, of: Some(of) } }).map(drop)
+        let bytes = self.take(many, Fault::Short { number: PADDING, at: from, what: What { rule, of: Some(of) } })?;
+        self.dirty.bytes += bytes.iter().filter(|byte| **byte != 0).count();
+        Ok(())
     }
 
     /// A text: its bytes, NUL and padding are all looked for before it is seen whether it is UTF-8.
@@ -145,16 +167,27 @@ impl<'a> Reader<'a> {
         if types.len() < 2 {
             return Ok(());
         }
-        let mut open = 0;
+        // What was dirty before the arguments, and before each bracket that is open.
+        let (outside, mut open) = (self.dirty.bytes, Vec::new());
         for tag in types.chars().skip(1) {
             match tag {
-                '[' => open += 1,
-                ']' if open == 0 => return Err(Fault::Other(6)),
-                ']' => open -= 1,
+                '[' => open.push(self.dirty.bytes),
+                ']' => drop(open.pop().ok_or(Fault::Other(6))?),
                 _ => self.data(tag)?,
             }
         }
+        if let Some(inside) = open.last() {
+            self.lose(outside, *inside);
+        }
         Ok(())
+    }
+
+    /// Of arguments whose last open bracket is never closed, all that was read before it is lost: the padding from `outside` on,
+    /// up to what it was inside the bracket. The type text is the message's own and stays.
+    fn lose(&mut self, outside: usize, inside: usize) {
+        self.dirty.seen.note_if(Rule::DirtyLost, inside > outside);
+        self.dirty.seen.note_if(Rule::DirtyUnclosed, self.dirty.bytes > inside);
+        self.dirty.bytes -= inside - outside;
     }
 
     /// The data of an argument: one field, but for its padding.
@@ -188,12 +221,14 @@ impl<'a> Reader<'a> {
         let rule = if from < self.end { Rule::ShortTag } else { Rule::ShortTagNone };
         self.take(8, Fault::short(HEAD, from, rule))?;
         loop {
-            let before = self.at;
+            let (before, dirty) = (self.at, self.dirty);
             if before == self.end {
                 return Ok(());
             }
             if self.element().is_err() {
-                self.at = before;
+                let failed = self.dirty.bytes > dirty.bytes;
+                (self.at, self.dirty) = (before, dirty);
+                self.dirty.seen.note_if(Rule::DirtyFailed, failed);
                 return Ok(());
             }
         }
@@ -205,7 +240,10 @@ impl<'a> Reader<'a> {
         let size = self.word(Fault::Other(0))?;
         let from = self.at;
         self.take(size, Fault::Other(0))?;
-        Reader { input: self.input, base: self.base, at: from, end: self.at }.packet()
+        let mut inside = Reader { at: from, end: self.at, ..*self };
+        let read = inside.packet();
+        self.dirty = inside.dirty;
+        read
     }
 
     /// A frame of a stream; whether it waits. The length tells only that, and padding counts from the prefix.
@@ -234,7 +272,7 @@ mod tests {
     /// The number of the refusal, where the field began that was short, and the frame; the number 0 and the bytes left where there
     /// is no refusal.
     fn told(call: Call, digits: &str) -> (u8, usize, usize) {
-        match read(call, &bytes(digits)) {
+        match read(call, &bytes(digits)).0 {
             Ok(left) => (0, left, 0),
             Err((fault, frame)) => (fault.number(), (fault.more() >> 32) as usize, frame),
         }
@@ -319,6 +357,27 @@ mod tests {
         assert_eq!(told(Call::TcpVec, &format!("{bundle} 0000")), (21, 33, 33));
         assert_eq!(told(Call::TcpVec, &format!("{bundle} 00000000 2F00")), (20, 39, 33));
         assert_eq!(told(Call::TcpVec, &format!("{bundle} 00000000 2F000058")), (18, 41, 33));
+    }
+
+    #[test]
+    fn padding_of_what_is_kept() {
+        for (call, digits, due) in [
+            (Call::Udp, "2F616200 2C000000", 0),
+            (Call::Udp, "2F610001 2C00FF02", 3),
+            (Call::Udp, "2F610000 2C736200 61000203 00000003 61626304", 3),
+            // Lost; lost, kept and the type text; kept, since the last bracket that stays open is the first one.
+            (Call::Udp, "2F610000 2C735B00 61000101", 0),
+            (Call::Udp, "2F610000 2C735B73 00010000 61000101 62000001", 2),
+            (Call::Udp, "2F610000 2C5B735B 735D0000 61000101 62000001", 3),
+            // An element that fails, and bytes that are dropped or left over.
+            (Call::Udp, "2362756E 646C6500 00000000 00000001 00000008 2F610001 2C780001", 0),
+            (Call::Udp, "2362756E 646C6500 00000000 00000001 00000009 2F610001 2C000000 FF FF", 1),
+            // Before a fault, and before what waits.
+            (Call::TcpVec, "00000008 2F610001 2C000000 00000000", 1),
+            (Call::TcpVec, "00000008 2F610001 2C000000 00000009 2F610001", 1),
+        ] {
+            assert_eq!(read(call, &bytes(digits)).1.bytes, due, "{digits}");
+        }
     }
 
     #[test]

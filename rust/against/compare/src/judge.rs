@@ -1,9 +1,10 @@
 //! What the port must answer, from what the crate gives and document 01's limits.
 
 use crate::ask::{Asked, Call, Due};
-use crate::fields::{self, Fault};
+use crate::fields::{self, Dirty, Fault};
 use crate::met::{Rule, Seen};
 use crate::oracle::{self, Depth, Told};
+use crate::padding;
 use crate::rules;
 use crate::table::{word, Reader, RECORD};
 use crate::walk::{self, Lost};
@@ -15,7 +16,8 @@ pub const LONGEST: usize = 65_535;
 pub const DEEPEST: u64 = 64;
 
 /// What is made of an input: the number of its refusal or 0, what is said beside it, how deep the crate's packets are, the bytes
-/// left over, how deep what it lost would be, and the rules that were at work.
+/// left over, how deep what it lost would be, and the rules that were at work. Beside a refusal it is said where a field began that
+/// was short, and beside packets how many bytes of padding are not zero.
 #[derive(Default)]
 pub struct Found {
     pub refusal: u8,
@@ -30,12 +32,13 @@ pub struct Found {
 pub fn find(call: Call, input: &[u8], table: &mut Vec<u8>) -> Found {
     table.clear();
     let mut seen = Seen::default();
-    let read = fields::read(call, input);
+    let (read, dirty) = fields::read(call, input);
     match oracle::decode(call, input, &mut seen) {
         Told::Refused(class) => {
             let (fault, frame) = read.expect_err("an input that the crate refuses");
             assert_eq!(fault.class(), class, "the reader of fields and the crate refuse otherwise: {input:02X?}");
             short(fault, frame, &mut seen);
+            seen.note_if(Rule::DirtyRefused, dirty.bytes > 0);
             Found { refusal: fault.number(), more: fault.more(), seen, ..Found::default() }
         }
         Told::Waiting => {
@@ -47,11 +50,23 @@ pub fn find(call: Call, input: &[u8], table: &mut Vec<u8>) -> Found {
             assert_eq!(read, Ok(left), "the reader of fields reads otherwise than the crate: {input:02X?}");
             let prefix = if call == Call::Udp { 0 } else { 4 };
             let lost = walk::table(input, prefix, &packets, left, table, &mut seen);
+            let more = padding(input, prefix, table, dirty, &mut seen);
+            let waits = call == Call::TcpVec && left > 0;
             seen.note_if(Rule::WaitingFirst, packets.is_empty());
-            seen.note_if(Rule::WaitingLater, call == Call::TcpVec && left > 0 && !packets.is_empty());
-            Found { depth: oracle::depth(&packets), left, lost, seen, ..Found::default() }
+            seen.note_if(Rule::WaitingLater, waits && !packets.is_empty());
+            seen.note_if(Rule::DirtyWaiting, waits && more > 0);
+            Found { more, depth: oracle::depth(&packets), left, lost, seen, ..Found::default() }
         }
     }
+}
+
+/// What is said beside packets: the bytes of padding that are not zero, counted over their table. The reader of fields, which does
+/// not know the packets, has to have found as many.
+fn padding(input: &[u8], prefix: usize, table: &[u8], read: Dirty, seen: &mut Seen) -> u64 {
+    let bytes = padding::dirty(input, prefix, table, seen);
+    assert_eq!(read.bytes, bytes, "the reader of fields finds other padding than the packets have: {input:02X?}");
+    seen.add(read.seen);
+    bytes as u64
 }
 
 /// Notes what was short.
@@ -81,16 +96,18 @@ pub fn decode(asked: &Asked, found: &Found, due: &mut Due, seen: &mut Seen) {
         due.more = found.more;
     } else if found.depth.both > limit {
         too_deep(found.depth, limit, seen);
+        seen.note_if(Rule::DirtyDeep, found.more > 0);
         due.refuse(9);
     } else if count > asked.room / RECORD {
         seen.note_if(Rule::CapacityLess, count == asked.room / RECORD + 1);
+        seen.note_if(Rule::DirtyFull, found.more > 0);
         due.refuse(10);
     } else {
         seen.add(found.seen);
         deep_enough(found, limit, seen);
         seen.note_if(Rule::CapacityExact, count == asked.room / RECORD && count > 0);
         due.answer = ((count as u64) << 32) | found.left as u64;
-        due.more = 0;
+        due.more = found.more;
     }
 }
 

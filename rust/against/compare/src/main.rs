@@ -1,5 +1,6 @@
 //! Feeds rosc and the port the same inputs and compares every result: accept or refuse and the class of refusal, tree, bytes
-//! left, bytes written and bytes not written. Which field was short, and where it began, is judged by a reader of its own.
+//! left, bytes written and bytes not written. Which field was short, where it began and how many bytes of padding are not zero is
+//! judged by a reader of its own; the padding is counted over rosc's packets too.
 //!
 //!     cargo run --release --offline -p compare -- --cases N --seed S
 //!
@@ -19,6 +20,7 @@ mod inputs;
 mod judge;
 mod met;
 mod oracle;
+mod padding;
 mod peers;
 mod port;
 mod random;
@@ -27,6 +29,7 @@ mod record;
 mod rules;
 mod run;
 mod short;
+mod soiled;
 mod spoil;
 mod table;
 mod walk;

@@ -19,7 +19,6 @@ rules! {
     TypesWide 1 "type text with a first character of several bytes",
     ArrayUnclosed 1 "unclosed array",
     ArrayNested 1 "array in an array",
-    PaddingSet 1 "padding that is not zero",
     ElementDropped 1 "bytes dropped in an element",
     ElementOdd 1 "element at a place that is no multiple of 4",
     ElementEnds 1 "element ends its bundle",
@@ -58,6 +57,23 @@ rules! {
     ShortLaterPrefix 1 "short: a later prefix that is cut",
     ShortLater 1 "short: a field in a later frame",
     ShortLaterOdd 1 "short: a field in a frame at no multiple of 4",
+    DirtyAddress 1 "dirty padding: of an address",
+    DirtyTypes 1 "dirty padding: of a type text",
+    DirtyText 1 "dirty padding: of a text argument",
+    DirtyBlob 1 "dirty padding: of a blob",
+    DirtyBundle 1 "dirty padding: of #bundle",
+    DirtyPart 1 "dirty padding: some of its bytes are zero",
+    DirtyUnclosed 1 "dirty padding: of what is kept of an unclosed array",
+    DirtyOddMessage 1 "dirty padding: of a message at no multiple of 4",
+    DirtyOddFrame 1 "dirty padding: in a frame at no multiple of 4",
+    DirtySeveral 1 "dirty padding: in several packets",
+    DirtyWaiting 1 "dirty padding: in packets before Waiting",
+    DirtyMany 1 "dirty padding: 256 bytes and more",
+    DirtyLost 1 "dirty padding, not counted: of a lost argument",
+    DirtyFailed 1 "dirty padding, not counted: of an element that ends its bundle",
+    DirtyRefused 1 "dirty padding, not counted: read before a fault",
+    DirtyDeep 1 "dirty padding, not counted: of packets refused by 9",
+    DirtyFull 1 "dirty padding, not counted: of packets refused by 10",
     LeftOver 1 "bytes left over",
     Several 1 "several packets",
     WaitingFirst 1 "Waiting",
@@ -140,32 +156,33 @@ rules! {
 }
 
 // Each rule has a bit of what a case has shown.
-const _: () = assert!(RULES.len() <= 128);
+const _: () = assert!(RULES.len() <= 256);
 
-/// What one case has shown.
+/// What one case has shown: a bit for each rule.
 #[derive(Clone, Copy, Debug, Default, PartialEq, Eq)]
-pub struct Seen(u128);
+pub struct Seen([u128; 2]);
 
 impl Seen {
     pub fn note(&mut self, rule: Rule) {
-        self.0 |= 1 << rule as u32;
+        self.note_if(rule, true);
     }
     pub fn note_if(&mut self, rule: Rule, so: bool) {
-        self.0 |= (so as u128) << rule as u32;
+        self.0[rule as usize / 128] |= (so as u128) << (rule as u32 % 128);
     }
     pub fn add(&mut self, other: Seen) {
-        self.0 |= other.0;
+        self.0.iter_mut().zip(other.0).for_each(|(mine, its)| *mine |= its);
     }
     pub fn has(self, rule: Rule) -> bool {
-        self.0 >> rule as u32 & 1 == 1
+        self.0[rule as usize / 128] >> (rule as u32 % 128) & 1 == 1
     }
     /// The rules, each by its number.
     pub fn rules(self) -> impl Iterator<Item = usize> {
-        let mut left = self.0;
-        std::iter::from_fn(move || {
-            let rule = left.trailing_zeros() as usize;
-            left &= left.wrapping_sub(1);
-            (rule < 128).then_some(rule)
+        self.0.into_iter().zip([0, 128]).flat_map(|(mut left, first)| {
+            std::iter::from_fn(move || {
+                let rule = left.trailing_zeros() as usize;
+                left &= left.wrapping_sub(1);
+                (rule < 128).then_some(first + rule)
+            })
         })
     }
 }

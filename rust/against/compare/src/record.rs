@@ -70,6 +70,33 @@ const SHORT: &[(Call, &[u8])] = &[
     (Call::TcpVec, b"\0\0\0\0#bundle\0\0\0\0\0\0\0\0\x01\0\0\0\x09/a\0\0,\0\0\0X\0\0\0\0/\0\0X"),
 ];
 
+/// Inputs that tell the readings of Ticket 8 apart: which padding counts, where it is counted from, and that a refusal and Waiting
+/// tell of none.
+#[rustfmt::skip]
+const DIRTY: &[(Call, &[u8])] = &[
+    (Call::Udp, b"/a\0\x01,\0\0\0"),
+    (Call::Udp, b"/a\0\0,\0\0\x01"),
+    (Call::Udp, b"/a\0\0\0\x01\x02\x03"),
+    (Call::Udp, b"/a\0\0,s\0\0a\0\x02\x03"),
+    (Call::Udp, b"/a\0\0,b\0\0\0\0\0\x01a\x01\x02\x03"),
+    (Call::Udp, b"/a\0\0,b\0\0\0\0\0\x04abcdX"),
+    (Call::Udp, b"/a\0\0,s[\0a\0\x01\x01"),
+    (Call::Udp, b"/a\0\0,s[s\0\x01\0\0a\0\x01\x01b\0\0\x01"),
+    (Call::Udp, b"/a\0\0,[s]s\0\0\0a\0\x01\x01b\0\0\x01"),
+    (Call::Udp, b"#bundle\0\0\0\0\0\0\0\0\x01\0\0\0\x08/a\0\x01,x\0\x01"),
+    (Call::Udp, b"#bundle\0\0\0\0\0\0\0\0\x01\0\0\0\x09/a\0\x01,\0\0\0X\0\0\0\x07/\0\x01,x\0\x01"),
+    (Call::Udp, b"#bundle\0\0\0\0\0\0\0\0\x01\0\0\0\x09/a\0\x01,\0\0\0X\0\0\0\x13#bundle\0\x01\0\x02\0\0\0\0\0\0\0\x01"),
+    (Call::Udp, b"/a\0\x01"),
+    (Call::Udp, b"/a\0\x01,x\0\0"),
+    (Call::Tcp, b"\0\0\0\x08/a\0\x01,\0\0\0X"),
+    (Call::Tcp, b"\0\0\0\x0D/a\0\x01,\0\0\0"),
+    (Call::TcpVec, b"\0\0\0\x08/a\0\x01,\0\0\0\0\0\0\x08/a\0\0,\0\x02\x03"),
+    (Call::TcpVec, b"\0\0\0\x08/a\0\x01,\0\0\0\0\0\0\x09/a\0\x01"),
+    (Call::TcpVec, b"\0\0\0\x08/a\0\x01,\0\0\0\0"),
+    (Call::TcpVec, b"\0\0\0\x08/a\0\x01,\0\0\0\0\0\0\0"),
+    (Call::TcpVec, b"\0\0\0\0#bundle\0\0\0\0\0\0\0\0\x01\0\0\0\x09/a\0\x01,\0\0\0X\0\0\0\0/a\0\x01,\0\0\x02"),
+];
+
 /// What a case adds: its answer, its rules, kinds and sizes. Each is kept up to a quota.
 #[derive(Clone, Copy, PartialEq, Eq, Hash)]
 enum Bucket {
@@ -78,6 +105,7 @@ enum Bucket {
     Kind(u8, u8),
     Length(u8, u8),
     Left(u8, u8),
+    Dirty(u8, u8),
     Wrote(u8, u8),
     Limit(u8, u8),
     Position(u8, u8),
@@ -92,7 +120,7 @@ impl Bucket {
             Bucket::Rule(..) => 5,
             Bucket::Kind(..) => 12,
             Bucket::Length(..) | Bucket::Wrote(..) => 2,
-            Bucket::Left(..) => 3,
+            Bucket::Left(..) | Bucket::Dirty(..) => 3,
             Bucket::Limit(..) | Bucket::Position(..) | Bucket::Looked(..) => 1,
         }
     }
@@ -123,6 +151,7 @@ fn buckets(asked: &Asked, due: &Due, seen: Seen) -> Vec<Bucket> {
     if asked.call.decodes() {
         all.push(Bucket::Limit(call, small(asked.number as usize)));
         all.push(Bucket::Left(call, small(due.answer as u32 as usize)));
+        all.push(Bucket::Dirty(call, small(due.more as u32 as usize)));
         all.extend(due.wrote.chunks_exact(RECORD).map(|record| Bucket::Kind(call, record[0])));
     }
     if asked.call.encodes() && refusal == 0 {
@@ -180,7 +209,7 @@ impl Sample {
 fn choose(seed: u64) -> Sample {
     let mut sample = Sample { bytes: Vec::new(), cases: 0, longest: 0, most_room: 0, met: Met::new(), full: HashMap::new() };
     let mut case = Case::new();
-    let examples = EXAMPLES.iter().chain(SHORT).map(|(call, input)| (*call, DEEPEST, *input));
+    let examples = EXAMPLES.iter().chain(SHORT).chain(DIRTY).map(|(call, input)| (*call, DEEPEST, *input));
     for (call, limit, input) in examples.chain(NESTED.iter().copied()) {
         case.roomy(call, limit, input);
         sample.offer(&case);
@@ -233,10 +262,11 @@ const HEAD: &str = "# The recorded answers
 data/answers.bin holds a sample of the answers of rosc 0.11.4, built unchanged, as document 01 has them: its packets as node
 tables, its errors as numbers, and document 01's limits, rules of a table and of a record on top. Where each item began is
 found by a walk over the input that the crate's packets lead; which field was short, and where it began, by a reader of its own,
-which agrees with the crate on the class of every refusal. The port had no part in it. The sample is chosen for coverage: a case
-is kept if it adds an answer, rule, kind, length or limit that is not there often enough. Document 01's examples P1 to P14 come
-first, and after them those that tell the readings of Ticket 2 and of Ticket 4 apart. What needs long slices (refusal 1, tables of
-depth 64) is not here: the program limit_runs has it.
+which agrees with the crate on the class of every refusal. The bytes of padding that are not zero are counted after the items that
+the walk found, and by that reader, which agrees. The port had no part in it. The sample is chosen for coverage: a case is kept if
+it adds an answer, rule, kind, length or limit that is not there often enough. Document 01's examples P1 to P14 come first, and
+after them those that tell the readings of the Tickets 2, 8 and 4 apart. What needs long slices (refusal 1, tables of depth 64) is
+not here: the program limit_runs has it.
 ";
 
 const FORMAT: &str = "
@@ -252,7 +282,8 @@ Cases one after another, all numbers big-endian.
 | 4, n | length and bytes of the input, table or text; none for `pad` |
 | 4, n | length and bytes of the source, for `encode` and `encode_tcp` |
 | 8 | the answer, as include/osc.h has it |
-| 8 | what a decoder says beside it, as include/osc.h has it; 0 for the other calls |
+| 8 | what a decoder says beside it, as include/osc.h has it: where a field began that was short, or the bytes of padding that are \
+not zero; 0 for the other calls |
 | 4, n | length and bytes that must stand at the front of the room; all others there are unchanged |
 
 ## What is met

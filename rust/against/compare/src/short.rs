@@ -11,7 +11,7 @@ enum Family {
     Bytes,
     /// Groups of bytes, mostly of 4, as the whole input of each decoder.
     Groups,
-    /// Type texts of a message, for each decoder.
+    /// Type texts of a message, for each decoder, with padding and data in which not all bytes are zero.
     Types,
     /// Brackets and a tag without data as the type text of a message, alone and in a bundle, for each decoder at low depth limits.
     Brackets,
@@ -173,7 +173,7 @@ fn fill(family: Family, length: u32, n: u64, asked: &mut Asked) {
     if matches!(family, Family::Types | Family::Brackets) {
         asked.first.push(0);
         let padded = asked.first.len().next_multiple_of(4);
-        asked.first.resize(padded, 0);
+        asked.first.resize(padded, if family == Family::Types { 0xAA } else { 0 });
     }
     if family == Family::Types {
         asked.first.extend_from_slice(b"\0\0\0\x02a\0\0\0\0\0\xD8\0");

@@ -116,9 +116,7 @@ impl Walk<'_> {
 
     /// Skips to the next multiple of 4.
     fn pad(&mut self) {
-        let end = self.base + (self.at - self.base).div_ceil(4) * 4;
-        self.seen.note_if(Rule::PaddingSet, self.input[self.at..end].iter().any(|b| *b != 0));
-        self.at = end;
+        self.at = self.base + (self.at - self.base).div_ceil(4) * 4;
     }
 
     /// Skips a text with its NUL and padding, and answers it.

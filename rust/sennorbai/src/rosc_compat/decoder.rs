@@ -2,7 +2,7 @@
 // NOTICE.
 //! Provides a decoding method for OSC packets.
 
-use super::scratch::lend;
+use super::scratch::{first, lend};
 use super::{OscArray, OscBundle, OscColor, OscError, OscMessage, OscMidiMessage, OscPacket, OscTime, OscType};
 use crate::{Decoded, Record, Time, Value, DEEPEST, LONGEST, RECORD};
 use std::mem;
@@ -13,8 +13,8 @@ pub const MTU: usize = 1536;
 /// Takes a bytes slice representing a UDP packet and returns the OSC packet as well as a slice of
 /// any bytes remaining after the OSC packet.
 pub fn decode_udp(msg: &[u8]) -> Result<(&[u8], OscPacket), OscError> {
-    lend(room(msg), |table| {
-        let read = crate::decode_udp(msg, table, DEEPEST)?;
+    lend(|buffers| {
+        let read = crate::decode_udp(msg, first(&mut buffers.table, room(msg)), DEEPEST)?;
         Ok((last(msg, read.left()), packet(read.root())))
     })
 }
@@ -31,7 +31,7 @@ pub fn decode_udp(msg: &[u8]) -> Result<(&[u8], OscPacket), OscError> {
 ///
 /// [OSC specification]: https://cnmat.org/OpenSoundControl/OSC-spec.html
 pub fn decode_tcp(msg: &[u8]) -> Result<(&[u8], Option<OscPacket>), OscError> {
-    lend(room(msg), |table| match crate::decode_tcp(msg, table, DEEPEST)? {
+    lend(|buffers| match crate::decode_tcp(msg, first(&mut buffers.table, room(msg)), DEEPEST)? {
         Decoded::Packet(read) => Ok((last(msg, read.left()), Some(packet(read.root())))),
         Decoded::Waiting => Ok((msg, None)),
     })
@@ -40,8 +40,8 @@ pub fn decode_tcp(msg: &[u8]) -> Result<(&[u8], Option<OscPacket>), OscError> {
 /// Takes a bytes slice from a TCP stream (or any stream-based protocol) and returns a vec of all
 /// OSC packets in the slice as well as a slice of the bytes remaining after the last packet.
 pub fn decode_tcp_vec(msg: &[u8]) -> Result<(&[u8], Vec<OscPacket>), OscError> {
-    lend(room(msg), |table| {
-        let read = crate::decode_tcp_vec(msg, table, DEEPEST)?;
+    lend(|buffers| {
+        let read = crate::decode_tcp_vec(msg, first(&mut buffers.table, room(msg)), DEEPEST)?;
         Ok((last(msg, read.left()), read.roots().map(packet).collect()))
     })
 }

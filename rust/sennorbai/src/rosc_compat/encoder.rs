@@ -2,11 +2,10 @@
 // Apache-2.0: see NOTICE.
 //! Encodes an `OscPacket` to a byte vector.
 
-use super::plain;
-use super::scratch::lend;
-use super::walk::{Step, Walk};
+use super::scratch::{first, lend};
 use super::OscPacket;
-use crate::{BuildError, Builder, Refusal, Table, Value, LONGEST, RECORD};
+use super::{plain, table};
+use crate::{Refusal, Table, LONGEST};
 
 /// Takes a reference to an OSC packet and returns
 /// a byte vector on success. If the packet was invalid
@@ -27,13 +26,13 @@ use crate::{BuildError, Builder, Refusal, Table, Value, LONGEST, RECORD};
 /// assert!(encoder::encode(&packet).is_ok())
 /// ```
 pub fn encode(packet: &OscPacket) -> super::Result<Vec<u8>> {
-    Ok(write(packet, crate::encode)?)
+    Ok(write(packet, crate::encode, <[u8]>::to_vec)?)
 }
 
 /// Works exactly the same as [encode()]. Except that it prepends the length of the message into
 /// the first 4 bytes of the returned Vec, as per the OSC 1.0 specification.
 pub fn encode_tcp(packet: &OscPacket) -> super::Result<Vec<u8>> {
-    Ok(write(packet, crate::encode_tcp)?)
+    Ok(write(packet, crate::encode_tcp, <[u8]>::to_vec)?)
 }
 
 /// Takes a reference to an OSC packet and writes the
@@ -62,15 +61,19 @@ pub fn encode_tcp(packet: &OscPacket) -> super::Result<Vec<u8>> {
 /// assert!(encoder::encode_into(&packet, &mut bytes).is_ok())
 /// ```
 pub fn encode_into<O: Output>(packet: &OscPacket, out: &mut O) -> Result<usize, O::Err> {
-    let bytes = write(packet, crate::encode).unwrap_or_else(|_| plain::encode(packet));
-    out.write(&bytes)
+    match write(packet, crate::encode, |bytes| out.write(bytes)) {
+        Ok(written) => written,
+        Err(_) => out.write(&plain::encode(packet)),
+    }
 }
 
 /// Works exactly the same as [encode_into()]. Except that it prepends the length of the message into
 /// the first 4 bytes of the provided [Output], as per the OSC 1.0 specification.
 pub fn encode_into_tcp<O: Output>(packet: &OscPacket, out: &mut O) -> Result<usize, O::Err> {
-    let bytes = write(packet, crate::encode_tcp).unwrap_or_else(|_| plain::encode_tcp(packet));
-    out.write(&bytes)
+    match write(packet, crate::encode_tcp, |bytes| out.write(bytes)) {
+        Ok(written) => written,
+        Err(_) => out.write(&plain::encode_tcp(packet)),
+    }
 }
 
 /// Null terminates the byte representation of string `s` and
@@ -81,7 +84,7 @@ pub fn encode_into_tcp<O: Output>(packet: &OscPacket, out: &mut O) -> Result<usi
 pub fn encode_string<S: Into<String>>(s: S) -> Vec<u8> {
     let mut bytes: Vec<u8> = s.into().into_bytes();
     let new_len = pad(bytes.len() as u64 + 1) as usize;
-    let written = lend(new_len, |out| crate::encode_string(&bytes, out).map(<[u8]>::to_vec));
+    let written = lend(|buffers| crate::encode_string(&bytes, first(&mut buffers.out, LONGEST)).map(<[u8]>::to_vec));
     written.unwrap_or_else(|_| {
         bytes.resize(new_len, 0u8);
         bytes
@@ -116,37 +119,18 @@ pub fn pad(pos: u64) -> u64 {
 /// One of the library's encoders.
 type Encoder = for<'t, 'o> fn(Table<'t>, &'o mut [u8]) -> Result<&'o [u8], Refusal>;
 
-/// Writes a packet: its table and texts into a scratch buffer, and its bytes by an encoder from there.
-fn write(packet: &OscPacket, encoder: Encoder) -> Result<Vec<u8>, Refusal> {
-    let (records, texts) = measure(packet);
-    lend(RECORD * records + texts + LONGEST, |buffer| {
-        let (table, rest) = buffer.split_at_mut(RECORD * records);
-        let (source, out) = rest.split_at_mut(texts);
-        // The room is as measured, so a builder stops only at what a table may hold; the result of more is too long.
-        let table = build(packet, Builder::new(table, source)).map_err(|_| Refusal::TooLong)?;
-        encoder(table, out).map(<[u8]>::to_vec)
+/// Writes a packet by an encoder, from its table and to an output that are both scratch, and hands the bytes on.
+fn write<T>(packet: &OscPacket, encoder: Encoder, then: impl FnOnce(&[u8]) -> T) -> Result<T, Refusal> {
+    lend(|buffers| {
+        let out = first(&mut buffers.out, LONGEST);
+        if let Ok(table) = table::within_limits(packet, &mut buffers.table, &mut buffers.source) {
+            return encoder(table, out).map(then);
+        }
+        // The library says which limit it is, if a table can hold the packet; the result of more records is too long.
+        let (mut records, mut source) = table::room(packet);
+        let table = table::of_any(packet, &mut records, &mut source).map_err(|_| Refusal::TooLong)?;
+        encoder(table, out).map(then)
     })
-}
-
-/// How many records a packet has, and how many bytes its addresses, texts and blobs have.
-fn measure(packet: &OscPacket) -> (usize, usize) {
-    Walk::new(packet).fold((0, 0), |(records, texts), step| match step {
-        Step::Value(Value::Message(text) | Value::Text(text)) => (records + 1, texts + text.len()),
-        Step::Value(Value::Blob(blob)) => (records + 1, texts + blob.len()),
-        Step::Value(_) => (records + 1, texts),
-        Step::Close => (records, texts),
-    })
-}
-
-/// The table of a packet.
-fn build<'a>(packet: &OscPacket, mut builder: Builder<'a>) -> Result<Table<'a>, BuildError> {
-    for step in Walk::new(packet) {
-        match step {
-            Step::Value(value) => builder.push(value)?,
-            Step::Close => builder.close()?,
-        };
-    }
-    builder.finish()
 }
 
 /// A trait for values that can receive encoded OSC output

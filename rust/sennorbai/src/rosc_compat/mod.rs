@@ -38,6 +38,7 @@
 mod errors;
 mod plain;
 mod scratch;
+mod table;
 mod types;
 mod walk;
 

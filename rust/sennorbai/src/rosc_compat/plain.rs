@@ -4,15 +4,14 @@
 
 use super::walk::{Step, Walk};
 use super::OscPacket;
-use crate::builder::fields;
-use crate::Value;
+use crate::builder::Fields;
 
 /// A packet's bytes.
 pub fn encode(packet: &OscPacket) -> Vec<u8> {
     let mut writer = Writer::default();
     for step in Walk::new(packet) {
         match step {
-            Step::Value(value) => writer.push(value),
+            Step::Value(fields) => writer.push(fields),
             Step::Close => writer.close(),
         }
     }
@@ -46,9 +45,8 @@ struct Writer {
 }
 
 impl Writer {
-    fn push(&mut self, value: Value<'_>) {
-        let (kind, numbers, range) = fields(value);
-        let range = range.unwrap_or_default();
+    fn push(&mut self, Fields { kind, numbers, bytes }: Fields<'_>) {
+        let range = bytes.unwrap_or_default();
         match kind {
             b'/' => {
                 let start = self.start();

@@ -1,28 +1,41 @@
-//! A buffer for the tables, which rosc's signatures do not lend.
+//! Buffers for what rosc's signatures do not lend. A thread keeps them for the next call.
 
-use crate::{LONGEST, MOST, RECORD};
 use std::cell::Cell;
 
 thread_local! {
-    static KEPT: Cell<Vec<u8>> = const { Cell::new(Vec::new()) };
+    static KEPT: Cell<Option<Box<Buffers>>> = const { Cell::new(None) };
 }
 
-/// What a packet within the limits takes at most: its table, its texts and its bytes.
-const ENOUGH: usize = RECORD * MOST + 2 * LONGEST;
+/// Buffers with any content, each as long as a call before needed it. What is within the limits takes 1.4 MB at most, and a caller
+/// asks for no more.
+#[derive(Default)]
+pub struct Buffers {
+    /// For records.
+    pub table: Vec<u8>,
+    /// For the texts and blobs of a table.
+    pub source: Vec<u8>,
+    /// For an encoder's result.
+    pub out: Vec<u8>,
+}
 
-/// Lends a buffer of `room` bytes with any content. The thread keeps it for the next call.
+/// Lends the buffers.
 ///
-/// It is taken out of its cell, so a call within a call gets one of its own; and so does a call at the end of a thread, when
+/// They are taken out of their cell, so a call within a call gets some of its own; and so does a call at the end of a thread, when
 /// the cell is gone.
-pub fn lend<T>(room: usize, then: impl FnOnce(&mut [u8]) -> T) -> T {
-    let mut buffer = KEPT.try_with(Cell::take).unwrap_or_default();
-    if buffer.len() < room {
-        buffer.resize(room, 0);
-    }
-    let answer = then(&mut buffer[..room]);
-    if room <= ENOUGH {
-        // Without the cell the buffer is dropped here.
-        let _ = KEPT.try_with(|kept| kept.set(buffer));
-    }
+#[inline]
+pub fn lend<T>(then: impl FnOnce(&mut Buffers) -> T) -> T {
+    let mut buffers = KEPT.try_with(Cell::take).ok().flatten().unwrap_or_default();
+    let answer = then(&mut buffers);
+    // Without the cell the buffers are dropped here.
+    let _ = KEPT.try_with(|kept| kept.set(Some(buffers)));
     answer
+}
+
+/// The first `room` bytes of a buffer, which is made longer where it has fewer.
+#[inline]
+pub fn first(buffer: &mut Vec<u8>, room: usize) -> &mut [u8] {
+    if buffer.len() < room {
+        *buffer = vec![0; room];
+    }
+    &mut buffer[..room]
 }

@@ -1,13 +1,13 @@
 //! A packet of rosc's types as the steps of a builder.
 
-use super::{OscPacket, OscTime, OscType};
-use crate::{Color, Midi, Time, Value};
+use super::{OscPacket, OscType};
+use crate::builder::Fields;
 use std::slice;
 
 /// A step of a builder.
 pub enum Step<'a> {
     /// A value, which is open if it is a container.
-    Value(Value<'a>),
+    Value(Fields<'a>),
     /// The innermost container is closed.
     Close,
 }
@@ -31,41 +31,21 @@ impl<'a> Walk<'a> {
         Walk { levels }
     }
 
-    /// The value of a message or bundle, whose content comes next.
-    fn packet(&mut self, packet: &'a OscPacket) -> Value<'a> {
-        match packet {
-            OscPacket::Message(message) => {
-                self.levels.push(Level::Arguments(message.args.iter()));
-                Value::Message(&message.addr)
-            }
-            OscPacket::Bundle(bundle) => {
-                self.levels.push(Level::Packets(bundle.content.iter()));
-                Value::Bundle(time(bundle.timetag))
-            }
-        }
+    /// The fields of a message or bundle, whose content comes next.
+    fn packet(&mut self, packet: &'a OscPacket) -> Fields<'a> {
+        self.levels.push(match packet {
+            OscPacket::Message(message) => Level::Arguments(message.args.iter()),
+            OscPacket::Bundle(bundle) => Level::Packets(bundle.content.iter()),
+        });
+        head(packet)
     }
 
-    /// The value of an argument; if it is an array, its content comes next.
-    fn argument(&mut self, argument: &'a OscType) -> Value<'a> {
-        match argument {
-            OscType::Int(x) => Value::Int(*x),
-            OscType::Float(x) => Value::Float(*x),
-            OscType::String(x) => Value::Text(x),
-            OscType::Blob(x) => Value::Blob(x),
-            OscType::Time(x) => Value::Time(time(*x)),
-            OscType::Long(x) => Value::Long(*x),
-            OscType::Double(x) => Value::Double(*x),
-            OscType::Char(x) => Value::Char(*x),
-            OscType::Color(x) => Value::Color(Color { red: x.red, green: x.green, blue: x.blue, alpha: x.alpha }),
-            OscType::Midi(x) => Value::Midi(Midi { port: x.port, status: x.status, data1: x.data1, data2: x.data2 }),
-            OscType::Bool(x) => Value::Bool(*x),
-            OscType::Nil => Value::Nil,
-            OscType::Inf => Value::Inf,
-            OscType::Array(array) => {
-                self.levels.push(Level::Arguments(array.content.iter()));
-                Value::Array
-            }
+    /// The fields of an argument; if it is an array, its content comes next.
+    fn argument(&mut self, argument: &'a OscType) -> Fields<'a> {
+        if let OscType::Array(array) = argument {
+            self.levels.push(Level::Arguments(array.content.iter()));
         }
+        fields(argument)
     }
 }
 
@@ -86,6 +66,32 @@ impl<'a> Iterator for Walk<'a> {
     }
 }
 
-fn time(tag: OscTime) -> Time {
-    Time { seconds: tag.seconds, fractional: tag.fractional }
+/// The fields of a message or bundle.
+#[inline]
+pub fn head(packet: &OscPacket) -> Fields<'_> {
+    match packet {
+        OscPacket::Message(message) => Fields::range(b'/', message.addr.as_bytes()),
+        OscPacket::Bundle(bundle) => Fields::two(b'#', bundle.timetag.seconds, bundle.timetag.fractional),
+    }
+}
+
+/// The fields of an argument.
+#[inline]
+pub fn fields(argument: &OscType) -> Fields<'_> {
+    match argument {
+        OscType::Int(x) => Fields::one(b'i', *x as u32),
+        OscType::Float(x) => Fields::one(b'f', x.to_bits()),
+        OscType::String(x) => Fields::range(b's', x.as_bytes()),
+        OscType::Blob(x) => Fields::range(b'b', x),
+        OscType::Time(x) => Fields::two(b't', x.seconds, x.fractional),
+        OscType::Long(x) => Fields::long(b'h', *x as u64),
+        OscType::Double(x) => Fields::long(b'd', x.to_bits()),
+        OscType::Char(x) => Fields::one(b'c', *x as u32),
+        OscType::Color(x) => Fields::one(b'r', u32::from_be_bytes([x.red, x.green, x.blue, x.alpha])),
+        OscType::Midi(x) => Fields::one(b'm', u32::from_be_bytes([x.port, x.status, x.data1, x.data2])),
+        OscType::Bool(x) => Fields::bare(if *x { b'T' } else { b'F' }),
+        OscType::Nil => Fields::bare(b'N'),
+        OscType::Inf => Fields::bare(b'I'),
+        OscType::Array(_) => Fields::bare(b'['),
+    }
 }

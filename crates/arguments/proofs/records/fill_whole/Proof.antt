@@ -9,7 +9,7 @@ use Rattle.arguments.specs.Arguments.{readArgs}
 use Rattle.arguments.specs.CodeReadings.{keptOf}
 use Rattle.argument.proofs.Within.{given-within}
 use Rattle.arguments.proofs.Filling.{Filling, filling-start, room-opens, room-leaf, room-closes, filling-opens, filling-leaf}
-use Rattle.arguments.proofs.Filling.{filling-closes, filling-refused, filling-done}
+use Rattle.arguments.proofs.Filling.{filling-closes, filling-given, filling-done}
 use borrow.Author.Needs.{needs}
 use Rattle.arguments.proofs.records.fill_whole.Statement.{statement}
 use Rattle.arguments.proofs.records.fill_whole.Tie as tie
@@ -117,39 +117,51 @@ loop-again-2 c =
 
 read-osc-arg-requires : tie.Need-read-osc-arg-requires Inv-loop μ-loop
 read-osc-arg-requires c κs =
-    let p7 = c .before .before .before .before .before .before .before in
+    let p3 = c .before .before .before in
+    let p6 = p3 .before .before .before in
+    let p7 = p6 .before in
     let p11 = p7 .before .before .before .before in
-    omega (arith, p7 .loop .inv .ends, p11 .pre .0)
+    let e = sym (c .before .class .given .1) ∙ p3 .sort-of .ensures in
+    (omega (arith, p7 .loop .inv .ends, p11 .pre .0), filling-given (p7 .loop .inv) (p6 .loop-test .taken) e)
 
 add-put-at-2 : tie.Need-add-put-at-2 Inv-loop μ-loop
 add-put-at-2 c =
-    let p6 = c .before .before .before .before .before .before in
-    let p8 = p6 .before .before in
-    let p11 = p8 .before .before .before in
-    let p12 = p11 .before in
-    let e = sym (p6 .class .given .1) ∙ p8 .sort-of .ensures in
-    omega (arith, room-leaf (p12 .loop .inv) (p11 .loop-test .taken) e)
+    let p3 = c .before .before .before in
+    let p5 = p3 .before .before in
+    let p8 = p5 .before .before .before in
+    let p9 = p8 .before in
+    let e = sym (p3 .class .given .1) ∙ p5 .sort-of .ensures in
+    omega (arith, room-leaf (p9 .loop .inv) (p8 .loop-test .taken) e)
 
 add-put-at-3 : tie.Need-add-put-at-3 Inv-loop μ-loop
 add-put-at-3 c =
-    let p6 = c .before .before .before .before .before .before in
-    let p8 = p6 .before .before in
-    let p11 = p8 .before .before .before in
-    let p12 = p11 .before in
-    let e = sym (p6 .class .given .1) ∙ p8 .sort-of .ensures in
-    omega (arith, room-leaf (p12 .loop .inv) (p11 .loop-test .taken) e)
+    let p3 = c .before .before .before in
+    let p5 = p3 .before .before in
+    let p8 = p5 .before .before .before in
+    let p9 = p8 .before in
+    let e = sym (p3 .class .given .1) ∙ p5 .sort-of .ensures in
+    omega (arith, room-leaf (p9 .loop .inv) (p8 .loop-test .taken) e)
 
 cast-put-at-3 : tie.Need-cast-put-at-3 Inv-loop μ-loop
 cast-put-at-3 c =
-    let p6 = c .before .before .before .before .before .before in
-    let p8 = p6 .before .before in
-    let p11 = p8 .before .before .before in
-    let p12 = p11 .before in
-    let e = sym (p6 .class .given .1) ∙ p8 .sort-of .ensures in
-    omega (arith, room-leaf (p12 .loop .inv) (p11 .loop-test .taken) e)
+    let p3 = c .before .before .before in
+    let p5 = p3 .before .before in
+    let p8 = p5 .before .before .before in
+    let p9 = p8 .before in
+    let e = sym (p3 .class .given .1) ∙ p5 .sort-of .ensures in
+    omega (arith, room-leaf (p9 .loop .inv) (p8 .loop-test .taken) e)
 
 put-at-requires-2 : tie.Need-put-at-requires-2 Inv-loop μ-loop
 put-at-requires-2 c κs =
+    let p3 = c .before .before .before in
+    let p5 = p3 .before .before in
+    let p8 = p5 .before .before .before in
+    let p9 = p8 .before in
+    let e = sym (p3 .class .given .1) ∙ p5 .sort-of .ensures in
+    omega (arith, room-leaf (p9 .loop .inv) (p8 .loop-test .taken) e)
+
+add-n-2 : tie.Need-add-n-2 Inv-loop μ-loop
+add-n-2 c =
     let p6 = c .before .before .before .before .before .before in
     let p8 = p6 .before .before in
     let p11 = p8 .before .before .before in
@@ -157,76 +169,35 @@ put-at-requires-2 c κs =
     let e = sym (p6 .class .given .1) ∙ p8 .sort-of .ensures in
     omega (arith, room-leaf (p12 .loop .inv) (p11 .loop-test .taken) e)
 
-add-n-2 : tie.Need-add-n-2 Inv-loop μ-loop
-add-n-2 c =
-    let p9 = c .before .before .before .before .before .before .before .before .before in
-    let p11 = p9 .before .before in
-    let p14 = p11 .before .before .before in
-    let p15 = p14 .before in
-    let e = sym (p9 .class .given .1) ∙ p11 .sort-of .ensures in
-    omega (arith, room-leaf (p15 .loop .inv) (p14 .loop-test .taken) e)
-
 sub-rest : tie.Need-sub-rest Inv-loop μ-loop
-sub-rest c =
-    let p5 = c .before .before .before .before .before in
-    let p7 = p5 .before .before in
-    let g = sym (p5 .item .given .1) ∙ p7 .read-osc-arg .ensures in
-    given-within _ _ _ _ _ g
+sub-rest c = given-within _ _ _ _ _ (sym (c .before .before .before .before .read-osc-arg .ensures))
 
 part-rest-start : tie.Need-part-rest-start Inv-loop μ-loop
-part-rest-start c =
-    let p5 = c .before .before .before .before .before in
-    let p7 = p5 .before .before in
-    let g = sym (p5 .item .given .1) ∙ p7 .read-osc-arg .ensures in
-    given-within _ _ _ _ _ g
+part-rest-start c = given-within _ _ _ _ _ (sym (c .before .before .before .before .read-osc-arg .ensures))
 
 add-at : tie.Need-add-at Inv-loop μ-loop
 add-at c =
-    let p6 = c .before .before .before .before .before .before in
-    let p8 = p6 .before .before in
-    let p16 = p8 .before .before .before .before .before .before .before .before in
-    let p20 = p16 .before .before .before .before in
-    let g = sym (p6 .item .given .1) ∙ p8 .read-osc-arg .ensures in
-    omega (arith, given-within _ _ _ _ _ g, p16 .loop .inv .ends, p20 .pre .0)
+    let p5 = c .before .before .before .before .before in
+    let p13 = p5 .before .before .before .before .before .before .before .before in
+    let p17 = p13 .before .before .before .before in
+    omega (arith, given-within _ _ _ _ _ (sym (p5 .read-osc-arg .ensures)), p13 .loop .inv .ends, p17 .pre .0)
 
 loop-again-3 : tie.Need-loop-again-3 Inv-loop μ-loop
 loop-again-3 c =
     let p3 = c .before .before .before in
-    let p6 = p3 .before .before .before in
-    let p8 = p6 .before .before in
-    let p10 = p8 .before .before in
-    let p12 = p10 .before .before in
-    let p15 = p12 .before .before .before in
-    let p16 = p15 .before in
-    let e = sym (p10 .class .given .1) ∙ p12 .sort-of .ensures in
-    let g = sym (p6 .item .given .1) ∙ p8 .read-osc-arg .ensures in
-    filling-leaf (p16 .loop .inv) (p15 .loop-test .taken) e g (p3 .put-at2 .ensures)
+    let p5 = p3 .before .before in
+    let p7 = p5 .before .before in
+    let p9 = p7 .before .before in
+    let p12 = p9 .before .before .before in
+    let p13 = p12 .before in
+    let e = sym (p7 .class .given .1) ∙ p9 .sort-of .ensures in
+    filling-leaf (p13 .loop .inv) (p12 .loop-test .taken) e (sym (p5 .read-osc-arg .ensures)) (p3 .put-at2 .ensures)
 
 same-length : tie.Need-same-length Inv-loop μ-loop
-same-length c =
-    let p2 = c .before .before in
-    let p4 = p2 .before .before in
-    let p6 = p4 .before .before in
-    let p9 = p6 .before .before .before in
-    let p10 = p9 .before in
-    let e = sym (p4 .class .given .1) ∙ p6 .sort-of .ensures in
-    absurd (filling-refused (p10 .loop .inv) (p9 .loop-test .taken) e (sym (c .enum-told3 .given .1) ∙ p2 .read-osc-arg .ensures))
+same-length c = wrote-length _ _ _ (c .before .loop .inv .table)
 
 returns : tie.Need-returns Inv-loop μ-loop
-returns c =
-    let p2 = c .before .before in
-    let p4 = p2 .before .before in
-    let p6 = p4 .before .before in
-    let p9 = p6 .before .before .before in
-    let p10 = p9 .before in
-    let e = sym (p4 .class .given .1) ∙ p6 .sort-of .ensures in
-    absurd (filling-refused (p10 .loop .inv) (p9 .loop-test .taken) e (sym (c .enum-told3 .given .1) ∙ p2 .read-osc-arg .ensures))
-
-same-length-2 : tie.Need-same-length-2 Inv-loop μ-loop
-same-length-2 c = wrote-length _ _ _ (c .before .loop .inv .table)
-
-returns-2 : tie.Need-returns-2 Inv-loop μ-loop
-returns-2 c = filling-done (c .before .loop .inv) (c .loop-test .left)
+returns c = filling-done (c .before .loop .inv) (c .loop-test .left)
 
 pub fill-whole-spec : {M : Type 1} → statement M
 fill-whole-spec =
@@ -258,7 +229,6 @@ fill-whole-spec =
     loop-again-2
     (λ c. search needs)
     read-osc-arg-requires
-    (λ c. search needs)
     add-put-at-2
     add-put-at-3
     cast-put-at-3
@@ -270,8 +240,5 @@ fill-whole-spec =
     add-at
     (λ c. search needs)
     loop-again-3
-    (λ c. search needs)
     same-length
-    returns
-    same-length-2
-    returns-2)
+    returns)

@@ -9,13 +9,13 @@ returns : tie.Need-returns
 returns c =
     let p2 = c .before .before in
     let a = p2 .before .before .args in
-    by-case (decodedAs (a .packets) (a .bytes)) (p2 .answer .given .1) (c .formed .ensures)
+    by-case (decodedAs (a .packets) (a .bytes)) (p2 .answer .given .1) (c .packets-line .ensures)
 
 returns-2 : tie.Need-returns-2
 returns-2 c =
     let p1 = c .before in
     let a = p1 .before .before .args in
-    by-case (decodedAs (a .packets) (a .bytes)) (p1 .enum-told .given .1) (c .formed2 .ensures)
+    by-case (decodedAs (a .packets) (a .bytes)) (p1 .enum-told .given .1) (c .formed .ensures)
 
 returns-3 : tie.Need-returns-3
 returns-3 c =
