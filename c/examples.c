@@ -1,6 +1,6 @@
-/* Runs document 01's examples, and cases of its refusals, through every function of include/osc.h, and compares. Each slice is
- * an allocation of exactly its length, so that a memory checker sees a read or a write past it. It ends with 1 where
- * something differs. It compiles as C99 and as C++17. */
+/* Runs document 01's examples, cases of its refusals, and edition 2 of streams, through every function of include/osc.h, and
+ * compares. Each slice is an allocation of exactly its length, so that a memory checker sees a read or a write past it. It ends
+ * with 1 where something differs. It compiles as C99 and as C++17. */
 #include "../include/osc.h"
 #include <stdio.h>
 #include <stdlib.h>
@@ -55,14 +55,18 @@ static void holds(const char *name, const uint8_t *buffer, size_t room, const ui
     same(name, wrong, 0);
 }
 
-enum call { UDP, TCP, TCP_VEC };
+enum call { UDP, TCP, TCP_VEC, TCP2, TCP_VEC2 };
 
 static uint64_t decode(enum call call, const uint8_t *msg, size_t n, uint8_t *table, size_t room, uint64_t depth,
                        uint64_t *more) {
     *more = 0xAAAAAAAAAAAAAAAAu;
-    return call == UDP   ? osc_decode_udp(msg, n, table, room, depth, more)
-           : call == TCP ? osc_decode_tcp(msg, n, table, room, depth, more)
-                         : osc_decode_tcp_vec(msg, n, table, room, depth, more);
+    switch (call) {
+    case UDP: return osc_decode_udp(msg, n, table, room, depth, more);
+    case TCP: return osc_decode_tcp(msg, n, table, room, depth, more);
+    case TCP_VEC: return osc_decode_tcp_vec(msg, n, table, room, depth, more);
+    case TCP2: return osc_decode_tcp2(msg, n, table, room, depth, more);
+    default: return osc_decode_tcp_vec2(msg, n, table, room, depth, more);
+    }
 }
 
 /* A decoder's answer, in its parts, all that it says beside it, and its whole table, for which there are `room` bytes. */
@@ -74,8 +78,10 @@ static void decodes_beside(const char *name, enum call call, const char *hex, si
     uint64_t more, answer = decode(call, msg, n, table, room, depth, &more);
     same(name, osc_refusal(answer), refusal);
     same(name, more, beside);
-    same(name, osc_field(more), beside >> 32);
+    same(name, osc_frame(more), beside >> 48);
+    same(name, osc_field(more), beside >> 32 & 0xFFFFu);
     same(name, osc_dirty(more), beside & 0xFFFFFFFFu);
+    same(name, (uint64_t)osc_stopped(answer), refusal != 0 && left != 0);
     same(name, osc_count(answer), m / OSC_RECORD);
     same(name, osc_left(answer), left);
     holds(name, table, room, due, m);
@@ -110,14 +116,36 @@ static void is_dirty(const char *name, enum call call, const char *hex, uint32_t
     decodes_beside(name, call, hex, 8 * OSC_RECORD, 64, 0, dirty, left, table_hex);
 }
 
+/* Where a list stops: why its frame is refused and where that begins; beside that the bytes left are those from there on. */
+static void stops_beside(const char *name, const char *hex, size_t records, uint64_t depth, unsigned refusal, uint32_t frame,
+                         uint64_t beside, const char *table_hex) {
+    uint8_t bytes[256];
+    uint32_t left = (uint32_t)bytes_of(hex, bytes) - frame;
+    decodes_beside(name, TCP_VEC2, hex, OSC_RECORD * records, depth, refusal, (uint64_t)frame << 48 | beside, left, table_hex);
+}
+
+/* The same where no field was short and all padding is zero. */
+static void stops(const char *name, const char *hex, unsigned refusal, uint32_t frame, const char *table_hex) {
+    stops_beside(name, hex, 8, 64, refusal, frame, 0, table_hex);
+}
+
+/* The encoders of packets: 0, or the edition of a stream. */
+static uint64_t encode(int edition, const uint8_t *table, size_t n, uint64_t count, const uint8_t *source, size_t len, uint8_t *out,
+                       size_t room) {
+    switch (edition) {
+    case 0: return osc_encode(table, n, count, source, len, out, room);
+    case 1: return osc_encode_tcp(table, n, count, source, len, out, room);
+    default: return osc_encode_tcp2(table, n, count, source, len, out, room);
+    }
+}
+
 /* An encoder's answer, in its parts, and its whole output. */
-static void encodes(const char *name, int tcp, const char *table_hex, uint64_t count, const char *source_text, size_t room,
+static void encodes(const char *name, int edition, const char *table_hex, uint64_t count, const char *source_text, size_t room,
                     unsigned refusal, const char *out_hex) {
     uint8_t bytes[256], due[256];
     size_t n = bytes_of(table_hex, bytes), m = bytes_of(out_hex, due), len = strlen(source_text);
     uint8_t *table = copy(bytes, n), *source = copy((const uint8_t *)source_text, len), *out = blank(room);
-    uint64_t answer = tcp ? osc_encode_tcp(table, n, count, source, len, out, room)
-                          : osc_encode(table, n, count, source, len, out, room);
+    uint64_t answer = encode(edition, table, n, count, source, len, out, room);
     same(name, osc_refusal(answer), refusal);
     same(name, osc_written(answer), m);
     holds(name, out, room, due, m);
@@ -386,12 +414,92 @@ static void streams(void) {
     is_short("three bytes", TCP_VEC, "000000", OSC_SHORT_HEAD, 0);
 }
 
+/* "/a" in a frame, without arguments and with a true; the table of the first where it begins the input; and a bundle in a frame. */
+#define PLAIN_FRAME "00000008 2F610000 2C000000"
+#define TRUE_FRAME "00000008 2F610000 2C540000"
+#define PLAIN_FRAME_TABLE "2F000000 00000001 00000004 00000002 00000004"
+#define BUNDLE_FRAME "00000010" EMPTY_BUNDLE
+#define BUNDLE_FRAME_TABLE "23000000 00000001 00000000 00000001 00000004"
+/* A bundle that an element ended, 4 bytes before its end. */
+#define ENDED_BUNDLE EMPTY_BUNDLE "00000000"
+
+/* One frame of edition 2. */
+static void frames2(void) {
+    decodes("no bytes wait", TCP2, "", 8, 64, 0, 0, "");
+    decodes("three bytes wait", TCP2, "000000", 8, 64, 0, 3, "");
+    decodes("an unfinished frame waits", TCP2, "00000008 2F610000", 8, 64, 0, 8, "");
+    decodes("a length of 65,528 waits", TCP2, "0000FFF8 2F610000", 8, 64, 0, 8, "");
+    refuses("a length of 65,532", TCP2, "0000FFFC", OSC_TOO_LONG);
+    refuses("a length of 2^32 - 1", TCP2, "FFFFFFFF", OSC_TOO_LONG);
+    refuses("a length of 65,531", TCP2, "0000FFFB", OSC_ODD_LENGTH);
+    refuses("a length of 6", TCP2, "00000006 2F610000 2C00", OSC_ODD_LENGTH);
+    refuses("a length of 0", TCP2, "00000000 2F610000 00000000", OSC_EMPTY);
+    refuses("bytes left in a frame", TCP2, "0000000C 2F610000 2C000000 00000000", OSC_BYTES_LEFT);
+    refuses("a bundle that an element ended", TCP2, "00000014" ENDED_BUNDLE, OSC_BYTES_LEFT);
+    decodes("the same in an element", TCP2, "00000028" EMPTY_BUNDLE "00000014" ENDED_BUNDLE, 8, 64, 0, 0,
+            "23000000 00000002 00000000 00000001 00000004"
+            "23000000 00000002 00000000 00000001 00000018");
+    refuses("4 before 15", TCP2, "0000000C 2FFF0000 2C000000 00000000", OSC_NOT_UTF8);
+    decodes("15 before 9", TCP2, "00000014" ENDED_BUNDLE, 8, 0, OSC_BYTES_LEFT, 0, "");
+    decodes("9 before 10", TCP2, BUNDLE_FRAME, 0, 0, OSC_TOO_DEEP, 0, "");
+    decodes("a frame without room", TCP2, BUNDLE_FRAME, 0, 1, OSC_TABLE_FULL, 0, "");
+    decodes("a frame and 65 levels", TCP2, "0000FFFC", 8, 65, OSC_DEPTH_LIMIT, 0, "");
+    decodes("a frame before another", TCP2, PLAIN_FRAME PLAIN_FRAME, 8, 64, 0, 12, PLAIN_FRAME_TABLE);
+    decodes("a bundle before a frame", TCP2, BUNDLE_FRAME PLAIN_FRAME, 8, 64, 0, 12, BUNDLE_FRAME_TABLE);
+    is_short("a packet short in its frame", TCP2, "00000004 2F610000 2C000000", OSC_SHORT_TYPES, 8);
+    is_dirty("dirt in a frame of edition 2", TCP2, "00000008 2F610001 2C000000 FF", 1, 1, PLAIN_FRAME_TABLE);
+}
+
+/* Lists of edition 2, which stop at a frame that is refused. */
+static void lists2(void) {
+    uint8_t *msg = blank(65536), *table = blank(2 * OSC_RECORD);
+    uint64_t more;
+    decodes("an empty list of edition 2", TCP_VEC2, "", 8, 64, 0, 0, "");
+    decodes("a list of three bytes", TCP_VEC2, "000000", 8, 64, 0, 3, "");
+    decodes("a frame and a part of edition 2", TCP_VEC2, PLAIN_FRAME "00000008 2F61", 8, 64, 0, 6, PLAIN_FRAME_TABLE);
+    decodes("a bundle and a frame", TCP_VEC2, BUNDLE_FRAME PLAIN_FRAME, 8, 64, 0, 0,
+            BUNDLE_FRAME_TABLE "2F000000 00000002 00000018 00000002 00000018");
+    stops("2 of the first frame", "00000000", OSC_EMPTY, 0, "");
+    stops_beside("9 of the first frame", BUNDLE_FRAME, 8, 0, OSC_TOO_DEEP, 0, 0, "");
+    stops("1 of a frame", PLAIN_FRAME "0000FFFC", OSC_TOO_LONG, 12, PLAIN_FRAME_TABLE);
+    stops("16 of a frame", PLAIN_FRAME "00000002 2F61", OSC_ODD_LENGTH, 12, PLAIN_FRAME_TABLE);
+    stops("15 of a frame", PLAIN_FRAME "00000014" ENDED_BUNDLE, OSC_BYTES_LEFT, 12, PLAIN_FRAME_TABLE);
+    stops("7 of a frame before a good one", "00000008 2F610000 2C780000" PLAIN_FRAME, OSC_UNKNOWN_TAG, 0, "");
+    stops_beside("17 at 20 of a frame", "0000000C" FIVE "00000004 2F616263", 8, 64, OSC_SHORT_ADDRESS, 16, (uint64_t)20 << 32,
+                 FRAMED_TABLE);
+    stops_beside("dirt before a refused frame", "00000008 2F610001 2C000000 00000000", 8, 64, OSC_EMPTY, 12, 1, PLAIN_FRAME_TABLE);
+    stops_beside("dirt of a refused frame", PLAIN_FRAME "00000008 2F610001 2C780001", 8, 64, OSC_UNKNOWN_TAG, 12, 0, PLAIN_FRAME_TABLE);
+    stops_beside("all numbers at once", "00000008 2F610001 2C000001 00000004 2F616263", 8, 64, OSC_SHORT_ADDRESS, 12,
+                 (uint64_t)16 << 32 | 2, PLAIN_FRAME_TABLE);
+    stops_beside("9 of the second frame", PLAIN_FRAME BUNDLE_FRAME, 1, 0, OSC_TOO_DEEP, 12, 0, PLAIN_FRAME_TABLE);
+    decodes("10 of the second frame", TCP_VEC2, PLAIN_FRAME BUNDLE_FRAME, 1, 1, OSC_TABLE_FULL, 0, "");
+    decodes("10 before a refused frame", TCP_VEC2, TRUE_FRAME "0000000C 2F610000 2C5B545D 00000000", 1, 0, OSC_TABLE_FULL, 0, "");
+    decodes("the same in edition 1", TCP_VEC, TRUE_FRAME "0000000C 2F610000 2C5B545D 00000000", 1, 0, OSC_TOO_DEEP, 0, "");
+    decodes("a list and 65 levels", TCP_VEC2, "0000FFFC", 8, 65, OSC_DEPTH_LIMIT, 0, "");
+    same("a list of 65,536 bytes", decode(TCP_VEC2, msg, 65536, NULL, 0, 64, &more), (uint64_t)OSC_TOO_LONG << 56);
+    same("a list of 65,536 bytes", more, 0);
+    memset(msg, 0, 65536);
+    memcpy(msg, "\0\0\xFF\xF4/a\0\0,b\0\0\0\0\xFF\xE8", 16);
+    same("a frame at 65,528", decode(TCP_VEC2, msg, 65535, table, 2 * OSC_RECORD, 64, &more),
+         (uint64_t)OSC_EMPTY << 56 | (uint64_t)2 << 32 | 7);
+    same("a frame at 65,528", more, (uint64_t)65528 << 48);
+    same("a frame at 65,528", osc_frame(more), 65528);
+    free(msg);
+    free(table);
+}
+
 static void encoders(void) {
     encodes("five", 0, FIVE_TABLE, 2, "/a", 12, 0, FIVE);
     encodes("five, with room", 0, FIVE_TABLE, 2, "/a", 15, 0, FIVE);
     encodes("five in a stream", 1, FIVE_TABLE, 2, "/a", 16, 0, "0000000C" FIVE);
     encodes("a bundle", 0, BUNDLE_TABLE, 1, "", 16, 0, EMPTY_BUNDLE);
     encodes("a bundle in a stream", 1, BUNDLE_TABLE, 1, "", 16, 0, EMPTY_BUNDLE);
+    encodes("five in a stream of edition 2", 2, FIVE_TABLE, 2, "/a", 16, 0, "0000000C" FIVE);
+    encodes("a bundle in a stream of edition 2", 2, BUNDLE_TABLE, 1, "", 20, 0, BUNDLE_FRAME);
+    encodes("the same, with room", 2, BUNDLE_TABLE, 1, "", 23, 0, BUNDLE_FRAME);
+    encodes("a bundle without room for its length", 2, BUNDLE_TABLE, 1, "", 19, OSC_OUTPUT_SHORT, "");
+    encodes("a bundle and its message", 2, ARRAY_IN_BUNDLE_TABLE, 3, "                    /a", 32, 0, "0000001C" ARRAY_IN_BUNDLE);
+    encodes("no record of edition 2", 2, BUNDLE_TABLE, 0, "", 20, OSC_BAD_TABLE, "");
     encodes("five, with other starts", 0, OTHER_STARTS, 2, "/a", 12, 0, FIVE);
     encodes("no room", 0, FIVE_TABLE, 2, "/a", 11, OSC_OUTPUT_SHORT, "");
     encodes("no room for the length", 1, FIVE_TABLE, 2, "/a", 15, OSC_OUTPUT_SHORT, "");
@@ -429,6 +537,8 @@ int main(void) {
     dirt_before_refusals();
     most_dirt();
     streams();
+    frames2();
+    lists2();
     encoders();
     leaves();
     printf("%d passed, %d failed\n", passed, failed);

@@ -19,9 +19,10 @@ static const uint8_t source[] = "/\303\251";
 
 /* ---- a call, on a stack of its own */
 
-enum call { UDP, TCP, TCP_VEC, ENCODE, ENCODE_TCP, STRING, LOOK, START, PAD };
+enum call { UDP, TCP, TCP_VEC, TCP2, TCP_VEC2, ENCODE, ENCODE_TCP, ENCODE_TCP2, STRING, LOOK, START, PAD };
 
-static const char *const names[] = {"udp", "tcp", "tcp_vec", "encode", "encode_tcp", "string", "look", "start", "pad"};
+static const char *const names[] = {"udp",        "tcp",         "tcp_vec", "tcp2", "tcp_vec2", "encode",
+                                    "encode_tcp", "encode_tcp2", "string",  "look", "start",    "pad"};
 
 /* The call that the thread makes: n is the length of its input, or its number. */
 static struct {
@@ -41,8 +42,11 @@ static uint64_t once(enum call call, uint64_t n) {
     case UDP: return osc_decode_udp(msg, n, table, sizeof table, 64, &more);
     case TCP: return osc_decode_tcp(msg, n, table, sizeof table, 64, &more);
     case TCP_VEC: return osc_decode_tcp_vec(msg, n, table, sizeof table, 64, &more);
+    case TCP2: return osc_decode_tcp2(msg, n, table, sizeof table, 64, &more);
+    case TCP_VEC2: return osc_decode_tcp_vec2(msg, n, table, sizeof table, 64, &more);
     case ENCODE: return osc_encode(table, sizeof table, n, source, 3, out, sizeof out);
     case ENCODE_TCP: return osc_encode_tcp(table, sizeof table, n, source, 3, out, sizeof out);
+    case ENCODE_TCP2: return osc_encode_tcp2(table, sizeof table, n, source, 3, out, sizeof out);
     case STRING: return osc_encode_string(msg, n, out, sizeof out);
     case LOOK: return osc_look(table, sizeof table, n);
     case START: return osc_start(table, sizeof table, n);
@@ -57,11 +61,10 @@ static void *work(void *unused) {
     return unused;
 }
 
-/* Makes a call on the stack; its refusal is to be `due`. The length before a frame cuts nothing, so it is 0. */
+/* Makes a call on the stack; its refusal is to be `due`. */
 static void run(const char *name, enum call call, uint64_t n, unsigned due) {
     pthread_attr_t attributes;
     pthread_t thread;
-    if (call == TCP || call == TCP_VEC) memset(msg, 0, 4);
     memset(stack, UNTOUCHED, size);
     asked.call = call;
     asked.n = n;
@@ -74,7 +77,7 @@ static void run(const char *name, enum call call, uint64_t n, unsigned due) {
         most_name = name;
     }
     unsigned refusal = call == PAD ? 0 : osc_refusal(asked.answer);
-    printf("%-34s %-10s %5llu: refusal %2u, count %5u, left or written %5u, stack %6zu, %8.0f us%s\n", name, names[call],
+    printf("%-34s %-11s %5llu: refusal %2u, count %5u, left or written %5u, stack %6zu, %8.0f us%s\n", name, names[call],
            (unsigned long long)n, refusal, osc_count(asked.answer), osc_left(asked.answer), size - left, asked.us,
            refusal == due ? "" : ": NOT WHAT IS DUE");
     wrong += refusal != due;
@@ -134,30 +137,56 @@ static size_t behaved(size_t at) {
     return at;
 }
 
+/* Frames of 12 bytes end to end, each with its length but the last, which has this one. */
+static size_t frames(uint32_t last) {
+    size_t at = 0, before = 0;
+    while (at + 12 < sizeof msg) {
+        before = at;
+        at = put(put_u32(at, 8), "/a\0\0,\0\0\0", 8);
+    }
+    put_u32(before, last);
+    return at;
+}
+
+/* A call on one packet, which has its length before it where it is of edition 2; in edition 1 that cuts nothing, so it is 0. */
+static void packet(const char *name, enum call call, size_t n, unsigned due) {
+    if (call != UDP) put_u32(0, call == TCP2 || call == TCP_VEC2 ? (uint32_t)n - 4 : 0);
+    run(name, call, n, due);
+}
+
 static void decode(enum call call) {
     size_t from = call == UDP ? 0 : 4, n;
-    run("a bundle of messages", call, behaved(from), 0);
-    run("64 nested bundles", call, bundles(from, 64, 0), 0);
-    run("3,276 nested bundles", call, bundles(from, 3276, 0), OSC_TOO_DEEP);
+    packet("a bundle of messages", call, behaved(from), 0);
+    packet("64 nested bundles", call, bundles(from, 64, 0), 0);
+    packet("3,276 nested bundles", call, bundles(from, 3276, 0), OSC_TOO_DEEP);
     n = bundles(from, 3276, 0);
     msg[n - 9] = 0xFF;
-    run("the same, damaged inside", call, n, OSC_TOO_DEEP);
+    packet("the same, damaged inside", call, n, OSC_TOO_DEEP);
     n = bundles(from, 64, 0);
     msg[n - 20] = 0xFF;
-    run("64 nested bundles, damaged", call, n, 0);
-    run("64 nested arrays", call, arrays(from, 64, 64), 0);
-    run("63 nested arrays in a bundle", call, both(from, 1, 63), 0);
-    run("32 nested arrays in 32 bundles", call, both(from, 32, 32), 0);
-    run("an array in 63 nested bundles", call, both(from, 63, 1), 0);
-    run("a message in 64 nested bundles", call, both(from, 64, 0), 0);
-    run("an array in 64 nested bundles", call, both(from, 64, 1), OSC_TOO_DEEP);
-    run("900 nested arrays", call, arrays(from, 900, 900), OSC_TOO_DEEP);
-    run("32,000 nested arrays", call, arrays(from, 32000, 32000), OSC_TOO_DEEP);
-    run("32,000 arrays, none closed", call, arrays(from, 32000, 0), 0);
-    run("32,000 arrays, 64 of them closed", call, arrays(from, 32000, 64), 0);
+    packet("64 nested bundles, damaged", call, n, 0);
+    packet("64 nested arrays", call, arrays(from, 64, 64), 0);
+    packet("63 nested arrays in a bundle", call, both(from, 1, 63), 0);
+    packet("32 nested arrays in 32 bundles", call, both(from, 32, 32), 0);
+    packet("an array in 63 nested bundles", call, both(from, 63, 1), 0);
+    packet("a message in 64 nested bundles", call, both(from, 64, 0), 0);
+    packet("an array in 64 nested bundles", call, both(from, 64, 1), OSC_TOO_DEEP);
+    packet("900 nested arrays", call, arrays(from, 900, 900), OSC_TOO_DEEP);
+    packet("32,000 nested arrays", call, arrays(from, 32000, 32000), OSC_TOO_DEEP);
+    packet("32,000 arrays, none closed", call, arrays(from, 32000, 0), 0);
+    packet("32,000 arrays, 64 of them closed", call, arrays(from, 32000, 64), 0);
     n = arrays(from, 32000, 32000);
     msg[n - 25] = 'x';
-    run("32,000 arrays, damaged", call, n, OSC_UNKNOWN_TAG);
+    packet("32,000 arrays, damaged", call, n, OSC_UNKNOWN_TAG);
+}
+
+/* Lists of many frames: in edition 1 no length is looked at but for Waiting. */
+static void lists(void) {
+    run("frames end to end", TCP_VEC, frames(8), 0);
+    run("frames end to end", TCP_VEC2, frames(8), 0);
+    run("the last of them of an odd length", TCP_VEC, frames(6), 0);
+    run("the last of them of an odd length", TCP_VEC2, frames(6), OSC_ODD_LENGTH);
+    run("the last of them too long", TCP_VEC2, frames(0xFFFFFFFC), OSC_TOO_LONG);
 }
 
 /* ---- tables of encoders, in `table` */
@@ -227,8 +256,9 @@ int main(int argc, char **argv) {
     uint8_t *room = (uint8_t *)mmap(NULL, GUARD + size, PROT_READ | PROT_WRITE, MAP_PRIVATE | MAP_ANONYMOUS, -1, 0);
     if (room == MAP_FAILED || mprotect(room, GUARD, PROT_NONE)) return 2;
     stack = room + GUARD;
-    for (int call = UDP; call <= TCP_VEC; call++) decode((enum call)call);
-    for (int call = ENCODE; call <= ENCODE_TCP; call++) encode((enum call)call);
+    for (int call = UDP; call <= TCP_VEC2; call++) decode((enum call)call);
+    lists();
+    for (int call = ENCODE; call <= ENCODE_TCP2; call++) encode((enum call)call);
     others();
     printf("at most %zu of %zu bytes of the stack were used (%s), %u answers wrong\n", most, size, most_name, wrong);
     return wrong != 0;

@@ -1,8 +1,8 @@
 /* Sennorbai: Open Sound Control packets and node tables. C99 and C++17. Link with libosc.a (rt staticlib osc).
  *
  * No function allocates, keeps a pointer or has a state. Every pointer may be to any bytes, and a length may be 0;
- * slices that a call may write must not overlap the others. A refusal changes no byte of a slice. Each call ends within 35,568 bytes
- * of stack, whatever it is given (measured by c/stack.c on x86-64).
+ * slices that a call may write must not overlap the others. A call that is refused changes no byte of a slice. Each call ends within
+ * 35,776 bytes of stack, whatever it is given (measured by c/stack.c on x86-64).
  *
  * A node table has records of OSC_RECORD bytes, big-endian: kind (1), three zero bytes, end (4), a (4), b (4), start (4).
  * The start is the offset, from the decoder's first input byte, where the item's data begins: a message's address, a bundle's
@@ -12,7 +12,7 @@
 #define SENNORBAI_OSC_H
 
 /* The version of the library and of this header. */
-#define SENNORBAI_VERSION "0.9.0"
+#define SENNORBAI_VERSION "0.10.0"
 
 #include <stddef.h>
 #include <stdint.h>
@@ -26,7 +26,7 @@ enum { OSC_RECORD = 20, OSC_LONGEST = 65535, OSC_DEEPEST = 64 };
 
 /* The refusals, by their numbers. */
 enum {
-    OSC_TOO_LONG = 1,      /* decode input or encoded result over 65,535 bytes */
+    OSC_TOO_LONG = 1,      /* decode input or encoded result over 65,535 bytes; of a frame of edition 2, a length over 65,531 */
     OSC_EMPTY = 2,         /* a packet of no bytes */
     OSC_NOT_UTF8 = 4,      /* text is not UTF-8 */
     OSC_BAD_START = 5,     /* first string is neither '/'-led nor exactly "#bundle" */
@@ -39,6 +39,8 @@ enum {
     OSC_OUTPUT_SHORT = 12, /* output slice shorter than the result */
     OSC_DEPTH_LIMIT = 13,  /* depth limit over 64 */
     OSC_PAD_OVERFLOW = 14, /* osc_pad of a position over 2^64 - 4 */
+    OSC_BYTES_LEFT = 15,   /* a frame of edition 2 has bytes left after its packet */
+    OSC_ODD_LENGTH = 16,   /* the length of a frame of edition 2 is no multiple of 4 */
     /* What was not all there; osc_field says where it began. There is no 3: these five stand in its place. */
     OSC_SHORT_ADDRESS = 17, /* the address, its NUL included; also a first text that is not known yet to be "#bundle" */
     OSC_SHORT_TYPES = 18,   /* the type text, its NUL included */
@@ -50,13 +52,18 @@ enum {
 /* Decoders. They read `len` bytes at `msg` and write records to the `table_len` bytes at `table`.
  * `depth` is how deep a tree may be, at most OSC_DEEPEST: each bundle and each array is a level, a message is none, and the
  * deepest path counts. What an unclosed '[' loses is not in the tree and does not count.
+ * In a TCP stream each packet stands in a frame, after a prefix of 4 bytes, its length. In edition 1, which is rosc's, the length cuts
+ * nothing; in edition 2, which is OSC 1.0's, it cuts the packet, which must fill its frame. The functions of edition 2 end in 2.
  * Bits 56 to 63 of the answer are the refusal's number, 0 where there is an answer; bits 32 to 55 the count of records;
- * bits 0 to 31 the input bytes left over, which are the last ones. Waiting, which osc_decode_tcp alone answers, is count 0
- * with the whole input left; of osc_decode_tcp_vec that is a list of no packets.
+ * bits 0 to 31 the input bytes left over, which are the last ones. Waiting, which osc_decode_tcp and osc_decode_tcp2 alone answer, is
+ * count 0 with the whole input left; of a list that is no packets.
+ * A list of edition 2 stops at a frame that is refused: the number is the frame's then, the records of the packets before it are in the
+ * table and counted, and the bytes left are those from its prefix on, 4 at least. Where the call is refused, both are 0: osc_stopped
+ * tells the two apart.
  * `*more` is written by every call. Its bits 32 to 47 are, for the refusals 17 to 21, where the field began that was short,
- * counted from the first byte at `msg`; they are 0 for every other answer. Its bits 0 to 31 are, where there is an answer, how many
- * padding bytes were not zero, of all packets of a list together; they are 0 for every refusal and for Waiting. Its bits 48 to 63
- * are 0. `more` must not be NULL and must not overlap the slices.
+ * counted from the first byte at `msg`; they are 0 for every other answer. Its bits 0 to 31 are how many padding bytes were not zero, of
+ * all packets in the table together; they are 0 where the call is refused and for Waiting. Its bits 48 to 63 are, where a list stops,
+ * where the refused frame's prefix began, counted so; they are 0 otherwise. `more` must not be NULL and must not overlap the slices.
  * Padding is what follows the NUL of a text, or the bytes of a blob, up to a multiple of 4, counted from the first byte at `msg` or,
  * in a stream, from the frame's length. That of what is in the table counts: of each message's address and type text, each text and
  * each blob, and of a bundle's "#bundle", which has some only where the bundle is an element at no multiple of 4. That of arguments
@@ -65,11 +72,18 @@ enum {
 /* One packet from all of a UDP packet. */
 uint64_t osc_decode_udp(const uint8_t *msg, size_t len, uint8_t *table, size_t table_len, uint64_t depth, uint64_t *more);
 
-/* The first packet of a TCP stream: a 4-byte length and a packet. It may answer Waiting. */
+/* The first packet of a TCP stream in edition 1. It may answer Waiting. */
 uint64_t osc_decode_tcp(const uint8_t *msg, size_t len, uint8_t *table, size_t table_len, uint64_t depth, uint64_t *more);
 
-/* The packets of a TCP stream, one after another in the table. */
+/* The packets of a TCP stream in edition 1, one after another in the table. A frame that is refused refuses the call. */
 uint64_t osc_decode_tcp_vec(const uint8_t *msg, size_t len, uint8_t *table, size_t table_len, uint64_t depth, uint64_t *more);
+
+/* The first packet of a TCP stream in edition 2. It may answer Waiting, also to fewer than 4 bytes. */
+uint64_t osc_decode_tcp2(const uint8_t *msg, size_t len, uint8_t *table, size_t table_len, uint64_t depth, uint64_t *more);
+
+/* The packets of a TCP stream in edition 2, one after another in the table, up to a frame that is refused. Only OSC_DEPTH_LIMIT,
+ * OSC_TOO_LONG of an input and OSC_TABLE_FULL refuse the call. No bytes are no packets and nothing left. */
+uint64_t osc_decode_tcp_vec2(const uint8_t *msg, size_t len, uint8_t *table, size_t table_len, uint64_t depth, uint64_t *more);
 
 /* Encoders. They write the packet of `count` records over the first bytes of `out`; ranges lie in `source`.
  * A tree is at most OSC_DEEPEST deep, as for a decoder.
@@ -79,9 +93,13 @@ uint64_t osc_decode_tcp_vec(const uint8_t *msg, size_t len, uint8_t *table, size
 uint64_t osc_encode(const uint8_t *table, size_t table_len, uint64_t count, const uint8_t *source, size_t source_len,
                     uint8_t *out, size_t out_len);
 
-/* One packet, with a length before a message and none before a bundle. */
+/* One packet for a stream of edition 1, with a length before a message and none before a bundle. */
 uint64_t osc_encode_tcp(const uint8_t *table, size_t table_len, uint64_t count, const uint8_t *source,
                         size_t source_len, uint8_t *out, size_t out_len);
+
+/* One packet for a stream of edition 2, with a length before a message and before a bundle. */
+uint64_t osc_encode_tcp2(const uint8_t *table, size_t table_len, uint64_t count, const uint8_t *source,
+                         size_t source_len, uint8_t *out, size_t out_len);
 
 /* A text with its 1 to 4 NULs. */
 uint64_t osc_encode_string(const uint8_t *text, size_t len, uint8_t *out, size_t out_len);
@@ -98,7 +116,7 @@ uint64_t osc_start(const uint8_t *table, size_t table_len, uint64_t index);
 
 /* ---- an answer, taken apart */
 
-/* The refusal's number, 0 where there is an answer. */
+/* The refusal's number, of the call or of a frame (osc_stopped); 0 where there is an answer. */
 static inline unsigned osc_refusal(uint64_t answer) { return (unsigned)(answer >> 56); }
 
 /* The count of records that a decoder wrote. */
@@ -107,11 +125,18 @@ static inline uint32_t osc_count(uint64_t answer) { return (uint32_t)(answer >> 
 /* The input bytes that a decoder left over. */
 static inline uint32_t osc_left(uint64_t answer) { return (uint32_t)answer; }
 
+/* Whether a list of edition 2 stopped at a frame that is refused: 1, with the packets before it in the table. 0 for every other answer,
+ * and where the call is refused. */
+static inline int osc_stopped(uint64_t answer) { return osc_refusal(answer) != 0 && osc_left(answer) != 0; }
+
 /* Where the field began that was short, of what a decoder wrote to `*more`; 0 where the refusal is not one of 17 to 21. */
 static inline uint32_t osc_field(uint64_t more) { return (uint32_t)(more >> 32) & 0xFFFFu; }
 
-/* The padding bytes that were not zero, of what a decoder wrote to `*more`; 0 for every refusal and for Waiting. */
+/* The padding bytes that were not zero, of what a decoder wrote to `*more`; 0 where the call is refused and for Waiting. */
 static inline uint32_t osc_dirty(uint64_t more) { return (uint32_t)more; }
+
+/* Where the prefix began of the frame at which a list stopped, of what a decoder wrote to `*more`; 0 where none did. */
+static inline uint32_t osc_frame(uint64_t more) { return (uint32_t)(more >> 48); }
 
 /* The bytes that an encoder wrote. */
 static inline uint32_t osc_written(uint64_t answer) { return (uint32_t)answer; }

@@ -52,10 +52,10 @@ gone() {
     count $? "left behind: $(find . -path "./$1*")"
 }
 
-# refuses NUMBER WORDS BYTES: what decoding the bytes, as printf writes them, should say; and no table is left.
+# refuses NUMBER WORDS BYTES [FRAMING]: what decoding the bytes, as printf writes them, should say; and no table is left.
 refuses() {
     printf "$3" >input
-    expect 1 "refused $1: $2" '' decode udp input refused.bin
+    expect 1 "refused $1: $2" '' decode "${4-udp}" input refused.bin
     gone refused.bin
 }
 
@@ -63,6 +63,25 @@ refuses() {
 reads() {
     printf "$3" >input
     expect 0 "$1" '' decode "$2" input read.bin
+}
+
+# waits COUNT BYTES: what decoding the bytes by tcp2 should say, of which there are COUNT; and no table is left.
+waits() {
+    printf 'old' >waiting.bin
+    printf "$2" >input
+    expect 3 "waiting: $1 bytes, nothing read" '' decode tcp2 input waiting.bin
+    gone waiting.bin
+}
+
+# stops LEFT REFUSAL BYTES [OPTION..]: what decoding the bytes by tcp2-vec, after a frame of 12 bytes, should say; and the record of that
+# frame's message is left.
+slash_a='\0\0\0\010/a\0\0,\0\0\0'
+stops() {
+    printf "$slash_a$3" >input
+    line="stopped: packets: 1, records: 1, bytes left: $1, refused $2, frame at offset 12"
+    shift 3
+    expect 4 "$line" '' decode tcp2-vec input stopped.bin "$@"
+    same stopped.bin slash_a.bin
 }
 
 # The examples, there and back.
@@ -87,6 +106,68 @@ printf 'old' >waiting.bin
 expect 3 'waiting: 20 bytes, nothing read' '' decode tcp part waiting.bin
 gone waiting.bin
 expect 0 'packets: 0, records: 0, bytes left: 20' '' decode tcp-vec part none.bin
+
+# Edition 2: the length cuts the packet, so that a bundle takes no frame after it; in edition 1 it does. A bundle is written behind its
+# length too, and read back.
+expect 0 'packets: 2, records: 9, bytes left: 0' '' decode tcp2-vec "$examples/frames.osc" frames.bin
+shows 4 'record 0: # seconds 3932381312 fraction 2147483648, end 7' frames.bin 0
+shows 116 'record 7: / offset 116 length 7, end 9' frames.bin 7
+expect 0 'packets: 1, records: 9, bytes left: 0' '' decode tcp-vec "$examples/frames.osc" taken.bin
+expect 0 'packets: 1, records: 7, bytes left: 20' '' decode tcp2 "$examples/frames.osc" first.bin
+expect 0 'packets: 3, records: 6, bytes left: 0' '' decode tcp2-vec "$examples/stream.osc" stream2.bin
+same stream2.bin stream.bin
+expect 0 'written: 112 bytes' '' encode tcp2 bundle.bin "$examples/bundle.osc" bundle2.out
+head -c 112 "$examples/frames.osc" >bundle2.osc
+same bundle2.out bundle2.osc
+expect 0 'packets: 1, records: 7, bytes left: 0' '' decode tcp2 bundle2.out bundle2.bin
+expect 0 'written: 112 bytes' '' encode tcp2 bundle2.bin bundle2.out again.out
+same again.out bundle2.out
+expect 0 'written: 48 bytes' '' encode tcp2 message.bin "$examples/message.osc" framed2.out
+same framed2.out framed.out
+
+# Fewer than 4 bytes and a frame that is not all there wait. An empty list has no packets and nothing left; what waits is left of a list.
+waits 0 ''
+waits 3 '\0\0\0'
+waits 8 '\0\0\0\010/a\0\0'
+reads 'packets: 0, records: 0, bytes left: 0' tcp2-vec ''
+reads 'packets: 0, records: 0, bytes left: 3' tcp2-vec '\0\0\0'
+reads 'packets: 1, records: 1, bytes left: 8' tcp2-vec "$slash_a"'\0\0\0\010/a\0\0'
+
+# A list of edition 2 stops at a frame that is refused, also at its first, and what stands before it is kept. 20 cannot be met: a frame has
+# a multiple of 4 bytes, and so padding is never short there. A refused frame adds no dirty padding.
+too_long='1: decode input over 65,535 bytes, or encoded result (prefix included) over it, or frame length over 65,531'
+printf '/\0\0\0\0\0\0\001\0\0\0\004\0\0\0\002\0\0\0\004' >slash_a.bin
+stops 4 "$too_long" '\0\0\377\374'
+stops 4 '16: frame length not a multiple of 4' '\0\0\0\006'
+stops 4 '2: a packet of no bytes' '\0\0\0\0'
+stops 8 '4: text is not UTF-8' '\0\0\0\004/\377\0\0'
+stops 8 '5: first string is neither /-led nor exactly #bundle' '\0\0\0\004a\0\0\0'
+stops 12 '6: ] with no array open' '\0\0\0\010/a\0\0,]\0\0'
+stops 12 '7: unknown type tag' '\0\0\0\010/a\0\0,x\0\0'
+stops 16 '8: c is not a scalar number' '\0\0\0\014/a\0\0,c\0\0\0\0\330\0'
+stops 8 '17: the address at offset 16 is not all there' '\0\0\0\004/abc'
+stops 8 '18: the type text at offset 20 is not all there' '\0\0\0\004/a\0\0'
+stops 12 '19: the argument data at offset 24 is not all there' '\0\0\0\010/a\0\0,i\0\0'
+stops 12 '21: the prefix or time tag at offset 24 is not all there' '\0\0\0\010#bundle\0'
+stops 16 '15: bytes left in the frame' '\0\0\0\014/a\0\0,\0\0\0\0\0\0\0'
+stops 20 '9: bundles and arrays nested deeper than the limit' '\0\0\0\020#bundle\0\0\0\0\0\0\0\0\001' --depth 0
+printf '\0\0\0\0' >input
+expect 4 'stopped: packets: 0, records: 0, bytes left: 4, refused 2: a packet of no bytes, frame at offset 0' '' \
+    decode tcp2-vec input stopped.bin
+same stopped.bin /dev/null
+printf '\0\0\0\010/a\0\001,\0\0\0\0\0\0\010/\0\001\001,x\0\0' >input
+expect 4 'stopped: packets: 1, records: 1, bytes left: 12, dirty padding bytes: 1, refused 7: unknown type tag, frame at offset 12' '' \
+    decode tcp2-vec input stopped.bin
+same stopped.bin slash_a.bin
+# What is refused as a whole, and leaves no table: a list with too many records, whatever comes after, and the first frame alone.
+printf "$slash_a$slash_a"'\0\0\0\0' >input
+expect 1 'refused 10: the result has more records than the capacity' '' decode tcp2-vec input stopped.bin --records 1
+gone stopped.bin
+refuses 16 'frame length not a multiple of 4' '\0\0\0\006' tcp2
+refuses 15 'bytes left in the frame' '\0\0\0\014/a\0\0,\0\0\0\0\0\0\0' tcp2
+refuses 18 'the type text at offset 8 is not all there' '\0\0\0\004/a\0\0,\0\0\0' tcp2
+printf '\0\0\377\374' >input
+expect 1 "refused $too_long" '' decode tcp2 input refused.bin
 
 # Dirty padding is told where there is any: of an address and a type text, of a text and a blob, and of a list the sum. The data of a blob,
 # the bytes that are left over and an argument that is lost have none. A clean packet is told as the examples above are.
@@ -137,11 +218,11 @@ expect 1 "$bad_table" '' look kinds.bin 14
 expect 1 "$bad_table" '' look kinds.bin 15
 
 # The refusals. 12 and 14 cannot be met: the output has room for every result, and no command calls `pad`.
-too_long='refused 1: decode input over 65,535 bytes, or encoded result (prefix included) over it'
 head -c 65535 /dev/zero | tr '\0' a >at_most
 head -c 65536 /dev/zero | tr '\0' a >one_more
 expect 1 'refused 17: the address at offset 0 is not all there' '' decode udp at_most refused.bin
-expect 1 "$too_long" '' decode udp one_more refused.bin
+expect 1 "refused $too_long" '' decode udp one_more refused.bin
+expect 1 "refused $too_long" '' decode tcp2-vec one_more refused.bin
 refuses 2 'a packet of no bytes' ''
 refuses 4 'text is not UTF-8' '/\377\0\0'
 refuses 5 'first string is neither /-led nor exactly #bundle' 'a\0\0\0'
@@ -175,12 +256,12 @@ expect 1 "$bad_table" '' encode udp stream.bin "$examples/stream.osc" refused.bi
 expect 1 'refused 13: depth limit over 64' '' decode udp "$examples/message.osc" refused.bin --depth 65
 printf '/\0\0\0\0\0\0\003\0\0\0\0\0\0\0\001\0\0\0\0s\0\0\0\0\0\0\002\0\0\0\0\0\0\234\100\0\0\0\0' >long.bin
 printf 's\0\0\0\0\0\0\003\0\0\0\0\0\0\234\100\0\0\0\0' >>long.bin
-expect 1 "$too_long" '' encode udp long.bin at_most refused.bin
+expect 1 "refused $too_long" '' encode udp long.bin at_most refused.bin
 gone refused.bin
 
 # Help, by a link in another folder.
 ln -s "$root/osc" link
-[ "$(./link help | head -n 1)" = 'osc decode udp|tcp|tcp-vec INPUT TABLE [--depth N] [--records N]' ]
+[ "$(./link help | head -n 1)" = 'osc decode udp|tcp|tcp-vec|tcp2|tcp2-vec INPUT TABLE [--depth N] [--records N]' ]
 count $? 'help by a link'
 
 expect 0 "$(./link help)" '' --help
@@ -188,13 +269,14 @@ expect 0 "$(./link help)" '' -h
 expect 0 "osc $(sed -n 's/^#define SENNORBAI_VERSION "\(.*\)"$/\1/p' "$root/include/osc.h")" '' --version
 
 # Wrong words.
-decode_takes='osc: decode takes udp|tcp|tcp-vec INPUT TABLE [--depth N] [--records N]'
+decode_takes='osc: decode takes udp|tcp|tcp-vec|tcp2|tcp2-vec INPUT TABLE [--depth N] [--records N]'
 not_number='osc: not a number of at most nine digits: '
 expect 2 '' 'osc: the first word is not decode, encode, look, help or --version: '
 expect 2 '' 'osc: the first word is not decode, encode, look, help or --version: decoded' decoded
 expect 2 '' "$decode_takes" decode udp input
 expect 2 '' "$decode_takes" decode udp input table.bin --depth
-expect 2 '' 'osc: not udp, tcp or tcp-vec: tc' decode tc input table.bin
+expect 2 '' 'osc: not udp, tcp, tcp-vec, tcp2 or tcp2-vec: tc' decode tc input table.bin
+expect 2 '' 'osc: not udp, tcp, tcp-vec, tcp2 or tcp2-vec: tcp2-' decode tcp2- input table.bin
 expect 2 '' 'osc: not --depth or --records: --deep' decode udp input table.bin --deep 1
 expect 2 '' 'osc: given twice: --depth' decode udp input table.bin --depth 1 --depth 2
 expect 2 '' 'osc: given twice: --records' decode udp input table.bin --records 1 --records 2
@@ -202,8 +284,10 @@ expect 2 '' "${not_number}1x" decode udp input table.bin --depth 1x
 expect 2 '' "$not_number" decode udp input table.bin --depth ''
 expect 2 '' "${not_number}1000000000" decode udp input table.bin --depth 1000000000
 expect 2 '' 'osc: more than 65535 for --records: 65536' decode udp input table.bin --records 65536
-expect 2 '' 'osc: encode takes udp|tcp TABLE SOURCE OUTPUT' encode udp message.bin
-expect 2 '' 'osc: encode writes one packet: udp or tcp, not tcp-vec' encode tcp-vec message.bin input table.bin
+expect 2 '' 'osc: encode takes udp|tcp|tcp2 TABLE SOURCE OUTPUT' encode udp message.bin
+one_packet='osc: encode writes one packet: udp, tcp or tcp2, not '
+expect 2 '' "${one_packet}tcp-vec" encode tcp-vec message.bin input table.bin
+expect 2 '' "${one_packet}tcp2-vec" encode tcp2-vec message.bin input table.bin
 expect 2 '' 'osc: look takes TABLE INDEX' look message.bin
 expect 2 '' "$not_number-1" look message.bin -1
 gone table.bin

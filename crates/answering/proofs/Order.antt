@@ -1,5 +1,5 @@
 -- What a decoder answers, from what the first reading gave: 13, then 1, then the first reading within the limits.
-use mathlib.Core.Path.{_≡_, refl, ap, sym, _∙_}
+use mathlib.Core.Path.{_≡_, refl, ap, sym, _∙_, subst}
 use mathlib.Core.List.{List}
 use Prim.Native.Nat.{ℕ, _<_, _≤_}
 use borrow.Author.Tests.{le-leb, lt-leb}
@@ -10,7 +10,8 @@ use Rattle.wire.specs.Limits.{longest, deepest}
 use Rattle.wire.proofs.Choices.{by-both}
 use Rattle.node.specs.Forest.{depth}
 use Rattle.argument.specs.Dirt.{dirtyIn}
-use Rattle.totals.specs.Framing.{Whole, trees, waiting, refusal}
+use Rattle.framing.specs.Framing.{Whole, trees, waiting, refusal, stopped, ruleOf}
+use Rattle.framing.specs.declared.Framing.{Framing}
 use Rattle.totals.specs.CodeTotals.{totalOf}
 use Rattle.totals.specs.declared.Total.{Total}
 use Rattle.answering.specs.Limits.{limited, decoded}
@@ -24,6 +25,13 @@ limited-is capacity limit msg waiting = refl
 limited-is capacity limit msg (refusal k) = refl
 limited-is capacity limit msg (trees f left) =
     by-both (λ (x : Decoded) (y : Total). x ≡ answered capacity y) (leb (depth f) limit) refl refl
+limited-is capacity limit msg (stopped f left k at) =
+    by-both (λ (x : Decoded) (y : Total). x ≡ answered capacity y) (leb (depth f) limit) refl refl
+
+-- the first reading by a framing that is known
+pub total-by : {f g : Framing} → f ≡ g → {r : Total} (limit : ℕ) (msg : List ℕ) → r ≡ totalOf limit (dirtyIn msg) (ruleOf g limit msg)
+    → r ≡ totalOf limit (dirtyIn msg) (ruleOf f limit msg)
+total-by e {r} limit msg w = subst (λ (x : Framing). r ≡ totalOf limit (dirtyIn msg) (ruleOf x limit msg)) (sym e) w
 
 module _ (rule : List ℕ → Whole) (capacity limit : ℕ) (msg : List ℕ) where
   -- 13 comes first

@@ -2,7 +2,7 @@
 use mathlib.Core.Bool.{cond}
 use Prim.Native.Nat.{ℕ}
 use lib.Dec.{leb}
-use Rattle.refusal.specs.declared.Refusal.the-variants.{Unreadable, TooDeep, TableFull}
+use Rattle.refusal.specs.declared.Refusal.the-variants.{TooDeep, TableFull}
 use Rattle.totals.specs.declared.Total.{Total}
 use Rattle.totals.specs.declared.Total.the-variants as total
 use Rattle.answering.specs.declared.Decoded.{Decoded}
@@ -13,4 +13,5 @@ abbrev pub answered : ℕ → Total → Decoded
 answered capacity (total.Trees n left dirty) = cond (leb n capacity) (decoded.Packets n left dirty) (decoded.Refused TableFull)
 answered capacity total.Deep = decoded.Refused TooDeep
 answered capacity total.Waiting = decoded.Waiting
-answered capacity (total.Refused k) = decoded.Refused (Unreadable k)
+answered capacity (total.Refused k) = decoded.Refused k
+answered capacity (total.Stopped n left dirty k at) = cond (leb n capacity) (decoded.Stopped n left dirty k at) (decoded.Refused TableFull)

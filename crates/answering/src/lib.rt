@@ -1,10 +1,15 @@
 // What a decoder answers to the first reading, within the limits.
+use edition::Edition;
+use framing::Framing;
 use refusal::Refusal;
-use totals::Framing;
 use totals::Total;
-use totals::measure_input;
 ghost use mathlib.Core.Path.{_≡_};
-ghost use Rattle.totals.specs.Framing.{ruleOf};
+ghost use Prim.Native.Nat.{_≤_};
+ghost use lib.ListN.{length};
+ghost use Rattle.wire.specs.Limits.{longest};
+ghost use Rattle.argument.specs.Dirt.{dirtyIn};
+ghost use Rattle.framing.specs.Framing.{ruleOf};
+ghost use Rattle.totals.specs.CodeTotals.{totalOf};
 ghost use Rattle.answering.specs.Limits.{decoded};
 ghost use Rattle.answering.specs.CodeAnswered.{answered};
 
@@ -20,13 +25,22 @@ pub enum Decoded {
     // The first frame is not all there: nothing was read.
     Waiting,
     Refused(Refusal),
+    // Of an edition 2 list: the records of the packets before a refused frame, which are written, the bytes from its prefix on, their dirty
+    // padding, why the frame is refused, and the offset of its prefix.
+    Stopped {
+        count: usize,
+        left: usize,
+        dirty: usize,
+        refusal: Refusal,
+        frame: usize,
+    },
 }
 
 // What a decoder answers: 13, then 1, then the first reading, and 10 last.
 //
 // Ruled out: 1 where the depth limit is over 64; 10 where a tree is too deep.
 pub fn answer(framing: Framing, msg: &[u8], capacity: usize, depth: usize) -> Decoded
-    ensures { λ r. ⌜ r ≡ decoded (ruleOf framing) capacity depth (now (msg .entry)) ⌝ }
+    ensures { λ r. ⌜ r ≡ decoded (ruleOf framing depth) capacity depth (now (msg .entry)) ⌝ }
 {
     if wire::DEEPEST < depth {
         return Decoded::Refused(Refusal::DepthLimit);
@@ -50,6 +64,42 @@ fn within(capacity: usize, total: Total) -> Decoded
         }
         Total::Deep => Decoded::Refused(Refusal::TooDeep),
         Total::Waiting => Decoded::Waiting,
-        Total::Refused(fault) => Decoded::Refused(Refusal::Unreadable(fault)),
+        Total::Refused(refusal) => Decoded::Refused(refusal),
+        Total::Stopped {
+            count,
+            left,
+            dirty,
+            refusal,
+            frame,
+        } => {
+            if count > capacity {
+                return Decoded::Refused(Refusal::TableFull);
+            }
+            Decoded::Stopped {
+                count,
+                left,
+                dirty,
+                refusal,
+                frame,
+            }
+        }
+    }
+}
+
+// The first reading of a whole input, by its framing.
+fn measure_input(framing: Framing, msg: &[u8], depth: usize) -> Total
+    requires { ⌜ length (now msg) ≤ longest ⌝ }
+    ensures { λ r. ⌜ r ≡ totalOf depth (dirtyIn (now (msg .entry))) (ruleOf framing depth (now (msg .entry))) ⌝ }
+{
+    match framing {
+        Framing::Udp => totals::measure_one(measure::measure_packet(msg, 0, depth), msg.len()),
+        Framing::Tcp(edition) => match edition {
+            Edition::Rosc => totals::measure_tcp(msg, depth),
+            Edition::Standard => streams::measure_tcp2(msg, depth),
+        },
+        Framing::TcpVec(edition) => match edition {
+            Edition::Rosc => totals::measure_tcp_vec(msg, depth),
+            Edition::Standard => streams::measure_tcp_vec2(msg, depth),
+        },
     }
 }

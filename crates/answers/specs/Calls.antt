@@ -4,6 +4,7 @@ use mathlib.Core.Path.{_≡_}
 use mathlib.Core.Bool.{Bool, true, false}
 use mathlib.Core.List.{List, [], _∷_}
 use Prim.Native.Nat.{ℕ}
+use Rattle.edition.specs.declared.Edition.{Edition}
 use Rattle.refusal.specs.Refusal.{numberOf}
 use Rattle.refusal.specs.declared.Refusal.{Refusal}
 use Rattle.wire.specs.Pad.{padOf}
@@ -16,21 +17,20 @@ use Rattle.values.specs.declared.look.Looked.{Looked}
 use Rattle.values.specs.declared.look.Looked.the-variants as looked
 use Rattle.values.specs.declared.look.Started.{Started}
 use Rattle.values.specs.declared.look.Started.the-variants as started
-use Rattle.totals.specs.Framing.{ruleOf}
-use Rattle.totals.specs.declared.Framing.{Framing}
-use Rattle.totals.specs.declared.Framing.the-variants.{Udp, Tcp, TcpVec}
-use Rattle.answering.specs.Limits.{decodeOrder, Decodes}
+use Rattle.framing.specs.Framing.{ruleOf}
+use Rattle.framing.specs.declared.Framing.{Framing}
+use Rattle.answering.specs.Limits.{orderOf, stopsBy, waitsBy, Decodes}
 use Rattle.answering.specs.declared.Decoded.{Decoded}
 use Rattle.answering.specs.declared.Decoded.the-variants as decodes
-use Rattle.encoder.specs.Outcome.{encodeOrder, stringOrder, Encodes, unframed, prefixed, EncodesString}
+use Rattle.encoder.specs.Outcome.{encodeOrder, stringOrder, Encodes, unframed, framedBy, EncodesString}
 use Rattle.encoder.specs.declared.Encoded.{Encoded}
 use Rattle.encoder.specs.declared.Encoded.the-variants as encodes
 
--- a call of a public entry point and what it is handed: any bytes, any table, any limits; the three decoders by their framing
+-- a call of a public entry point and what it is handed: any bytes, any table, any limits; the decoders by their framing
 pub data Call : Type 0 where
   decode : (framing : Framing) (msg table : List ℕ) (depth : ℕ) → Call
   encode : (table : List ℕ) (count : ℕ) (source out : List ℕ) → Call
-  encode-tcp : (table : List ℕ) (count : ℕ) (source out : List ℕ) → Call
+  encode-tcp : (edition : Edition) (table : List ℕ) (count : ℕ) (source out : List ℕ) → Call
   encode-string : (text out : List ℕ) → Call
   pad : (pos : ℕ) → Call
   look : (table : List ℕ) (index : ℕ) → Call
@@ -41,7 +41,7 @@ pub data Call : Type 0 where
 abbrev pub Answer : Call → Type 0
 Answer (decode framing msg table depth) = Decoded
 Answer (encode table count source out) = Encoded
-Answer (encode-tcp table count source out) = Encoded
+Answer (encode-tcp edition table count source out) = Encoded
 Answer (encode-string text out) = Encoded
 Answer (pad pos) = Padded
 Answer (look table index) = Looked
@@ -52,7 +52,7 @@ Answer (text-of value packet label) = List ℕ
 abbrev pub Lent : Call → Type 0
 Lent (decode framing msg table depth) = List ℕ
 Lent (encode table count source out) = List ℕ
-Lent (encode-tcp table count source out) = List ℕ
+Lent (encode-tcp edition table count source out) = List ℕ
 Lent (encode-string text out) = List ℕ
 Lent (pad pos) = Unit {0}
 Lent (look table index) = Unit {0}
@@ -63,7 +63,7 @@ Lent (text-of value packet label) = Unit {0}
 abbrev pub lentTo : (c : Call) → Lent c
 lentTo (decode framing msg table depth) = table
 lentTo (encode table count source out) = out
-lentTo (encode-tcp table count source out) = out
+lentTo (encode-tcp edition table count source out) = out
 lentTo (encode-string text out) = out
 lentTo (pad pos) = tt
 lentTo (look table index) = tt
@@ -77,26 +77,30 @@ pub record Ending (c : Call) : Type 0 where
 
 -- the contract of the entry point
 abbrev pub Meets : (c : Call) → Ending c → Type 0
-Meets (decode framing msg table depth) e = Decodes (ruleOf framing) msg table depth (e .answer) (e .lent)
+Meets (decode framing msg table depth) e = Decodes (ruleOf framing depth) msg table depth (e .answer) (e .lent)
 Meets (encode table count source out) e = Encodes unframed table count source out (record { answer = e .answer; out = e .lent })
-Meets (encode-tcp table count source out) e = Encodes prefixed table count source out (record { answer = e .answer; out = e .lent })
+Meets (encode-tcp edition table count source out) e =
+    Encodes (framedBy edition) table count source out (record { answer = e .answer; out = e .lent })
 Meets (encode-string text out) e = EncodesString text out (record { answer = e .answer; out = e .lent })
 Meets (pad pos) e = e .answer ≡ padOf pos
 Meets (look table index) e = e .answer ≡ lookAt table index
 Meets (start-of table index) e = e .answer ≡ startedAt table index
 Meets (text-of value packet label) e = e .answer ≡ textNamed value packet label
 
--- what an answer gives: a result; Waiting; or a refusal, which has its number and nothing else (refusal's `numberOf`)
+-- what an answer gives: a result; Waiting; a refusal, which has its number and nothing else (refusal's `numberOf`), but of 17 to 21 the
+-- offset; or the packets before a refused frame, with its refusal, "an answer of its own beside demand 1's refusals" (Ticket 1)
 pub data Given : Type 0 where
   result : Given
   waits : Given
   refuses : Refusal → Given
+  stops : Refusal → Given
 
 -- of a decoder
 abbrev pub byDecoded : Decoded → Given
 byDecoded (decodes.Packets count left dirty) = result
 byDecoded decodes.Waiting = waits
 byDecoded (decodes.Refused r) = refuses r
+byDecoded (decodes.Stopped count left dirty r at) = stops r
 
 -- of an encoder
 abbrev pub byEncoded : Encoded → Given
@@ -122,42 +126,59 @@ byStarted (started.Refused r) = refuses r
 abbrev pub given : (c : Call) → Answer c → Given
 given (decode framing msg table depth) r = byDecoded r
 given (encode table count source out) r = byEncoded r
-given (encode-tcp table count source out) r = byEncoded r
+given (encode-tcp edition table count source out) r = byEncoded r
 given (encode-string text out) r = byEncoded r
 given (pad pos) r = byPadded r
 given (look table index) r = byLooked r
 given (start-of table index) r = byStarted r
 given (text-of value packet label) r = result
 
--- the refusals that document 01 has for a call, by their numbers
+-- the refusals that documents 01 and 02 have for a call, by their numbers
 abbrev pub numbersOf : Call → List ℕ
-numbersOf (decode framing msg table depth) = decodeOrder
+numbersOf (decode framing msg table depth) = orderOf framing
 numbersOf (encode table count source out) = encodeOrder
-numbersOf (encode-tcp table count source out) = encodeOrder
+numbersOf (encode-tcp edition table count source out) = encodeOrder
 numbersOf (encode-string text out) = stringOrder
 numbersOf (pad pos) = 14 ∷ []
 numbersOf (look table index) = 11 ∷ []
 numbersOf (start-of table index) = 11 ∷ []
 numbersOf (text-of value packet label) = []
 
--- "`decode_tcp` may also answer Waiting"
+-- whether a call may answer Waiting
 abbrev pub mayWait : Call → Bool
-mayWait (decode Udp msg table depth) = false
-mayWait (decode Tcp msg table depth) = true
-mayWait (decode TcpVec msg table depth) = false
+mayWait (decode framing msg table depth) = waitsBy framing
 mayWait (encode table count source out) = false
-mayWait (encode-tcp table count source out) = false
+mayWait (encode-tcp edition table count source out) = false
 mayWait (encode-string text out) = false
 mayWait (pad pos) = false
 mayWait (look table index) = false
 mayWait (start-of table index) = false
 mayWait (text-of value packet label) = false
 
--- a result, Waiting where it may be, or one of these numbers
-abbrev pub Listed : List ℕ → Bool → Given → Type 0
-Listed numbers wait result = Unit {0}
-Listed numbers wait waits = wait ≡ true
-Listed numbers wait (refuses r) = among (numberOf r) numbers ≡ true
+-- the refusals of a frame at which a call may stop
+abbrev pub mayStop : Call → List ℕ
+mayStop (decode framing msg table depth) = stopsBy framing
+mayStop (encode table count source out) = []
+mayStop (encode-tcp edition table count source out) = []
+mayStop (encode-string text out) = []
+mayStop (pad pos) = []
+mayStop (look table index) = []
+mayStop (start-of table index) = []
+mayStop (text-of value packet label) = []
+
+-- a result, Waiting where it may be, one of these numbers, or packets before a frame that is refused with one of those
+abbrev pub Listed : List ℕ → Bool → List ℕ → Given → Type 0
+Listed numbers wait frames result = Unit {0}
+Listed numbers wait frames waits = wait ≡ true
+Listed numbers wait frames (refuses r) = among (numberOf r) numbers ≡ true
+Listed numbers wait frames (stops r) = among (numberOf r) frames ≡ true
+
+-- an answer without packets or bytes: Waiting, or a refusal
+abbrev pub Fruitless : Given → Type 0
+Fruitless result = ⊥
+Fruitless waits = Unit {0}
+Fruitless (refuses r) = Unit {0}
+Fruitless (stops r) = ⊥
 
 -- ---- demand 1
 
@@ -171,8 +192,8 @@ Met = (c : Call) → ((e : Ending c) → Meets c e → ⊥) → ⊥
 
 -- "each call ends in an answer from document 01 or one of its numbered refusals"
 abbrev pub AnswersListed : Type 0
-AnswersListed = (c : Call) (e : Ending c) → Meets c e → Listed (numbersOf c) (mayWait c) (given c (e .answer))
+AnswersListed = (c : Call) (e : Ending c) → Meets c e → Listed (numbersOf c) (mayWait c) (mayStop c) (given c (e .answer))
 
 -- "a refusal changes no byte of any lent buffer"; nor does Waiting
 abbrev pub NothingChanged : Type 0
-NothingChanged = (c : Call) (e : Ending c) → Meets c e → (given c (e .answer) ≡ result → ⊥) → e .lent ≡ lentTo c
+NothingChanged = (c : Call) (e : Ending c) → Meets c e → Fruitless (given c (e .answer)) → e .lent ≡ lentTo c

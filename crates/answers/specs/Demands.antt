@@ -10,11 +10,14 @@ use Rattle.node.specs.Forest.{size}
 use Rattle.node.specs.Tags.{messageKind}
 use Rattle.node.specs.Records.{recordSize, kindAt, itemAt, capacity}
 use Rattle.argument.specs.Dirt.{packetsPadding, pads, AllZero}
-use Rattle.totals.specs.Framing.{Whole}
+use Rattle.edition.specs.declared.Edition.the-variants.{Standard}
+use Rattle.framing.specs.Framing.{Whole, ruleOf}
+use Rattle.framing.specs.declared.Framing.{Framing}
+use Rattle.framing.specs.declared.Framing.the-variants.{Tcp, TcpVec}
 use Rattle.answering.specs.Limits.{decoded, forestOf, tabled}
 use Rattle.answering.specs.declared.Decoded.{Decoded}
 use Rattle.answering.specs.declared.Decoded.the-variants.{Packets, Refused}
-use Rattle.answers.specs.Words.{Continues, Mendable, NotFull, Unlimited}
+use Rattle.answers.specs.Words.{Continues, Mendable, Gives, NotFull, Unlimited, Allowed}
 
 -- the table after a decoder's call, by its rule, limit and message
 abbrev pub tableAfter : (List ℕ → Whole) → ℕ → List ℕ → List ℕ → List ℕ
@@ -27,18 +30,18 @@ answerTo rule limit msg table = decoded rule (capacity table) limit msg
 -- ---- demand 3: more room
 
 -- with another depth limit and another table, a call's answer is the same, and so are the table's records
-pub record Unchanged (rule : List ℕ → Whole) (msg : List ℕ) (limit limit' : ℕ) (table table' : List ℕ) : Type 0 where
-  pub answers : answerTo rule limit' msg table' ≡ answerTo rule limit msg table
-  pub records : (count left dirty : ℕ) → answerTo rule limit msg table ≡ Packets count left dirty
-      → take (recordSize * count) (tableAfter rule limit' msg table') ≡ take (recordSize * count) (tableAfter rule limit msg table)
+pub record Unchanged (framing : Framing) (msg : List ℕ) (limit limit' : ℕ) (table table' : List ℕ) : Type 0 where
+  pub answers : answerTo (ruleOf framing limit') limit' msg table' ≡ answerTo (ruleOf framing limit) limit msg table
+  pub records : (count dirty : ℕ) → Gives (answerTo (ruleOf framing limit) limit msg table) count dirty
+      → take (recordSize * count) (tableAfter (ruleOf framing limit') limit' msg table')
+      ≡ take (recordSize * count) (tableAfter (ruleOf framing limit) limit msg table)
 
--- no answer but 9 and 10 is taken back, for any rule, so for each of the three calls; a limit of at most 64 stays so, since above it
--- the answer is 13
+-- no answer but 9 and 10 is taken back, of any decoder; a limit of at most 64 stays so, since above it the answer is 13
 abbrev pub MoreRoom : Type 0
 MoreRoom =
-    (rule : List ℕ → Whole) (msg : List ℕ) (limit limit' : ℕ) (table table' : List ℕ)
+    (framing : Framing) (msg : List ℕ) (limit limit' : ℕ) (table table' : List ℕ)
     → limit ≤ limit' → (limit ≤ deepest → limit' ≤ deepest) → capacity table ≤ capacity table'
-    → NotFull (answerTo rule limit msg table) → Unchanged rule msg limit limit' table table'
+    → NotFull (answerTo (ruleOf framing limit) limit msg table) → Unchanged framing msg limit limit' table table'
 
 -- ---- demand 3: more bytes
 
@@ -70,6 +73,29 @@ MoreBytes rule =
     → Unlimited (answerTo rule limit' (msg ++ more) table')
     → GoesOn rule msg more limit limit' table table' count dirty
 
+-- ---- demand 3: more bytes, in edition 2
+
+-- the packets that were given stay: the same records at the same places of the table
+pub record Stay (framing : Framing) (msg more : List ℕ) (limit limit' : ℕ) (table table' : List ℕ) (count : ℕ) : Type 0 where
+  pub many : ℕ
+  pub dirt : ℕ
+  pub answers : Gives (answerTo (ruleOf framing limit') limit' (msg ++ more) table') many dirt
+  pub no-fewer : count ≤ many
+  pub records : take (recordSize * count) (tableAfter (ruleOf framing limit') limit' (msg ++ more) table')
+      ≡ take (recordSize * count) (tableAfter (ruleOf framing limit) limit msg table)
+
+-- "with more bytes and limits no lower, a given packet stays unless 1, 10 or 13 refuses the call" (Ticket 1)
+abbrev pub PacketsStay : Framing → Type 0
+PacketsStay framing =
+    (msg more : List ℕ) (limit limit' : ℕ) (table table' : List ℕ) (count dirty : ℕ) → limit ≤ limit'
+    → Gives (answerTo (ruleOf framing limit) limit msg table) count dirty
+    → Allowed (answerTo (ruleOf framing limit') limit' (msg ++ more) table')
+    → Stay framing msg more limit limit' table table' count
+
+-- of both decoders of edition 2
+abbrev pub StandardStays : Type 0
+StandardStays = PacketsStay (Tcp Standard) × PacketsStay (TcpVec Standard)
+
 -- ---- beside demand 3: bytes appended change no refusal of reading but 2 and 17 to 21
 
 -- a single-packet call that refuses some bytes with 4 to 8 (document 01, "Refusal numbers") refuses them so with bytes appended, whatever
@@ -84,20 +110,20 @@ FaultsStay rule =
     → answerTo rule limit' (msg ++ more) table' ≡ Refused (Unreadable k)
 
 -- ---- demand 3: n records always hold what n bytes decode to
-abbrev pub RecordsHold : (List ℕ → Whole) → Type 0
-RecordsHold rule =
-    (msg : List ℕ) (limit room : ℕ) → length msg ≤ room → decoded rule room limit msg ≡ Refused TableFull → ⊥
+abbrev pub RecordsHold : Framing → Type 0
+RecordsHold framing =
+    (msg : List ℕ) (limit room : ℕ) → length msg ≤ room → decoded (ruleOf framing limit) room limit msg ≡ Refused TableFull → ⊥
 
--- ---- Ticket 8: what the count of dirty padding says, of any rule, so of each of the three calls
+-- ---- Ticket 8: what the count of dirty padding says, of any rule, so of each of the calls
 
 -- it is at most three for each text, blob and "#bundle" that is kept
 abbrev pub DirtLow : Type 0
 DirtLow =
-    (rule : List ℕ → Whole) (msg table : List ℕ) (limit count left dirty : ℕ) → answerTo rule limit msg table ≡ Packets count left dirty
+    (rule : List ℕ → Whole) (msg table : List ℕ) (limit count dirty : ℕ) → Gives (answerTo rule limit msg table) count dirty
     → dirty ≤ 3 * pads (forestOf (rule msg))
 
 -- it is 0 exactly if every padding byte of what is kept is 0
 abbrev pub CleanOnly : Type 0
 CleanOnly =
-    (rule : List ℕ → Whole) (msg table : List ℕ) (limit count left dirty : ℕ) → answerTo rule limit msg table ≡ Packets count left dirty
+    (rule : List ℕ → Whole) (msg table : List ℕ) (limit count dirty : ℕ) → Gives (answerTo rule limit msg table) count dirty
     → (dirty ≡ 0 → AllZero (packetsPadding msg (forestOf (rule msg)))) × (AllZero (packetsPadding msg (forestOf (rule msg))) → dirty ≡ 0)

@@ -16,7 +16,7 @@ use Rattle.wire.specs.Pad.{padded}
 use Rattle.node.specs.declared.tags.Class.{Class}
 use Rattle.node.specs.declared.tags.Class.the-variants.{Four, Eight, Bare, Text as String, Blob, Scalar, Unknown}
 use Rattle.text.specs.Text.{untilNul}
-use Rattle.totals.specs.Framing.{Whole, tcpVec}
+use Rattle.framing.specs.Framing.{Whole, tcpVec}
 use Rattle.answering.specs.declared.Decoded.the-variants.{Refused}
 use Rattle.answers.specs.Demands.{answerTo}
 

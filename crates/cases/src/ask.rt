@@ -38,6 +38,9 @@ fn is_same(found: Outcome, wanted: Outcome) -> bool {
         && found.count == wanted.count
         && found.left == wanted.left
         && found.dirty == wanted.dirty
+        && found.number == wanted.number
+        && found.offset == wanted.offset
+        && found.frame == wanted.frame
 }
 
 // Compares an answer, and every byte of what was lent, with what is expected, which is put into `space`: what is not given is to be as
@@ -64,7 +67,13 @@ fn room(asked: &[u8]) -> usize
     size_of(number(asked, 2)) + more as usize
 }
 
-// Makes the call with these bytes lent, and compares. The table stands in `space` until the call is made.
+// Makes the call with these bytes lent, which are filled before.
+fn made(call: usize, asked: &[u8], input: &[u8], table: &[u8], lent: &mut [u8]) -> Outcome {
+    runs::fill(lent);
+    call::make(call, number(asked, 1), input, table, lent)
+}
+
+// Makes the call, and compares. The table stands in `space` until the call is made.
 fn ask_in(
     call: usize,
     asked: &[u8],
@@ -75,8 +84,7 @@ fn ask_in(
 ) -> Found {
     let from = start(asked, 5);
     let n = put_table(&asked[from..], space);
-    runs::fill(lent);
-    let outcome = call::make(call, number(asked, 1), input, front(space, n), lent);
+    let outcome = made(call, asked, input, front(space, n), lent);
     judged(outcome, lent, expected, space)
 }
 

@@ -1,5 +1,6 @@
 // The calls of the library, all in this file, and what they answer in one shape.
 use decoder::Decoded;
+use decoder::Edition;
 use encoder::Encoded;
 use refusal::Refusal;
 use runs::said::put_text;
@@ -9,31 +10,37 @@ use values::value::OscType;
 use wire::Padded;
 
 // The names of the calls. A call is the place of its name, from 0 on; the last is for what is none.
-pub const NAMES: [u8; 99] =
-    *b"decode_udp decode_tcp decode_tcp_vec encode encode_tcp encode_string pad look text_of start_of none";
+pub const NAMES: [u8; 139] =
+    *b"decode_udp decode_tcp decode_tcp_vec decode_tcp2 decode_tcp_vec2 encode encode_tcp encode_tcp2 encode_string \
+    pad look text_of start_of none";
 
-// The answers: given, waiting, refused with a number (this and the number), and none that is known.
+// The answers: given, waiting, stopped at a frame, refused with a number (this and the number), and none that is known.
 pub const GIVEN: usize = 0;
 
 pub const WAITING: usize = 1;
 
-pub const REFUSED: usize = 2;
+pub const STOPPED: usize = 2;
+
+pub const REFUSED: usize = 3;
 
 pub const UNKNOWN: usize = 39;
 
 // The names of the answers that have one.
-pub const ANSWERS: [u8; 13] = *b"given waiting";
+pub const ANSWERS: [u8; 21] = *b"given waiting stopped";
 
 // What `text_of` hands back for what names no part of the packet.
 const LABEL: [u8; 5] = *b"label";
 
-// What a call answered: the records or bytes that were given, the kind or the position, or where the field began that was short; the
-// bytes left over; and the bytes of padding that are not zero.
+// What a call answered: the records or bytes that were given, the kind or the position; the bytes left over; the bytes of padding that are
+// not zero; the number of a refusal, and where the field began that was short; and where a refused frame of a list began.
 pub struct Outcome {
     pub answer: usize,
     pub count: u64,
     pub left: u64,
     pub dirty: u64,
+    pub number: u64,
+    pub offset: u64,
+    pub frame: u64,
 }
 
 // An answer that gives nothing.
@@ -43,6 +50,9 @@ pub fn empty(answer: usize) -> Outcome {
         count: 0,
         left: 0,
         dirty: 0,
+        number: 0,
+        offset: 0,
+        frame: 0,
     }
 }
 
@@ -53,6 +63,9 @@ pub fn records(count: u64, left: u64, dirty: u64) -> Outcome {
         count,
         left,
         dirty,
+        number: 0,
+        offset: 0,
+        frame: 0,
     }
 }
 
@@ -65,9 +78,25 @@ pub fn given(count: u64) -> Outcome {
 pub fn numbered(number: u8, offset: u64) -> Outcome {
     Outcome {
         answer: REFUSED + number as usize,
-        count: offset,
+        count: 0,
         left: 0,
         dirty: 0,
+        number: number as u64,
+        offset,
+        frame: 0,
+    }
+}
+
+// A list that stopped at a frame: what was read before it, why it is refused, and where it began.
+pub fn stopped(read: Outcome, why: Outcome, frame: u64) -> Outcome {
+    Outcome {
+        answer: STOPPED,
+        count: read.count,
+        left: read.left,
+        dirty: read.dirty,
+        number: why.number,
+        offset: why.offset,
+        frame,
     }
 }
 
@@ -85,6 +114,17 @@ fn read(decoded: Decoded) -> Outcome {
         Decoded::Packets { count, left, dirty } => records(count as u64, left as u64, dirty as u64),
         Decoded::Waiting => empty(WAITING),
         Decoded::Refused(refusal) => refused(refusal),
+        Decoded::Stopped {
+            count,
+            left,
+            dirty,
+            refusal,
+            frame,
+        } => stopped(
+            records(count as u64, left as u64, dirty as u64),
+            refused(refusal),
+            frame as u64,
+        ),
     }
 }
 
@@ -155,40 +195,39 @@ fn named(answer: Looked, packet: &[u8], lent: &mut [u8]) -> Outcome {
     }
 }
 
-// Calls a decoder: the first three calls.
+// Calls a decoder: the first five calls.
 fn decode(call: usize, msg: &[u8], table: &mut [u8], depth: usize) -> Decoded {
-    if call == 0 {
-        return decoder::decode_udp(msg, table, depth);
+    match call {
+        0 => decoder::decode_udp(msg, table, depth),
+        1 => decoder::decode_tcp(Edition::Rosc, msg, table, depth),
+        2 => decoder::decode_tcp_vec(Edition::Rosc, msg, table, depth),
+        3 => decoder::decode_tcp(Edition::Standard, msg, table, depth),
+        _ => decoder::decode_tcp_vec(Edition::Standard, msg, table, depth),
     }
-    if call == 1 {
-        return decoder::decode_tcp(msg, table, depth);
-    }
-    decoder::decode_tcp_vec(msg, table, depth)
 }
 
-// Calls an encoder: the next three.
+// Calls an encoder: the next four.
 fn encode(call: usize, table: &[u8], count: usize, source: &[u8], out: &mut [u8]) -> Encoded {
-    if call == 3 {
-        return encoder::encode(table, count, source, out);
+    match call {
+        5 => encoder::encode(table, count, source, out),
+        6 => encoder::encode_tcp(Edition::Rosc, table, count, source, out),
+        7 => encoder::encode_tcp(Edition::Standard, table, count, source, out),
+        _ => encoder::encode_string(source, out),
     }
-    if call == 4 {
-        return encoder::encode_tcp(table, count, source, out);
-    }
-    encoder::encode_string(source, out)
 }
 
 // Calls one of the others.
 fn leaf(call: usize, number: u64, packet: &[u8], table: &[u8], lent: &mut [u8]) -> Outcome {
-    if call == 6 {
+    if call == 9 {
         return padded(wire::pad(number));
     }
-    if call == 7 {
+    if call == 10 {
         return looked(values::look::look(table, number as usize));
     }
-    if call == 8 {
+    if call == 11 {
         return named(values::look::look(table, number as usize), packet, lent);
     }
-    if call == 9 {
+    if call == 12 {
         return started(values::look::start_of(table, number as usize));
     }
     empty(UNKNOWN)
@@ -196,10 +235,10 @@ fn leaf(call: usize, number: u64, packet: &[u8], table: &[u8], lent: &mut [u8]) 
 
 // Makes a call. The number is the depth for a decoder, the count for an encoder, the position for `pad` and the index for the others.
 pub fn make(call: usize, number: u64, input: &[u8], table: &[u8], lent: &mut [u8]) -> Outcome {
-    if call < 3 {
+    if call < 5 {
         return read(decode(call, input, lent, number as usize));
     }
-    if call < 6 {
+    if call < 9 {
         return wrote(encode(call, table, number as usize, input, lent));
     }
     leaf(call, number, input, table, lent)

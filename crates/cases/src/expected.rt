@@ -1,11 +1,12 @@
 // What a line expects: `packets LEFT TABLE`, `dirty BYTES LEFT TABLE`, `written BYTES`, `waiting`, `refused NUMBER`,
-// `refused NUMBER OFFSET`, `value KIND` or `at POSITION`.
+// `refused NUMBER OFFSET`, `stopped NUMBER OFFSET FRAME LEFT DIRTY TABLE`, `value KIND` or `at POSITION`.
 use crate::call;
 use crate::call::Outcome;
 use crate::call::empty;
 use crate::call::given;
 use crate::call::numbered;
 use crate::call::records;
+use crate::call::stopped;
 use spelled::listed::kind_of;
 use spelled::listed::put_table;
 use spelled::listed::records_in;
@@ -19,7 +20,7 @@ ghost use Rattle.spelled.specs.Put.{Put};
 // The place of the answer among these names; another number for any other.
 fn answer_of(expected: &[u8]) -> usize {
     place_of(
-        b"packets written waiting refused value at dirty",
+        b"packets written waiting refused value at dirty stopped",
         word(expected, 0),
     )
 }
@@ -35,6 +36,10 @@ pub fn put_given(expected: &[u8], out: &mut [u8]) -> usize
     }
     if answer == 6 {
         let from = start(expected, 3);
+        return put_table(&expected[from..], out);
+    }
+    if answer == 7 {
+        let from = start(expected, 6);
         return put_table(&expected[from..], out);
     }
     if answer == 1 {
@@ -55,6 +60,12 @@ fn refused(expected: &[u8]) -> Outcome {
     empty(call::UNKNOWN)
 }
 
+// A list that stopped: the refusal of the frame is told as any other, with an offset whatever its number.
+fn stopped_at(expected: &[u8], bytes: usize) -> Outcome {
+    let read = records(records_in(bytes), number(expected, 4), number(expected, 5));
+    stopped(read, refused(expected), number(expected, 3))
+}
+
 // The answer that a line expects, where it gives so many bytes.
 pub fn wanted(expected: &[u8], bytes: usize) -> Outcome {
     match answer_of(expected) {
@@ -65,6 +76,7 @@ pub fn wanted(expected: &[u8], bytes: usize) -> Outcome {
         4 => given(kind_of(word(expected, 1)) as u64),
         5 => given(number(expected, 1)),
         6 => records(records_in(bytes), number(expected, 2), number(expected, 1)),
+        7 => stopped_at(expected, bytes),
         _ => empty(call::UNKNOWN),
     }
 }

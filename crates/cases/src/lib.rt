@@ -59,7 +59,7 @@ fn obey(
 
 // Runs the cases of a text. Inputs, what is lent, and tables with what is expected have as much room as the three slices.
 pub fn run(text: &[u8], input: &mut [u8], lent: &mut [u8], space: &mut [u8]) {
-    let mut met = [0u64; 443];
+    let mut met = [0u64; 563];
     let mut at = 0;
     let mut number = 0;
     while at < text.len() {

@@ -11,14 +11,14 @@ ghost use Prim.Native.Nat.{_≤_};
 ghost use lib.ListN.{length};
 
 // For each call, and for what is none, forty counts, one for each answer; then the cases, those that differ, and the sum of what was lent.
-pub type Met = [u64; 443];
+pub type Met = [u64; 563];
 
 // The places of the cases, of those that differ, and of the sum.
-const CASES: usize = 440;
+const CASES: usize = 560;
 
-const DIFFER: usize = 441;
+const DIFFER: usize = 561;
 
-const SUM: usize = 442;
+const SUM: usize = 562;
 
 // The lesser of two numbers.
 fn least(a: usize, b: usize) -> usize
@@ -30,7 +30,7 @@ fn least(a: usize, b: usize) -> usize
 // Counts a case.
 pub fn count(met: &mut Met, call: usize, answer: usize, is_right: bool) {
     add(met, CASES);
-    add(met, 40 * least(call, 10) + least(answer, call::UNKNOWN));
+    add(met, 40 * least(call, 13) + least(answer, call::UNKNOWN));
     if !is_right {
         add(met, DIFFER);
     }
@@ -49,18 +49,25 @@ pub fn say_about(name: &[u8]) {
 
 // Says where the field began that was short.
 fn say_offset(outcome: Outcome) {
-    if call::REFUSED + 17 <= outcome.answer {
-        say(b" at ", outcome.count);
+    if 17 <= outcome.number {
+        say(b" at ", outcome.offset);
     }
 }
 
-// Says what was given: dirty padding only where there is some.
-fn say_given(outcome: Outcome) {
-    say_counts(b": given ", outcome.count, b", ", outcome.left, b" left");
+// Says what was read: dirty padding only where there is some.
+fn say_read(answer: &[u8], outcome: Outcome) {
+    say_counts(answer, outcome.count, b", ", outcome.left, b" left");
     if 0 < outcome.dirty {
         say(b", dirty ", outcome.dirty);
     }
-    io::write_all(1, b"\n");
+}
+
+// Says what was read before a frame that is refused, why it is, and where it began.
+fn say_stopped(outcome: Outcome) {
+    say_read(b": stopped ", outcome);
+    say(b", refused ", outcome.number);
+    say_offset(outcome);
+    say(b", frame ", outcome.frame);
 }
 
 // Says what a call answered.
@@ -68,20 +75,22 @@ pub fn say_case(call: usize, outcome: Outcome) {
     io::write_all(1, b"  ");
     io::write_all(1, word(&call::NAMES, call));
     if outcome.answer == call::GIVEN {
-        say_given(outcome);
+        say_read(b": given ", outcome);
+    } else if outcome.answer == call::STOPPED {
+        say_stopped(outcome);
     } else if outcome.answer == call::UNKNOWN {
-        io::write_all(1, b": not understood\n");
+        io::write_all(1, b": not understood");
     } else {
         io::write_all(1, b": ");
         say_answer(&call::ANSWERS, outcome.answer);
         say_offset(outcome);
-        io::write_all(1, b"\n");
     }
+    io::write_all(1, b"\n");
 }
 
 // Says how often a call gave each answer that is known.
 fn say_call(met: &[u64], call: usize)
-    requires { ⌜ (call ≤ 9) × (440 ≤ length (now met)) ⌝ }
+    requires { ⌜ (call ≤ 12) × (560 ≤ length (now met)) ⌝ }
 {
     io::write_all(1, word(&call::NAMES, call));
     let from = 40 * call;
@@ -90,10 +99,10 @@ fn say_call(met: &[u64], call: usize)
 
 // Says it of every call.
 fn say_calls(met: &[u64])
-    requires { ⌜ 440 ≤ length (now met) ⌝ }
+    requires { ⌜ 560 ≤ length (now met) ⌝ }
 {
     let mut call = 0;
-    while call <= 9 {
+    while call <= 12 {
         say_call(met, call);
         call += 1;
     }

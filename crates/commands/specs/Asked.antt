@@ -1,12 +1,12 @@
 -- What the words of a command ask: how many there are, the program's name among them, and those that are no names of files.
-use mathlib.Core.Bool.{Bool, true, false, cond}
+use mathlib.Core.Bool.{cond}
 use mathlib.Core.List.{List}
 use Prim.Native.Nat.{ℕ}
 use lib.Dec.{eqb}
 use Rattle.words.specs.declared.numeral.Numeral.{Numeral}
 use Rattle.words.specs.declared.numeral.Numeral.the-variants as numeral
-use Rattle.totals.specs.declared.Framing.{Framing}
-use Rattle.totals.specs.declared.Framing.the-variants.{Udp, Tcp, TcpVec}
+use Rattle.framing.specs.declared.Framing.{Framing}
+use Rattle.framing.specs.declared.Framing.the-variants.{Udp, Tcp, TcpVec}
 use Rattle.telling.specs.declared.troubles.Trouble.the-variants.{DecodeWords, EncodeWords, LookWords, NoFraming, OnePacket, NoNumber}
 use Rattle.commands.specs.Words.{framingOf, numberOfWord}
 use Rattle.commands.specs.Options.{noOptions, chosenBy}
@@ -19,6 +19,7 @@ use Rattle.commands.specs.declared.DecodeAsked.{DecodeAsked}
 use Rattle.commands.specs.declared.DecodeAsked.the-variants as decode
 use Rattle.commands.specs.declared.EncodeAsked.{EncodeAsked}
 use Rattle.commands.specs.declared.EncodeAsked.the-variants as encode
+use Rattle.commands.specs.declared.Writing.the-variants.{Alone, Stream}
 use Rattle.commands.specs.declared.LookAsked.{LookAsked}
 use Rattle.commands.specs.declared.LookAsked.the-variants as look
 
@@ -40,11 +41,11 @@ decodeWith (chosen.Wrong trouble i) x = decode.Wrong trouble i
 decodeWith (chosen.As o) (framed.As x) = decode.As x o
 decodeWith (chosen.As o) framed.Unclear = decode.Wrong NoFraming 2
 
--- encode has five words: osc encode udp TABLE SOURCE OUTPUT; with the length before the packet or without
+-- encode has five words: osc encode udp TABLE SOURCE OUTPUT; it writes one packet, alone or as a stream of an edition has it
 abbrev pub encodeWith : Framed → EncodeAsked
-encodeWith (framed.As Udp) = encode.As false
-encodeWith (framed.As Tcp) = encode.As true
-encodeWith (framed.As TcpVec) = encode.Wrong OnePacket 2
+encodeWith (framed.As Udp) = encode.As Alone
+encodeWith (framed.As (Tcp edition)) = encode.As (Stream edition)
+encodeWith (framed.As (TcpVec edition)) = encode.Wrong OnePacket 2
 encodeWith framed.Unclear = encode.Wrong NoFraming 2
 
 unfoldable pub encodeAsked : ℕ → List ℕ → EncodeAsked

@@ -8,7 +8,8 @@ use Rattle.wire.specs.Same.{sameBytes}
 use Rattle.words.specs.Numeral.{numeralOf}
 use Rattle.words.specs.declared.numeral.Numeral.{Numeral}
 use Rattle.words.specs.declared.numeral.Numeral.the-variants as numeral
-use Rattle.totals.specs.declared.Framing.the-variants.{Udp, Tcp, TcpVec}
+use Rattle.edition.specs.declared.Edition.the-variants.{Rosc, Standard}
+use Rattle.framing.specs.declared.Framing.the-variants.{Udp, Tcp, TcpVec}
 use Rattle.telling.specs.Ascii.{ascii}
 use Rattle.commands.specs.declared.Command.{Command}
 use Rattle.commands.specs.declared.Command.the-variants as command
@@ -30,12 +31,14 @@ commandOf word =
     (cond (isWord word "-h") command.Help
     (cond (isWord word "--version") command.Version command.Unclear))))))
 
--- the framing that a word names
+-- the framing that a word names: a stream is of edition 1, the crate's, where the word has no 2
 unfoldable pub framingOf : List ℕ → Framed
 framingOf word =
     cond (isWord word "udp") (framed.As Udp)
-    (cond (isWord word "tcp") (framed.As Tcp)
-    (cond (isWord word "tcp-vec") (framed.As TcpVec) framed.Unclear))
+    (cond (isWord word "tcp") (framed.As (Tcp Rosc))
+    (cond (isWord word "tcp-vec") (framed.As (TcpVec Rosc))
+    (cond (isWord word "tcp2") (framed.As (Tcp Standard))
+    (cond (isWord word "tcp2-vec") (framed.As (TcpVec Standard)) framed.Unclear))))
 
 -- a number of at most nine digits; of a greater one none
 abbrev pub nineDigits : Numeral → Numeral

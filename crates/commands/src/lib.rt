@@ -1,6 +1,7 @@
 // What the words of the program `osc` mean: decided here, under contracts. The program itself reads, writes and says.
 mod options; // options.rt: the options of decode
 
+use decoder::Edition;
 use decoder::Framing;
 use telling::Trouble;
 use words::numeral::Numeral;
@@ -14,7 +15,7 @@ pub use options::Options;
 pub use options::options_of;
 
 // The version of the program and of the library that it calls.
-pub const VERSION: [u8; 5] = *b"0.9.0";
+pub const VERSION: [u8; 6] = *b"0.10.0";
 
 // The first word.
 pub enum Command {
@@ -32,15 +33,23 @@ pub enum Framed {
     Unclear,
 }
 
+// How a packet is to be written.
+pub enum Writing {
+    // Alone, as a UDP packet.
+    Alone,
+    // For a TCP stream, behind its length where the edition has one.
+    Stream(Edition),
+}
+
 // What the words of decode ask; or what is wrong with them, and with which.
 pub enum DecodeAsked {
     As(Framing, Options),
     Wrong(Trouble, usize),
 }
 
-// The same of encode: whether the length is to stand before the packet.
+// The same of encode.
 pub enum EncodeAsked {
-    As(bool),
+    As(Writing),
     Wrong(Trouble, usize),
 }
 
@@ -89,7 +98,7 @@ pub fn command_of(word: &[u8]) -> Command
 
 // The framing that a word names.
 //
-// Ruled out: tcp for the word tcp-vec; a framing for every word.
+// Ruled out: tcp for the word tcp-vec; edition 1 for the word tcp2; a framing for every word.
 fn framing_of(word: &[u8]) -> Framed
     ensures { λ r. ⌜ r ≡ framingOf (now (word .entry)) ⌝ }
 {
@@ -97,10 +106,16 @@ fn framing_of(word: &[u8]) -> Framed
         return Framed::As(Framing::Udp);
     }
     if is_word(word, b"tcp") {
-        return Framed::As(Framing::Tcp);
+        return Framed::As(Framing::Tcp(Edition::Rosc));
     }
     if is_word(word, b"tcp-vec") {
-        return Framed::As(Framing::TcpVec);
+        return Framed::As(Framing::TcpVec(Edition::Rosc));
+    }
+    if is_word(word, b"tcp2") {
+        return Framed::As(Framing::Tcp(Edition::Standard));
+    }
+    if is_word(word, b"tcp2-vec") {
+        return Framed::As(Framing::TcpVec(Edition::Standard));
     }
     Framed::Unclear
 }
@@ -143,9 +158,9 @@ fn encode_with(framed: Framed) -> EncodeAsked
 {
     match framed {
         Framed::As(framing) => match framing {
-            Framing::Udp => EncodeAsked::As(false),
-            Framing::Tcp => EncodeAsked::As(true),
-            Framing::TcpVec => EncodeAsked::Wrong(Trouble::OnePacket, 2),
+            Framing::Udp => EncodeAsked::As(Writing::Alone),
+            Framing::Tcp(edition) => EncodeAsked::As(Writing::Stream(edition)),
+            Framing::TcpVec(_) => EncodeAsked::Wrong(Trouble::OnePacket, 2),
         },
         Framed::Unclear => EncodeAsked::Wrong(Trouble::NoFraming, 2),
     }
@@ -153,7 +168,7 @@ fn encode_with(framed: Framed) -> EncodeAsked
 
 // What encode is asked, of whose words there are `count`, and whose word 2 is its framing.
 //
-// Ruled out: no length for the word tcp; a word too many.
+// Ruled out: the packet alone for the word tcp; the edition of tcp for the word tcp2; a word too many.
 pub fn encode_asked(count: usize, word: &[u8]) -> EncodeAsked
     ensures { λ r. ⌜ r ≡ encodeAsked count (now (word .entry)) ⌝ }
 {

@@ -10,20 +10,29 @@ use Rattle.node.specs.Forest.{Forest, size}
 use Rattle.node.specs.Records.{capacity, stored, TableRoom}
 use Rattle.packet.specs.Packet.{Out, fault, one, readPacket}
 use Rattle.fill.specs.CodeFill.{treeOf, Known}
-use Rattle.totals.specs.Framing.{Whole, trees, waiting, refusal, single, udp, Frame, wait, read, readFrame, first, tcp, ruleOf}
-use Rattle.totals.specs.declared.Framing.{Framing}
+use Rattle.framing.specs.Framing.{Whole, trees, waiting, refusal, stopped, single, udp, Frame, wait, read, refused, readFrame, first, tcp}
+use Rattle.framing.specs.Framing.{ruleOf}
+use Rattle.framing.specs.declared.Framing.{Framing}
 use Rattle.answering.specs.Limits.{limited, decoded, forestOf, tabled}
+use Rattle.argument.specs.Dirt.{dirtyIn}
 use Rattle.answering.specs.declared.Decoded.{Decoded}
-use Rattle.answering.specs.declared.Decoded.the-variants.{Packets, Refused}
+use Rattle.answering.specs.declared.Decoded.the-variants.{Packets, Waiting, Refused, Stopped}
 use Rattle.decoder.specs.CodeFrames.{framePacket, Accepted, Fillable}
-use Rattle.decoder.proofs.Chosen.{by-decoded, by-trees}
+use Rattle.decoder.proofs.Chosen.{by-decoded, by-bounded}
 use Rattle.decoder.proofs.Sizes.{nodes-in, whole-in}
 
--- ---- an answer of packets
+-- ---- an answer with records
 
 -- a refusal is no answer of packets
 pub no-packets : {A : Type 0} {count left dirty : ℕ} {r : Refusal} → Packets count left dirty ≡ Refused r → A
 no-packets e = let z : _≡_ {A = ℕ} 0 1 = cc in absurd (omega arith)
+
+-- the records that an answer gives: of packets, and of those before a refused frame
+abbrev pub Counts : Decoded → ℕ → Type 0
+Counts (Packets n left dirty) count = n ≡ count
+Counts (Stopped n left dirty k at) count = n ≡ count
+Counts Waiting count = ⊥
+Counts (Refused r) count = ⊥
 
 -- the input is short enough and accepted, and its records fit
 record Fitting (w : Whole) (capacity n count : ℕ) : Type 0 where
@@ -32,34 +41,36 @@ record Fitting (w : Whole) (capacity n count : ℕ) : Type 0 where
   records : size (forestOf w) ≡ count
   fits : count ≤ capacity
 
-packets-fit : {count left dirty : ℕ} (rule : List ℕ → Whole) (capacity limit : ℕ) (msg : List ℕ)
-    → Packets count left dirty ≡ decoded rule capacity limit msg → Fitting (rule msg) capacity (length msg) count
-packets-fit {count} {left} {dirty} rule capacity limit msg e =
-    by-decoded (λ (x : Decoded). Packets count left dirty ≡ x → Fitting (rule msg) capacity (length msg) count) rule capacity limit msg
-    (λ _. no-packets) (λ _. no-packets) (λ _ h. by-whole h (rule msg)) e
+records-fit : {count : ℕ} (rule : List ℕ → Whole) (capacity limit : ℕ) (msg : List ℕ) → Counts (decoded rule capacity limit msg) count
+    → Fitting (rule msg) capacity (length msg) count
+records-fit {count} rule capacity limit msg e =
+    by-decoded (λ (x : Decoded). Counts x count → Fitting (rule msg) capacity (length msg) count) rule capacity limit msg
+    (λ _ i. absurd i) (λ _ i. absurd i) (λ _ h. by-whole h (rule msg)) e
   where
-    by-whole : length msg ≤ longest → (w : Whole) → Packets count left dirty ≡ limited capacity limit msg w
-        → Fitting w capacity (length msg) count
-    by-whole h waiting i = let z : _≡_ {A = ℕ} 0 1 = cc in absurd (omega arith)
-    by-whole h (refusal k) i = no-packets i
+    by-whole : length msg ≤ longest → (w : Whole) → Counts (limited capacity limit msg w) count → Fitting w capacity (length msg) count
+    by-whole h waiting i = absurd i
+    by-whole h (refusal k) i = absurd i
     by-whole h (trees f n) i =
-        by-trees (λ (x : Decoded). Packets count left dirty ≡ x → Fitting (trees f n) capacity (length msg) count) capacity limit msg f n
-        (λ _. no-packets) (λ _. no-packets)
-        (λ _ s j. let z : count ≡ size f = cc in record { short = h; accepted = tt; records = sym z; fits = omega arith }) i
+        by-bounded (λ (x : Decoded). Counts x count → Fitting (trees f n) capacity (length msg) count) capacity limit f
+        (Packets (size f) n (dirtyIn msg f)) (λ _ j. absurd j) (λ _ j. absurd j)
+        (λ _ s j. record { short = h; accepted = tt; records = j; fits = omega (arith, s, j) }) i
+    by-whole h (stopped f n k at) i =
+        by-bounded (λ (x : Decoded). Counts x count → Fitting (stopped f n k at) capacity (length msg) count) capacity limit f
+        (Stopped (size f) n (dirtyIn msg f) k at) (λ _ j. absurd j) (λ _ j. absurd j)
+        (λ _ s j. record { short = h; accepted = tt; records = j; fits = omega (arith, s, j) }) i
 
--- where packets are answered, the second reading has what it needs
-pub fillable : {count left dirty : ℕ} (framing : Framing) (limit : ℕ) (msg T : List ℕ)
-    → Packets count left dirty ≡ decoded (ruleOf framing) (capacity T) limit msg
-    → Fillable (ruleOf framing msg) (length msg) count T
-fillable framing limit msg T e =
-    let w = packets-fit (ruleOf framing) (capacity T) limit msg e in
+-- where records are answered, the second reading has what it needs
+pub fillable : {count : ℕ} {r : Decoded} (framing : Framing) (limit : ℕ) (msg T : List ℕ) → Counts r count
+    → r ≡ decoded (ruleOf framing limit) (capacity T) limit msg → Fillable (ruleOf framing limit msg) (length msg) count T
+fillable {count} framing limit msg T n e =
+    let w = records-fit (ruleOf framing limit) (capacity T) limit msg (subst (λ (x : Decoded). Counts x count) e n) in
     record {
       short = w .short;
       accepted = w .accepted;
       records = w .records;
       room = record {
         fits = omega (arith, w .fits, w .records);
-        low = omega (arith, w .short, nodes-in (length msg) (ruleOf framing msg) (whole-in framing msg));
+        low = omega (arith, w .short, nodes-in (length msg) (ruleOf framing limit msg) (whole-in framing limit msg));
       };
     }
 
@@ -75,6 +86,7 @@ single-tree n (one item f u) = refl
 
 first-tree : (n : ℕ) (x : Frame) → forestOf (first n x) ≡ treeOf (framePacket x)
 first-tree n wait = refl
+first-tree n (refused k) = refl
 first-tree n (read o) = single-tree n o
 
 -- the trees of an input of one packet
@@ -105,9 +117,11 @@ room-for {T = T} e w = subst (λ (h : Forest). TableRoom h 0 T) e w
 
 module _ {f g : Framing} (e : f ≡ g) where
   -- what the second reading by it needs
-  pub fillable-by : {n count : ℕ} {T : List ℕ} (msg : List ℕ) → Fillable (ruleOf f msg) n count T → Fillable (ruleOf g msg) n count T
-  fillable-by {n} {count} {T} msg w = subst (λ (x : Framing). Fillable (ruleOf x msg) n count T) e w
+  pub fillable-by : {n count : ℕ} {T : List ℕ} (limit : ℕ) (msg : List ℕ) → Fillable (ruleOf f limit msg) n count T
+      → Fillable (ruleOf g limit msg) n count T
+  fillable-by {n} {count} {T} limit msg w = subst (λ (x : Framing). Fillable (ruleOf x limit msg) n count T) e w
 
   -- what it leaves
-  pub stored-by : {T' : List ℕ} (msg T : List ℕ) → T' ≡ stored 0 (forestOf (ruleOf g msg)) T → T' ≡ stored 0 (forestOf (ruleOf f msg)) T
-  stored-by {T'} msg T w = subst (λ (x : Framing). T' ≡ stored 0 (forestOf (ruleOf x msg)) T) (sym e) w
+  pub stored-by : {T' : List ℕ} (limit : ℕ) (msg T : List ℕ) → T' ≡ stored 0 (forestOf (ruleOf g limit msg)) T
+      → T' ≡ stored 0 (forestOf (ruleOf f limit msg)) T
+  stored-by {T'} limit msg T w = subst (λ (x : Framing). T' ≡ stored 0 (forestOf (ruleOf x limit msg)) T) (sym e) w

@@ -7,8 +7,8 @@ use Rattle.wire.specs.Limits.{longest, deepest}
 use Rattle.node.specs.Forest.{Forest, size, depth}
 use Rattle.wire.proofs.Choices.{by-le}
 use Rattle.argument.specs.Dirt.{dirtyIn}
-use Rattle.totals.specs.Framing.{Whole, trees}
-use Rattle.answering.specs.Limits.{limited, decoded}
+use Rattle.framing.specs.Framing.{Whole, trees}
+use Rattle.answering.specs.Limits.{bounded, limited, decoded}
 use Rattle.answering.specs.declared.Decoded.{Decoded}
 use Rattle.answering.specs.declared.Decoded.the-variants.{Packets, Refused}
 
@@ -20,9 +20,15 @@ module _ (P : Decoded → Type 0) where
   unfolding decoded
   by-decoded rule capacity limit msg deep long f = by-le P limit deepest (λ h. by-le P (length msg) longest (λ k. f h k) long) deep
 
+  -- of an answer with trees: 9, then 10, then the answer
+  pub by-bounded : (capacity limit : ℕ) (f : Forest) (given : Decoded) → (limit < depth f → P (Refused TooDeep))
+      → (capacity < size f → P (Refused TableFull)) → (depth f ≤ limit → size f ≤ capacity → P given)
+      → P (bounded capacity limit f given)
+  by-bounded capacity limit f given deep full g = by-le P (depth f) limit (λ h. by-le P (size f) capacity (λ k. g h k) full) deep
+
   -- of trees: 9, then 10, then their count and their dirt
   pub by-trees : (capacity limit : ℕ) (msg : List ℕ) (f : Forest) (left : ℕ) → (limit < depth f → P (Refused TooDeep))
       → (capacity < size f → P (Refused TableFull))
       → (depth f ≤ limit → size f ≤ capacity → P (Packets (size f) left (dirtyIn msg f)))
       → P (limited capacity limit msg (trees f left))
-  by-trees capacity limit msg f left deep full g = by-le P (depth f) limit (λ h. by-le P (size f) capacity (λ k. g h k) full) deep
+  by-trees capacity limit msg f left deep full g = by-bounded capacity limit f (Packets (size f) left (dirtyIn msg f)) deep full g

@@ -5,3 +5,5 @@ pub mod Offsets
 pub mod Only
 pub mod Sizes
 pub mod Answers
+pub mod Cuts
+pub mod Numbers

@@ -3,7 +3,7 @@ use mathlib.Core.Path.{_≡_, refl, ap, sym, _∙_}
 use mathlib.Core.List.{List}
 use Prim.Native.Nat.{ℕ}
 use Rattle.node.specs.Records.{capacity}
-use Rattle.totals.specs.Framing.{Whole}
+use Rattle.framing.specs.Framing.{Whole}
 use Rattle.answering.specs.Limits.{decoded, forestOf, tabled, Decodes}
 use Rattle.answering.specs.declared.Decoded.{Decoded}
 

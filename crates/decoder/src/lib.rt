@@ -3,9 +3,11 @@
 mod frames; // frames.rt: the second reading of a whole input
 
 pub use answering::Decoded;
+pub use edition::Edition;
+pub use framing::Framing;
 use node::record;
-pub use totals::Framing;
-ghost use Rattle.totals.specs.Framing.{udp, tcp, tcpVec, ruleOf};
+ghost use Rattle.framing.specs.Framing.{udp, ruleOf};
+ghost use Rattle.framing.specs.declared.Framing.the-variants.{Tcp, TcpVec};
 ghost use Rattle.answering.specs.Limits.{Decodes};
 
 // Common MTU size for ethernet.
@@ -15,7 +17,7 @@ pub const MTU: usize = 1536;
 //
 // Ruled out: a record count that is invented; records left by a refusal.
 pub fn decode(framing: Framing, msg: &[u8], table: &mut [u8], depth: usize) -> Decoded
-    ensures { λ r. ⌜ Decodes (ruleOf framing) (now (msg .entry)) (now (table .entry)) depth r (now (table .exit)) ⌝ }
+    ensures { λ r. ⌜ Decodes (ruleOf framing depth) (now (msg .entry)) (now (table .entry)) depth r (now (table .exit)) ⌝ }
 {
     let answer = answering::answer(framing, msg, record::capacity_of(table), depth);
     match answer {
@@ -23,9 +25,16 @@ pub fn decode(framing: Framing, msg: &[u8], table: &mut [u8], depth: usize) -> D
             count,
             left: _,
             dirty: _,
-        } => frames::write(framing, msg, table, count),
+        } => frames::write(framing, msg, table, depth, count),
         Decoded::Waiting => {}
         Decoded::Refused(_) => {}
+        Decoded::Stopped {
+            count,
+            left: _,
+            dirty: _,
+            refusal: _,
+            frame: _,
+        } => frames::write(framing, msg, table, depth, count),
     }
     answer
 }
@@ -39,20 +48,24 @@ pub fn decode_udp(msg: &[u8], table: &mut [u8], depth: usize) -> Decoded
     decode(Framing::Udp, msg, table, depth)
 }
 
-// Reads the first packet of `msg`, bytes of a TCP stream: a 4-byte length, and a packet from everything after it.
+// Reads the first packet of `msg`, bytes of a TCP stream. In edition 1 a packet is read from everything after its length; in edition 2 its
+// length cuts it, and must leave nothing.
 //
-// Ruled out: the packet cut at its length; Waiting by a length that is compared with what follows the prefix.
-pub fn decode_tcp(msg: &[u8], table: &mut [u8], depth: usize) -> Decoded
-    ensures { λ r. ⌜ Decodes tcp (now (msg .entry)) (now (table .entry)) depth r (now (table .exit)) ⌝ }
+// Ruled out: in edition 1 the packet cut at its length, and Waiting by a length that is compared with what follows the prefix; in edition 2
+// a packet that reads past its frame, and 21 for three bytes, which wait.
+pub fn decode_tcp(edition: Edition, msg: &[u8], table: &mut [u8], depth: usize) -> Decoded
+    ensures { λ r. ⌜ Decodes (ruleOf (Tcp edition) depth) (now (msg .entry)) (now (table .entry)) depth r (now (table .exit)) ⌝ }
 {
-    decode(Framing::Tcp, msg, table, depth)
+    decode(Framing::Tcp(edition), msg, table, depth)
 }
 
-// Reads the packets of `msg`, bytes of a TCP stream, one after another, until nothing is left or one waits.
+// Reads the packets of `msg`, bytes of a TCP stream, one after another, until nothing is left or one waits. In edition 1 a refused frame
+// refuses the call; in edition 2 it ends the list, and the answer says where and why.
 //
-// Ruled out: the first packet repeated; 9 of an early packet where a later one is refused for any of 2 to 8.
-pub fn decode_tcp_vec(msg: &[u8], table: &mut [u8], depth: usize) -> Decoded
-    ensures { λ r. ⌜ Decodes tcpVec (now (msg .entry)) (now (table .entry)) depth r (now (table .exit)) ⌝ }
+// Ruled out: the first packet repeated; in edition 1, 9 of an early packet where a later one is refused for any of 2 to 8; in edition 2 the
+// packets before a refused frame kept back, and a table that a full one has changed.
+pub fn decode_tcp_vec(edition: Edition, msg: &[u8], table: &mut [u8], depth: usize) -> Decoded
+    ensures { λ r. ⌜ Decodes (ruleOf (TcpVec edition) depth) (now (msg .entry)) (now (table .entry)) depth r (now (table .exit)) ⌝ }
 {
-    decode(Framing::TcpVec, msg, table, depth)
+    decode(Framing::TcpVec(edition), msg, table, depth)
 }

@@ -8,7 +8,7 @@ use Rattle.refusal.specs.declared.Refusal.{Refusal}
 use Rattle.wire.specs.Limits.{deepest}
 use Rattle.node.specs.Forest.{Forest}
 use Rattle.node.specs.declared.record.Item.{Item}
-use Rattle.totals.specs.Framing.{udp}
+use Rattle.framing.specs.Framing.{udp}
 use Rattle.answering.specs.Limits.{Decodes}
 use Rattle.answering.specs.declared.Decoded.{Decoded}
 use Rattle.writers.specs.Osc.{writePacket}
@@ -27,7 +27,8 @@ module _ (t : List ℕ) (count : ℕ) (source out : List ℕ) {e : Encoded} {out
       → length (writePacket source item inside) ≤ length out
       → e ≡ Written (length (writePacket source item inside))
   all-written {item} {inside} p h =
-      ap (λ (o : Outcome). o .answer) (outcome-is unframed (p .formed) enc) ∙ written-all source out item inside (p .shallow) (p .fits) h
+      ap (λ (o : Outcome). o .answer) (outcome-is unframed (p .formed) enc)
+      ∙ written-all unframed source out item inside (p .shallow) (p .fits) h
 
   -- `encode` with room does not refuse a playable table, so what comes back then is not spoken of
   pub not-refused : {x : Refusal} {r : Decoded} (back back' : List ℕ) → e ≡ Refused x → Returns t count source out back r out' back'

@@ -2,12 +2,13 @@
 // theorems are about the calls and not about a copy of their contracts: where a call's own contract no longer gives `Meets`, the function
 // over it is refused.
 use decoder::Decoded;
+use edition::Edition;
 use encoder::Encoded;
 use values::look::Looked;
 use values::look::Started;
 use values::value::OscType;
 use wire::Padded;
-ghost use Rattle.totals.specs.declared.Framing.the-variants.{Udp, Tcp, TcpVec};
+ghost use Rattle.framing.specs.declared.Framing.the-variants.{Udp, Tcp, TcpVec};
 ghost use Rattle.answers.specs.Calls.{Meets, decode, encode, encode-tcp, encode-string, pad, look, start-of, text-of};
 
 fn decode_udp(msg: &[u8], table: &mut [u8], depth: usize) -> Decoded
@@ -16,17 +17,18 @@ fn decode_udp(msg: &[u8], table: &mut [u8], depth: usize) -> Decoded
     decoder::decode_udp(msg, table, depth)
 }
 
-fn decode_tcp(msg: &[u8], table: &mut [u8], depth: usize) -> Decoded
-    ensures { λ r. ⌜ Meets (decode Tcp (now (msg .entry)) (now (table .entry)) depth) (record { answer = r; lent = now (table .exit) }) ⌝ }
-{
-    decoder::decode_tcp(msg, table, depth)
-}
-
-fn decode_tcp_vec(msg: &[u8], table: &mut [u8], depth: usize) -> Decoded
-    ensures { λ r. ⌜ Meets (decode TcpVec (now (msg .entry)) (now (table .entry)) depth)
+fn decode_tcp(edition: Edition, msg: &[u8], table: &mut [u8], depth: usize) -> Decoded
+    ensures { λ r. ⌜ Meets (decode (Tcp edition) (now (msg .entry)) (now (table .entry)) depth)
         (record { answer = r; lent = now (table .exit) }) ⌝ }
 {
-    decoder::decode_tcp_vec(msg, table, depth)
+    decoder::decode_tcp(edition, msg, table, depth)
+}
+
+fn decode_tcp_vec(edition: Edition, msg: &[u8], table: &mut [u8], depth: usize) -> Decoded
+    ensures { λ r. ⌜ Meets (decode (TcpVec edition) (now (msg .entry)) (now (table .entry)) depth)
+        (record { answer = r; lent = now (table .exit) }) ⌝ }
+{
+    decoder::decode_tcp_vec(edition, msg, table, depth)
 }
 
 fn encode(table: &[u8], count: usize, source: &[u8], out: &mut [u8]) -> Encoded
@@ -36,11 +38,17 @@ fn encode(table: &[u8], count: usize, source: &[u8], out: &mut [u8]) -> Encoded
     encoder::encode(table, count, source, out)
 }
 
-fn encode_tcp(table: &[u8], count: usize, source: &[u8], out: &mut [u8]) -> Encoded
-    ensures { λ r. ⌜ Meets (encode-tcp (now (table .entry)) count (now (source .entry)) (now (out .entry)))
+fn encode_tcp(
+    edition: Edition,
+    table: &[u8],
+    count: usize,
+    source: &[u8],
+    out: &mut [u8],
+) -> Encoded
+    ensures { λ r. ⌜ Meets (encode-tcp edition (now (table .entry)) count (now (source .entry)) (now (out .entry)))
         (record { answer = r; lent = now (out .exit) }) ⌝ }
 {
-    encoder::encode_tcp(table, count, source, out)
+    encoder::encode_tcp(edition, table, count, source, out)
 }
 
 fn encode_string(text: &[u8], out: &mut [u8]) -> Encoded

@@ -27,7 +27,9 @@ use Rattle.table.proofs.Spanned.{spans-size, spans-unique}
 use Rattle.table.proofs.Theorem.{formed-tree}
 use Rattle.strings.specs.Atomic.{oscString}
 use Rattle.writers.specs.Osc.{writeElement}
-use Rattle.encoder.specs.Outcome.{Outcome, refuse, bytesOutcome, unframed, prefixed, treeOutcome, stringOutcome}
+use Rattle.encoder.specs.Outcome.{Outcome, refuse, bytesOutcome, unframed, lengthBefore, framedBy, treeOutcome}
+use Rattle.encoder.specs.Outcome.{stringOutcome}
+use Rattle.edition.specs.declared.Edition.{Edition}
 use Rattle.encoder.specs.Outcome.{Encodes, malformed, formed}
 use Rattle.writers.specs.CodeWriters.{packetAt, Ready, WritesPacket, longestElement}
 use Rattle.survey.specs.CodeSurvey.{ShallowTree, Surveys}
@@ -202,10 +204,10 @@ Keeps frame = (kind : ℕ) (bs : List ℕ) → length bs ≤ length (frame kind 
 pub unframed-keeps : Keeps unframed
 unframed-keeps kind bs = omega arith
 
--- nor does that of `encode_tcp`
-pub prefixed-keeps : Keeps prefixed
-prefixed-keeps kind bs =
-    by-test (λ (xs : List ℕ). length bs ≤ length xs) (eqb kind messageKind) (λ _. simp length-append (omega arith)) (λ _. omega arith)
+-- nor does that of `encode_tcp`, in either edition
+pub framed-keeps : (edition : Edition) → Keeps (framedBy edition)
+framed-keeps edition kind bs =
+    by-test (λ (xs : List ℕ). length bs ≤ length xs) (lengthBefore edition kind) (λ _. simp length-append (omega arith)) (λ _. omega arith)
 
 module _ (frame : ℕ → List ℕ → List ℕ) (k : Keeps frame) (t : List ℕ) (count : ℕ) (source out : List ℕ) where
   -- a packet over the limit is refusal 1, whatever stands before it
@@ -264,15 +266,20 @@ module _ {t : List ℕ} {count : ℕ} {source : List ℕ} {n : ℕ} (out : List 
   pub root-read : 0 < capacity t
   root-read = omega (arith, w .sized .table, spans-size t 1 (endAt t 0) (w .sized .inside) (w .sized .spans))
 
-  module _ {kind : ℕ} (e : kind ≡ kindAt t 0) {x : Outcome} where
-    -- `encode_tcp` writes a length before a message
-    pub encoded-message : kind ≡ messageKind
+  module _ (edition : Edition) {kind : ℕ} (e : kind ≡ kindAt t 0) {x : Outcome} {before : Bool}
+      (b : before ≡ lengthBefore edition kind) where
+    -- `encode_tcp` writes a length where one stands before the packet
+    pub encoded-framed : before ≡ true
         → ((F : Forest) → Spans t 1 (endAt t 0) F → x ≡ bytesOutcome (writeElement (packetAt source t 0 F)) out)
-        → Encodes prefixed t count source out x
-    encoded-message y f = framed prefixed (rw (eq-eqb (kindAt t 0) messageKind (sym e ∙ y)) (f (w .inside) inside-spans))
+        → Encodes (framedBy edition) t count source out x
+    encoded-framed y f =
+        let is : lengthBefore edition (kindAt t 0) ≡ true = ap (lengthBefore edition) (sym e) ∙ sym b ∙ y in
+        framed (framedBy edition) (rw is (f (w .inside) inside-spans))
 
-    -- and none before a bundle
-    pub encoded-bundle : (kind ≡ messageKind → ⊥)
+    -- and none elsewhere
+    pub encoded-bare : before ≡ false
         → ((F : Forest) → Spans t 1 (endAt t 0) F → x ≡ bytesOutcome (packetAt source t 0 F) out)
-        → Encodes prefixed t count source out x
-    encoded-bundle m f = framed prefixed (rw (ne-eqb (kindAt t 0) messageKind (rw e at m)) (f (w .inside) inside-spans))
+        → Encodes (framedBy edition) t count source out x
+    encoded-bare y f =
+        let is : lengthBefore edition (kindAt t 0) ≡ false = ap (lengthBefore edition) (sym e) ∙ sym b ∙ y in
+        framed (framedBy edition) (rw is (f (w .inside) inside-spans))

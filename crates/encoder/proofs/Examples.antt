@@ -11,6 +11,7 @@ use Rattle.node.specs.Forest.{Forest, nil, node, size, depth}
 use Rattle.node.specs.Tags.{arrayKind, sortOf, classOf}
 use Rattle.strings.specs.Atomic.{oscString, oscBlob}
 use Rattle.writers.specs.Osc.{writeData, writeTags, writeMessage, writeBundle, writeElements, writePacket}
+use Rattle.edition.specs.declared.Edition.the-variants.{Rosc, Standard}
 use Rattle.encoder.specs.Outcome.{malformed, formed, refuse, bytesOutcome, treeOutcome, stringOutcome}
 use Rattle.refusal.specs.declared.Refusal.the-variants.{TooDeep, BadTable}
 use Rattle.node.specs.Rules.{ownRules}
@@ -38,8 +39,16 @@ nested =
 stream : 16 % 4 ≡ 0
 unfolding depth bytes sortOf classOf oscString writeData writeTags writeMessage writePacket bytesOutcome treeOutcome
 stream =
-    encode-tcp-fours (example.table 2 2) 2 example.packet (replicate 16 0) _ (formed example.message example.five example.p3-tree refl) 16
-    refl
+    encode-tcp-fours Rosc (example.table 2 2) 2 example.packet (replicate 16 0) _
+    (formed example.message example.five example.p3-tree refl) 16 refl
+
+-- the bundles behind their length, in edition 2: 80 bytes
+standard : 80 % 4 ≡ 0
+unfolding depth bytes sortOf classOf oscString oscBlob writeData writeTags writeMessage writeBundle writeElements writePacket bytesOutcome
+    treeOutcome
+standard =
+    encode-tcp-fours Standard example.nested-table 7 example.nested (replicate 80 0) _
+    (formed (example.once 0) (example.within 0) example.nested-tree refl) 80 refl
 
 -- the text é: 4 bytes
 text : 4 % 4 ≡ 0
@@ -79,4 +88,4 @@ deep-unsure =
 -- so both encoders refuse them, here with 9
 deep-refused : NoOutcome (recordsOf 0 deep) 66 example.packet (replicate 16 0) (refuse TooDeep (replicate 16 0))
 unfolding depth treeOutcome
-deep-refused = encode-tcp-no deep-unsure (omega arith) (formed example.message (arrays 65) deep-tree refl)
+deep-refused = encode-tcp-no deep-unsure (omega arith) Rosc (formed example.message (arrays 65) deep-tree refl)

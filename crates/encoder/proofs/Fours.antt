@@ -13,7 +13,8 @@ use Rattle.utf8.specs.Derive.{utf8}
 use Rattle.node.specs.Forest.{Forest, nil, node, depth}
 use Rattle.strings.specs.Atomic.{oscString}
 use Rattle.writers.specs.Osc.{writePacket}
-use Rattle.encoder.specs.Outcome.{Outcome, refuse, bytesOutcome, unframed, prefixed, treeOutcome, stringOutcome}
+use Rattle.edition.specs.declared.Edition.{Edition}
+use Rattle.encoder.specs.Outcome.{Outcome, refuse, bytesOutcome, unframed, lengthBefore, framedBy, treeOutcome, stringOutcome}
 use Rattle.encoder.specs.Outcome.{Encodes, malformed, formed, InFours}
 use Rattle.encoder.specs.declared.Encoded.the-variants.{Written}
 use Rattle.strings.proofs.Lengths.{string-even}
@@ -24,11 +25,11 @@ use Rattle.node.specs.declared.record.Item.{Item}
 use Rattle.wire.proofs.Choices.{by-test}
 
 -- what `encode_tcp` writes is a multiple of four bytes long
-pub prefixed-even : (source : List ℕ) (item : Item) (inside : Forest)
-    → length (prefixed (item .kind) (writePacket source item inside)) % 4 ≡ 0
-prefixed-even source item inside =
+pub framed-even : (edition : Edition) (source : List ℕ) (item : Item) (inside : Forest)
+    → length (framedBy edition (item .kind) (writePacket source item inside)) % 4 ≡ 0
+framed-even edition source item inside =
     let e = packet-even source item inside in
-    by-test (λ (bs : List ℕ). length bs % 4 ≡ 0) (eqb (item .kind) messageKind) (λ _. element-even (writePacket source item inside) e)
+    by-test (λ (bs : List ℕ). length bs % 4 ≡ 0) (lengthBefore edition (item .kind)) (λ _. element-even (writePacket source item inside) e)
     (λ _. e)
 
 refuse-even : (x : Refusal) (out : List ℕ) → InFours (refuse x out)
@@ -65,9 +66,9 @@ pub encode-fours : (t : List ℕ) (count : ℕ) (source out : List ℕ) (r : Out
 encode-fours = encodes-even unframed packet-even
 
 -- `encode_tcp` answers a multiple of four
-pub encode-tcp-fours : (t : List ℕ) (count : ℕ) (source out : List ℕ) (r : Outcome) → Encodes prefixed t count source out r
-    → InFours r
-encode-tcp-fours = encodes-even prefixed prefixed-even
+pub encode-tcp-fours : (edition : Edition) (t : List ℕ) (count : ℕ) (source out : List ℕ) (r : Outcome)
+    → Encodes (framedBy edition) t count source out r → InFours r
+encode-tcp-fours edition = encodes-even (framedBy edition) (framed-even edition)
 
 -- `encode_string` answers a multiple of four
 pub encode-string-fours : (text out : List ℕ) → InFours (stringOutcome text out)

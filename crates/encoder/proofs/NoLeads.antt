@@ -15,10 +15,11 @@ use Rattle.node.specs.Records.{itemAt}
 use Rattle.table.specs.Tree.{Spans, IsTree}
 use Rattle.writers.specs.CodeWriters.{longestElement}
 use Rattle.survey.specs.CodeSurvey.{ShallowTree, Surveys}
-use Rattle.encoder.specs.Outcome.{Outcome, unframed, prefixed, treeOutcome, Encodes, malformed, formed}
+use Rattle.edition.specs.declared.Edition.{Edition}
+use Rattle.encoder.specs.Outcome.{Outcome, unframed, framedBy, treeOutcome, Encodes, malformed, formed}
 use Rattle.encoder.specs.CodePrepare.{AfterNo, NoOutcome}
 use Rattle.encoder.specs.CodePrepare as prepare
-use Rattle.encoder.proofs.Answers.{Keeps, unframed-keeps, prefixed-keeps, outcome-deep, outcome-long, survey-no}
+use Rattle.encoder.proofs.Answers.{Keeps, unframed-keeps, framed-keeps, outcome-deep, outcome-long, survey-no}
 
 -- its number is one of three
 pub no-number : {t : List ℕ} {count : ℕ} {source : List ℕ} {x : Refusal} → AfterNo t count source x
@@ -62,5 +63,5 @@ module _ {t : List ℕ} {count : ℕ} {source out : List ℕ} {n : ℕ} {r : Out
   encode-no = no-leads unframed unframed-keeps w h
 
   -- and so does `encode_tcp`
-  pub encode-tcp-no : Encodes prefixed t count source out r → NoOutcome t count source out r
-  encode-tcp-no = no-leads prefixed prefixed-keeps w h
+  pub encode-tcp-no : (edition : Edition) → Encodes (framedBy edition) t count source out r → NoOutcome t count source out r
+  encode-tcp-no edition = no-leads (framedBy edition) (framed-keeps edition) w h

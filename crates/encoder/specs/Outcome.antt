@@ -1,10 +1,13 @@
--- What the encoders answer and leave in the output: document 01, "Refusal numbers" (the encode order) and "How bytes are written".
+-- What the encoders answer and leave in the output: document 01, "Refusal numbers" (the encode order) and "How bytes are written"; document
+-- 02, Ticket 1, for edition 2.
 use mathlib.Core.Path.{_≡_}
-use mathlib.Core.Bool.{cond}
+use mathlib.Core.Bool.{Bool, true, cond}
 use mathlib.Core.List.{List, [], _∷_, _++_}
 use Prim.Native.Nat.{ℕ, _%_}
 use lib.Dec.{eqb, leb}
 use lib.ListN.{length, drop}
+use Rattle.edition.specs.declared.Edition.{Edition}
+use Rattle.edition.specs.declared.Edition.the-variants.{Rosc, Standard}
 use Rattle.refusal.specs.declared.Refusal.{Refusal}
 use Rattle.refusal.specs.declared.Refusal.the-variants.{TooLong, Unreadable, TooDeep, BadTable, OutputShort}
 use Rattle.refusal.specs.declared.Fault.the-variants.{NotUtf8}
@@ -49,9 +52,18 @@ bytesOutcome bs out =
 abbrev pub unframed : ℕ → List ℕ → List ℕ
 unframed kind bs = bs
 
--- as `encode_tcp` frames it: a length before a message and none before a bundle
+-- whether a length stands before a packet of this kind: in edition 1 before a message and not before a bundle, in edition 2 before both
+abbrev pub lengthBefore : Edition → ℕ → Bool
+lengthBefore Rosc kind = eqb kind messageKind
+lengthBefore Standard kind = true
+
+-- as `encode_tcp` frames it in an edition
+abbrev pub framedBy : Edition → ℕ → List ℕ → List ℕ
+framedBy edition kind bs = cond (lengthBefore edition kind) (writeElement bs) bs
+
+-- as `encode_tcp` frames it in edition 1
 abbrev pub prefixed : ℕ → List ℕ → List ℕ
-prefixed kind bs = cond (eqb kind messageKind) (writeElement bs) bs
+prefixed = framedBy Rosc
 
 -- what the encoder gives for a tree: 9 (limit 64) before 1 and 12
 unfoldable pub treeOutcome : (ℕ → List ℕ → List ℕ) → List ℕ → List ℕ → Item → Forest → Outcome

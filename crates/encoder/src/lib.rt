@@ -1,4 +1,5 @@
 // Packets back to bytes (encoder.rs).
+pub use edition::Edition;
 use node::record::kind_at;
 use node::tags::MESSAGE;
 use refusal::Fault;
@@ -14,8 +15,9 @@ use wire::LONGEST_FRAMED;
 use wire::put_u32;
 use writers::LONGEST_ELEMENT;
 use writers::encode_packet;
+ghost use mathlib.Core.Path.{_≡_};
 ghost use Rattle.writers.specs.Osc.{writeElement};
-ghost use Rattle.encoder.specs.Outcome.{unframed, prefixed, Encodes, EncodesString};
+ghost use Rattle.encoder.specs.Outcome.{unframed, lengthBefore, framedBy, Encodes, EncodesString};
 ghost use Rattle.encoder.specs.CodePrepare.{Unsure, AfterNo, Writable, Writes, Prepares};
 
 // The longest text that is not too long with its 1 to 4 NULs.
@@ -72,8 +74,8 @@ fn encode_into(table: &[u8], source: &[u8], n: usize, out: &mut [u8]) -> Encoded
     Encoded::Written(encode_packet(table, 0, source, out))
 }
 
-// Writes the message of a table, which is n bytes long, after its length: 1, then 12.
-fn encode_message_tcp(table: &[u8], source: &[u8], n: usize, out: &mut [u8]) -> Encoded
+// Writes the packet of a table, which is n bytes long, after its length: 1, then 12.
+fn encode_framed(table: &[u8], source: &[u8], n: usize, out: &mut [u8]) -> Encoded
     requires { ⌜ Writable (now source) (now table) n ⌝ }
     ensures { λ r. ⌜ Writes writeElement (now (source .entry)) (now (table .entry)) (now (out .entry))
         (record { answer = r; out = now (out .exit) }) ⌝ }
@@ -102,22 +104,39 @@ pub fn encode(table: &[u8], count: usize, source: &[u8], out: &mut [u8]) -> Enco
     }
 }
 
-// The same for a stream: a length stands before a message and, as in the Rust, none before a bundle.
+// The same for a stream: in edition 1 a length stands before a message and, as in the Rust, none before a bundle; in edition 2 one stands
+// before both.
 //
-// Ruled out: a length before a bundle; a length that counts its own four bytes.
-pub fn encode_tcp(table: &[u8], count: usize, source: &[u8], out: &mut [u8]) -> Encoded
-    ensures { λ r. ⌜ Encodes prefixed (now (table .entry)) count (now (source .entry)) (now (out .entry))
+// Ruled out: in edition 1 a length before a bundle, in edition 2 a bundle without one; a length that counts its own four bytes.
+pub fn encode_tcp(
+    edition: Edition,
+    table: &[u8],
+    count: usize,
+    source: &[u8],
+    out: &mut [u8],
+) -> Encoded
+    ensures { λ r. ⌜ Encodes (framedBy edition) (now (table .entry)) count (now (source .entry)) (now (out .entry))
         (record { answer = r; out = now (out .exit) }) ⌝ }
 {
     match prepare(table, count, source) {
         Prepared::Refused(refusal) => Encoded::Refused(refusal),
         Prepared::Length(n) => {
-            if kind_at(table, 0) == MESSAGE {
-                encode_message_tcp(table, source, n, out)
+            if has_length(edition, kind_at(table, 0)) {
+                encode_framed(table, source, n, out)
             } else {
                 encode_into(table, source, n, out)
             }
         }
+    }
+}
+
+// Whether a length stands before a packet of this kind.
+fn has_length(edition: Edition, kind: u8) -> bool
+    ensures { λ r. ⌜ r ≡ lengthBefore edition kind ⌝ }
+{
+    match edition {
+        Edition::Rosc => kind == MESSAGE,
+        Edition::Standard => true,
     }
 }
 

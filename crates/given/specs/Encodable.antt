@@ -9,11 +9,13 @@ use Rattle.node.specs.Forest.{Forest, nil, node}
 use Rattle.node.specs.Tags.{messageKind, bundleKind, among, isScalar}
 use Rattle.node.specs.Records.{recordSize, mostRecords, zerosAt, itemAt}
 use Rattle.node.specs.declared.record.Item.{Item}
-use Rattle.totals.specs.Framing.{Whole, trees}
+use Rattle.framing.specs.Framing.{trees, ruleOf}
+use Rattle.framing.specs.declared.Framing.{Framing}
 use Rattle.answering.specs.Limits.{forestOf}
 use Rattle.answering.specs.declared.Decoded.the-variants.{Packets}
 use Rattle.table.specs.Formed.{WellFormed}
 use Rattle.table.specs.Tree.{Spans, Obeys}
+use Rattle.answers.specs.Words.{Gives}
 use Rattle.answers.specs.Demands.{tableAfter, answerTo}
 use Rattle.osc10.specs.Words.{Bytes, bytesNamed}
 
@@ -39,17 +41,17 @@ pub record AreTrees (t : List ℕ) (count : ℕ) (source : List ℕ) (f : Forest
   pub zeros : (i : ℕ) → i < count → zerosAt t i ≡ 0
   pub reliable : (i : ℕ) → i < count → Reliable source (itemAt t i)
 
--- every answer with packets, one or a list of any length, leaves such records over the call's input
-abbrev pub GivesTrees : (List ℕ → Whole) → Type 0
-GivesTrees rule =
-    (msg : List ℕ) → Bytes msg → (limit : ℕ) (table : List ℕ) (count left dirty : ℕ)
-    → answerTo rule limit msg table ≡ Packets count left dirty
-    → AreTrees (tableAfter rule limit msg table) count msg (forestOf (rule msg))
+-- every answer with records, of one packet or of a list of any length, leaves such records over the call's input
+abbrev pub GivesTrees : Framing → Type 0
+GivesTrees framing =
+    (msg : List ℕ) → Bytes msg → (limit : ℕ) (table : List ℕ) (count dirty : ℕ)
+    → Gives (answerTo (ruleOf framing limit) limit msg table) count dirty
+    → AreTrees (tableAfter (ruleOf framing limit) limit msg table) count msg (forestOf (ruleOf framing limit msg))
 
 -- ---- what is decoded can be encoded: a table answered for one packet is well formed over the call's input
-abbrev pub Encodable : (List ℕ → Whole) → Type 0
-Encodable rule =
+abbrev pub Encodable : Framing → Type 0
+Encodable framing =
     (msg : List ℕ) → Bytes msg → (limit : ℕ) (table : List ℕ) (item : Item) (inside : Forest) (left count dirty : ℕ)
-    → rule msg ≡ trees (node item inside nil) left
-    → answerTo rule limit msg table ≡ Packets count left dirty
-    → WellFormed (tableAfter rule limit msg table) count msg
+    → ruleOf framing limit msg ≡ trees (node item inside nil) left
+    → answerTo (ruleOf framing limit) limit msg table ≡ Packets count left dirty
+    → WellFormed (tableAfter (ruleOf framing limit) limit msg table) count msg

@@ -7,8 +7,9 @@ use lib.ListN.{length}
 use Rattle.node.specs.Tags.{messageKind, among}
 use Rattle.node.specs.Records.{startAt, itemAt}
 use Rattle.node.specs.declared.record.Item.{Item}
-use Rattle.totals.specs.Framing.{Whole}
-use Rattle.answering.specs.declared.Decoded.the-variants.{Packets}
+use Rattle.framing.specs.Framing.{ruleOf}
+use Rattle.framing.specs.declared.Framing.{Framing}
+use Rattle.answers.specs.Words.{Gives}
 use Rattle.answers.specs.Demands.{answerTo, tableAfter}
 use Rattle.osc10.specs.Words.{Bytes}
 
@@ -23,9 +24,9 @@ pub record StartsHold (t : List ℕ) (count n : ℕ) : Type 0 where
   pub begins : (i : ℕ) → i < count → OwnStart (itemAt t i)
   pub rise : (i j : ℕ) → i ≤ j → j < count → startAt t i ≤ startAt t j
 
--- so are those of every answer with packets, one or a list of any length: "the inspector highlights bytes"
-abbrev pub GivesStarts : (List ℕ → Whole) → Type 0
-GivesStarts rule =
-    (msg : List ℕ) → Bytes msg → (limit : ℕ) (table : List ℕ) (count left dirty : ℕ)
-    → answerTo rule limit msg table ≡ Packets count left dirty
-    → StartsHold (tableAfter rule limit msg table) count (length msg)
+-- so are those of every answer with records, of one packet or of a list of any length: "the inspector highlights bytes"
+abbrev pub GivesStarts : Framing → Type 0
+GivesStarts framing =
+    (msg : List ℕ) → Bytes msg → (limit : ℕ) (table : List ℕ) (count dirty : ℕ)
+    → Gives (answerTo (ruleOf framing limit) limit msg table) count dirty
+    → StartsHold (tableAfter (ruleOf framing limit) limit msg table) count (length msg)

@@ -2,25 +2,28 @@
 use mathlib.Core.Path.{_≡_, refl, ap, sym, _∙_, subst}
 use mathlib.Core.Bool.{true}
 use mathlib.Core.List.{List, [], _∷_}
-use Prim.Native.Nat.{ℕ, _+_, _-_, _<_, _≤_}
+use Prim.Native.Nat.{ℕ, _+_, _-_, _%_, _<_, _≤_}
 use native.Mathlib.Nat.{sub-zero}
 use native.Mathlib.Omega.{arith}
-use borrow.Author.Tests.{le-leb, lt-leb}
-use lib.Dec.{leb}
+use borrow.Author.Tests.{le-leb, lt-leb, eq-eqb, ne-eqb}
+use lib.Dec.{eqb, leb}
 use lib.ListN.{length, getD, take, drop, length-drop, length-take}
+use Rattle.wire.specs.Limits.{longestFramed}
 use Rattle.wire.specs.Number.{number}
-use Rattle.wire.proofs.Choices.{by-test, by-le}
+use Rattle.wire.proofs.Choices.{by-test, by-eq, by-le}
 use Rattle.wire.proofs.Parts.{tail}
 use Rattle.utf8.specs.Lead.{leadOf}
 use Rattle.utf8.specs.Derive.{utf8}
 use Rattle.utf8.proofs.Chars.{lead-within}
 use Rattle.node.specs.Tags.{bundleKind}
 use Rattle.node.specs.declared.record.Item.{Item}
-use Rattle.heads.specs.Heads.{tagsIn, sizeOf, prefixOf, bundleItem}
+use Rattle.heads.specs.Heads.{tagsIn, sizeOf, prefixOf, lengthIn, lengthOf, bundleItem}
 use Rattle.heads.specs.declared.ElementSize.{ElementSize}
 use Rattle.heads.specs.declared.ElementSize.the-variants.{Holds, RunsOut}
 use Rattle.heads.specs.declared.Prefix.{Prefix}
 use Rattle.heads.specs.declared.Prefix.the-variants as prefix
+use Rattle.heads.specs.declared.Length.{Length}
+use Rattle.heads.specs.declared.Length.the-variants.{Cuts, Waiting, Over, Odd}
 
 -- a bundle's own numbers are its time tag and its start
 pub time-tag : {a b : ℕ} (start : ℕ) (l : List ℕ) → a ≡ number 4 l → b ≡ number 4 (drop 4 l)
@@ -136,3 +139,61 @@ module _ (l : List ℕ) where
   pub prefix-ready : {n : ℕ} → 4 ≤ length l → n ≡ number 4 l → n ≤ length l → prefix.Ready ≡ prefixOf l
   unfolding prefixOf
   prefix-ready {n} h e g = rw (prefixOf, le-leb 4 (length l) h, ← e, le-leb n (length l) g)
+
+-- ---- the length of a frame of edition 2
+
+-- a frame that is all there lies in m bytes, and is not too long
+pub record CutIn (m n : ℕ) : Type 0 where
+  pub fits : 4 + n ≤ m
+  pub short : n ≤ longestFramed
+  pub fours : n % 4 ≡ 0
+
+abbrev pub LengthIn : ℕ → Length → Type 0
+LengthIn m (Cuts n) = CutIn m n
+LengthIn m Waiting = Unit {0}
+LengthIn m Over = 4 ≤ m
+LengthIn m Odd = 4 ≤ m
+
+-- a frame of edition 2 lies in what it is read from
+pub length-within : (l : List ℕ) → LengthIn (length l) (lengthOf l)
+unfolding lengthOf
+length-within l =
+    by-le (LengthIn (length l)) 4 (length l)
+    (λ h. by-le (LengthIn (length l)) (number 4 l) longestFramed
+    (λ g. by-eq (LengthIn (length l)) (number 4 l % 4) 0
+    (λ e. by-le (LengthIn (length l)) (number 4 l) (length l - 4) (λ f. record { fits = omega arith; short = g; fours = e }) (λ f. tt))
+    (λ e. h))
+    (λ g. h))
+    (λ h. tt)
+
+-- so many bytes follow the prefix
+pub length-in : {n : ℕ} (l : List ℕ) → Cuts n ≡ lengthOf l → CutIn (length l) n
+length-in l e = subst (LengthIn (length l)) (sym e) (length-within l)
+
+module _ (l : List ℕ) where
+  -- fewer than 4 bytes wait
+  pub length-short : length l < 4 → Waiting ≡ lengthOf l
+  unfolding lengthOf
+  length-short h = rw (lengthOf, lt-leb 4 (length l) h)
+
+  -- from 4 bytes on the length is judged
+  pub length-known : {n : ℕ} {r : Length} → 4 ≤ length l → n ≡ number 4 l → r ≡ lengthIn (length l - 4) n → r ≡ lengthOf l
+  unfolding lengthOf
+  length-known {n} {r} h e w = rw (lengthOf, le-leb 4 (length l) h, ← e) w
+
+module _ (there : ℕ) {n : ℕ} where
+  -- a length over the limit
+  pub length-over : longestFramed < n → Over ≡ lengthIn there n
+  length-over h = rw (lt-leb n longestFramed h)
+
+  -- a length that is no multiple of 4
+  pub length-odd : n ≤ longestFramed → (n % 4 ≡ 0 → ⊥) → Odd ≡ lengthIn there n
+  length-odd h e = rw (le-leb n longestFramed h, ne-eqb (n % 4) 0 e)
+
+  -- a length beyond what follows it
+  pub length-past : n ≤ longestFramed → n % 4 ≡ 0 → there < n → Waiting ≡ lengthIn there n
+  length-past h e g = rw (le-leb n longestFramed h, eq-eqb (n % 4) 0 e, lt-leb n there g)
+
+  -- a length within what follows it
+  pub length-cuts : n ≤ longestFramed → n % 4 ≡ 0 → n ≤ there → Cuts n ≡ lengthIn there n
+  length-cuts h e g = rw (le-leb n longestFramed h, eq-eqb (n % 4) 0 e, le-leb n there g)

@@ -9,7 +9,7 @@ ghost use Prim.Native.Nat.{_≤_};
 ghost use lib.ListN.{length};
 ghost use Rattle.wire.specs.Limits.{longest};
 ghost use Rattle.utf8.specs.Derive.{utf8};
-ghost use Rattle.heads.specs.Heads.{tagsIn, sizeOf, prefixOf, messageItem, bundleItem};
+ghost use Rattle.heads.specs.Heads.{tagsIn, sizeOf, prefixOf, lengthOf, messageItem, bundleItem};
 
 // The size of an element.
 pub enum ElementSize {
@@ -27,6 +27,18 @@ pub enum Prefix {
     Waiting,
     // There are fewer than 4 bytes.
     RunsOut,
+}
+
+// The prefix of a frame of edition 2, whose length cuts the packet.
+pub enum Length {
+    // The frame is all there: so many bytes follow the prefix.
+    Cuts(usize),
+    // There are fewer than 4 bytes, or fewer follow the prefix than its length counts.
+    Waiting,
+    // The length is over 65,531.
+    Over,
+    // The length is no multiple of 4.
+    Odd,
 }
 
 // The tags of a type text: its first character is skipped, whatever it is. It is almost always a comma, so that is asked first.
@@ -75,6 +87,28 @@ pub fn read_prefix(input: &[u8]) -> Prefix
         return Prefix::Waiting;
     }
     Prefix::Ready
+}
+
+// The length of a frame of edition 2: what is wrong with it is told before there are bytes for it.
+//
+// Ruled out: Waiting for a length of 65,532, which no stream can hold; a length of 3 refused where there are 3 bytes.
+pub fn read_length(input: &[u8]) -> Length
+    ensures { λ r. ⌜ r ≡ lengthOf (now (input .entry)) ⌝ }
+{
+    if input.len() < 4 {
+        return Length::Waiting;
+    }
+    let n = be_u32(input, 0) as usize;
+    if wire::LONGEST_FRAMED < n {
+        return Length::Over;
+    }
+    if n % 4 != 0 {
+        return Length::Odd;
+    }
+    if input.len() - 4 < n {
+        return Length::Waiting;
+    }
+    Length::Cuts(n)
 }
 
 // The own numbers of a message whose address of `n` bytes stands at `offset`.

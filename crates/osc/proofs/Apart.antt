@@ -1,4 +1,4 @@
--- An answer is taken apart as include/osc.h does it: the three parts of a decoder's number with the two beside it, and the two of an
+-- An answer is taken apart as include/osc.h does it: the three parts of a decoder's number with the three beside it, and the two of an
 -- encoder's, are what was put into it. So an encoder's number tells one answer, and so does a decoder's (Once.antt): count 0 with the
 -- whole input left is Waiting where `decode_tcp` tells it, and no packets where `decode_tcp_vec` does.
 use mathlib.Core.Path.{sym, subst}
@@ -15,9 +15,11 @@ use Rattle.osc.proofs.Ended.{Ended, encodes-ended, string-ended}
 
 -- the parts of a decoder's number, and those beside it, are what was put into them
 pub decoded-apart : (n : ℕ) (answer : Decoded) → Fits n answer → Parts n answer (decodedNumber n answer) (moreNumber answer)
-decoded-apart n (decodes.Packets count left dirty) h = (omega arith, omega arith, omega arith, omega arith, omega arith)
-decoded-apart n decodes.Waiting h = (omega arith, omega arith, omega arith, omega arith, omega arith)
-decoded-apart n (decodes.Refused r) h = (omega arith, omega arith, omega arith, omega arith, omega arith)
+decoded-apart n (decodes.Packets count left dirty) h = (omega arith, omega arith, omega arith, omega arith, omega arith, omega arith)
+decoded-apart n decodes.Waiting h = (omega arith, omega arith, omega arith, omega arith, omega arith, omega arith)
+decoded-apart n (decodes.Refused r) h = (omega arith, omega arith, omega arith, omega arith, omega arith, omega arith)
+decoded-apart n (decodes.Stopped count left dirty r frame) h =
+    (omega arith, omega arith, omega arith, omega arith, omega arith, omega arith)
 
 -- ---- an encoder's number
 

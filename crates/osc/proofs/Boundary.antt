@@ -8,17 +8,19 @@ use native.Mathlib.Omega.{arith}
 use borrow.Author.Tests.{ne-eqb}
 use lib.Dec.{eqb, ltb}
 use lib.ListN.{length, getD, drop}
-use Rattle.refusal.specs.Refusal.{numberOf}
-use Rattle.refusal.specs.declared.Fault.{Fault}
+use Rattle.refusal.specs.Refusal.{numberOf, offsetOf}
 use Rattle.refusal.specs.declared.Field.the-variants.{Address, TypeText, Data, Padding, Head}
 use Rattle.refusal.specs.declared.Fault.the-variants.{Empty, Short, NotUtf8, BadStart, NotOpen, UnknownTag, NotScalar}
-use Rattle.refusal.specs.declared.Refusal.the-variants.{Unreadable}
+use Rattle.refusal.specs.declared.Refusal.{Refusal}
+use Rattle.refusal.specs.declared.Refusal.the-variants.{TooLong, Unreadable, TooDeep, TableFull, BadTable, OutputShort, DepthLimit}
+use Rattle.refusal.specs.declared.Refusal.the-variants.{PadOverflow, BytesLeft, OddLength}
 use Rattle.wire.specs.Limits.{longest}
 use Rattle.wire.specs.Pad.{padOf}
 use Rattle.wire.specs.declared.Padded.{Padded}
 use Rattle.wire.proofs.Choices.{by-test, by-le, is-or}
 use Rattle.wire.proofs.Numbers.{number-small}
 use Rattle.wire.proofs.Parts.{drop-small}
+use Rattle.node.specs.Tags.{among}
 use Rattle.node.specs.Rules.{ownRules}
 use Rattle.node.specs.Records.{recordStart, zerosAt, fieldAt, itemAt, capacity}
 use Rattle.values.specs.Value.{valueOf}
@@ -27,19 +29,24 @@ use Rattle.values.specs.declared.value.OscType.{OscType}
 use Rattle.values.specs.declared.value.OscType.the-variants as value
 use Rattle.values.specs.declared.look.Looked.{Looked}
 use Rattle.values.specs.declared.look.Started.{Started}
-use Rattle.totals.specs.Framing.{Whole, trees, waiting, refusal, ruleOf}
-use Rattle.answering.specs.Limits.{limited, decoded, forestOf, tabled}
-use Rattle.totals.specs.declared.Framing.{Framing}
+use Rattle.edition.specs.declared.Edition.the-variants.{Rosc, Standard}
+use Rattle.framing.specs.Framing.{ruleOf}
+use Rattle.answering.specs.Limits.{orderOf, stopsBy, forestOf, tabled}
+use Rattle.framing.specs.declared.Framing.{Framing}
+use Rattle.framing.specs.declared.Framing.the-variants.{Udp, Tcp, TcpVec}
 use Rattle.answering.specs.declared.Decoded.{Decoded}
 use Rattle.answering.specs.declared.Decoded.the-variants as decodes
-use Rattle.decoder.proofs.Chosen.{by-decoded, by-trees}
 use Rattle.encoder.specs.declared.Encoded.{Encoded}
 use Rattle.encoder.specs.declared.Encoded.the-variants as encodes
 use Rattle.osc.specs.Answers.{decodedNumber, moreNumber, Fits, encodedNumber, paddedNumber, kindOf, lookedNumber, startedNumber}
+use Rattle.osc.specs.Answers.{refusalIn}
 use Rattle.osc.specs.Boundary.{CCall, osc-decode, osc-encode, osc-encode-string, osc-pad, osc-look, osc-start, cLent, cRefusals}
-use Rattle.osc.specs.Boundary.{cRefused, CAnswered, Beside, CEnds, told-answer, told-refusal, EndsListed, ToldApart}
+use Rattle.osc.specs.Boundary.{cRefused, CAnswered, Beside, StopTold, CEnds, told-answer, told-refusal}
+use Rattle.osc.specs.Boundary.{told-stop, EndsListed, ToldApart, StopsApart, Answerable}
+use Rattle.osc.proofs.Apart.{decoded-apart}
 use Rattle.osc.proofs.Ended.{Ended, encodes-ended, string-ended}
 use Rattle.osc.proofs.Fits.{fits}
+use Rattle.osc.proofs.Once.{answerable}
 
 -- what is told and bytes that are left, by what they are
 ends-as : {c : CCall} {told told′ more more′ : ℕ} {after after′ : List ℕ} → told ≡ told′ → more ≡ more′ → after ≡ after′
@@ -56,40 +63,52 @@ beside n at h k = (omega arith, λ l. absurd (omega arith))
 
 -- ---- decoders
 
+-- beside a refusal stands the offset of its field, if it has one
+beside-of : (r : Refusal) → offsetOf r ≤ longest → Beside (numberOf r) (offsetOf r * 0x1_0000_0000)
+beside-of (Unreadable Empty) h = alone 2
+beside-of (Unreadable (Short Address at)) h = beside 17 at (omega arith) h
+beside-of (Unreadable (Short TypeText at)) h = beside 18 at (omega arith) h
+beside-of (Unreadable (Short Data at)) h = beside 19 at (omega arith) h
+beside-of (Unreadable (Short Padding at)) h = beside 20 at (omega arith) h
+beside-of (Unreadable (Short Head at)) h = beside 21 at (omega arith) h
+beside-of (Unreadable NotUtf8) h = alone 4
+beside-of (Unreadable BadStart) h = alone 5
+beside-of (Unreadable NotOpen) h = alone 6
+beside-of (Unreadable UnknownTag) h = alone 7
+beside-of (Unreadable NotScalar) h = alone 8
+beside-of TooLong h = alone 1
+beside-of TooDeep h = alone 9
+beside-of TableFull h = alone 10
+beside-of BadTable h = alone 11
+beside-of OutputShort h = alone 12
+beside-of DepthLimit h = alone 13
+beside-of PadOverflow h = alone 14
+beside-of BytesLeft h = alone 15
+beside-of OddLength h = alone 16
+
 module _ (framing : Framing) (msg table : List ℕ) (limit : ℕ) where
+  -- how a list is told that stops
+  stop-told : (count left dirty : ℕ) (r : Refusal) (frame : ℕ) → Fits (length msg) (decodes.Stopped count left dirty r frame)
+      → Answerable framing (length msg) (decodes.Stopped count left dirty r frame)
+      → StopTold framing (length msg) (decodedNumber (length msg) (decodes.Stopped count left dirty r frame))
+      (moreNumber (decodes.Stopped count left dirty r frame))
+  stop-told count left dirty r frame h a =
+      let p = decoded-apart (length msg) (decodes.Stopped count left dirty r frame) h in
+      record {
+        listed = subst (λ (n : ℕ). among n (stopsBy framing) ≡ true) (sym (p .0)) (a .0);
+        left = omega (arith, p .2, a .1);
+        from = omega (arith, p .2, p .5, a .2);
+        field = λ k. omega (arith, p .3, beside-of r (h .3) .1 (omega (arith, k, p .0)));
+      }
+
   -- how the call ends where this is the answer
-  abbrev Decoding : Decoded → Type 0
-  Decoding d =
-      Fits (length msg) d
+  decoding-ends : (d : Decoded) → Fits (length msg) d → Answerable framing (length msg) d
       → CEnds (osc-decode framing msg table limit) (decodedNumber (length msg) d) (moreNumber d)
-      (tabled d (forestOf (ruleOf framing msg)) table)
-
-  fault-ends : (k : Fault) → Decoding (decodes.Refused (Unreadable k))
-  fault-ends Empty h = told-refusal 2 refl refl (alone 2) refl
-  fault-ends (Short Address at) h = told-refusal 17 refl refl (beside 17 at (omega arith) h) refl
-  fault-ends (Short TypeText at) h = told-refusal 18 refl refl (beside 18 at (omega arith) h) refl
-  fault-ends (Short Data at) h = told-refusal 19 refl refl (beside 19 at (omega arith) h) refl
-  fault-ends (Short Padding at) h = told-refusal 20 refl refl (beside 20 at (omega arith) h) refl
-  fault-ends (Short Head at) h = told-refusal 21 refl refl (beside 21 at (omega arith) h) refl
-  fault-ends NotUtf8 h = told-refusal 4 refl refl (alone 4) refl
-  fault-ends BadStart h = told-refusal 5 refl refl (alone 5) refl
-  fault-ends NotOpen h = told-refusal 6 refl refl (alone 6) refl
-  fault-ends UnknownTag h = told-refusal 7 refl refl (alone 7) refl
-  fault-ends NotScalar h = told-refusal 8 refl refl (alone 8) refl
-
-  limited-ends : (w : Whole) → Decoding (limited (capacity table) limit msg w)
-  limited-ends (trees f left) =
-      by-trees Decoding (capacity table) limit msg f left (λ _ h. told-refusal 9 refl refl (alone 9) refl)
-      (λ _ h. told-refusal 10 refl refl (alone 10) refl)
-      (λ _ _ h. told-answer (omega arith) (omega arith))
-  limited-ends waiting = λ h. told-answer (omega arith) refl
-  limited-ends (refusal k) = fault-ends k
-
-  decoded-ends : {d : Decoded} → d ≡ decoded (ruleOf framing) (capacity table) limit msg → Decoding d
-  decoded-ends e =
-      subst Decoding (sym e)
-      (by-decoded Decoding (ruleOf framing) (capacity table) limit msg (λ _ h. told-refusal 13 refl refl (alone 13) refl)
-      (λ _ h. told-refusal 1 refl refl (alone 1) refl) (λ _ _. limited-ends (ruleOf framing msg)))
+      (tabled d (forestOf (ruleOf framing limit msg)) table)
+  decoding-ends (decodes.Packets count left dirty) h a = told-answer (omega arith) (omega arith)
+  decoding-ends decodes.Waiting h a = told-answer (omega arith) refl
+  decoding-ends (decodes.Refused r) h a = told-refusal (numberOf r) a refl (beside-of r h) refl
+  decoding-ends (decodes.Stopped count left dirty r frame) h a = told-stop (stop-told count left dirty r frame h a)
 
 -- ---- encoders
 
@@ -146,7 +165,9 @@ start-ends t b i =
 pub ends-listed : EndsListed
 ends-listed (osc-decode framing msg table limit) told more after t =
     let e = t .decodes .answered in
-    ends-as (t .number) (t .beside) (t .decodes .left) (decoded-ends framing msg table limit e (fits (capacity table) limit framing msg e))
+    ends-as (t .number) (t .beside) (t .decodes .left)
+    (decoding-ends framing msg table limit (t .answer) (fits (capacity table) limit framing msg e)
+    (subst (Answerable framing (length msg)) (sym e) (answerable framing (capacity table) limit msg)))
 ends-listed (osc-encode frame table count source out) told more after t =
     ends-as (t .0 .number) (t .1) refl
     (encoded-ends (osc-encode frame table count source out) (λ n h. h) (λ n. refl) (t .0 .answer) after
@@ -158,9 +179,17 @@ ends-listed (osc-pad pos) told more after t = ends-as (t .0) (t .1) (t .2) (pad-
 ends-listed (osc-look table index) told more after t = ends-as (t .0) (t .1) (t .2) (look-ends table index)
 ends-listed (osc-start table bytes index) told more after t = ends-as (t .0) (t .1) (t .2) (start-ends table bytes index)
 
+-- no decoder has a refusal 0, of the call or of a frame
+none-zero : (framing : Framing) → (among 0 (orderOf framing) ≡ true → ⊥) × (among 0 (stopsBy framing) ≡ true → ⊥)
+none-zero Udp = (false≢true, false≢true)
+none-zero (Tcp Rosc) = (false≢true, false≢true)
+none-zero (Tcp Standard) = (false≢true, false≢true)
+none-zero (TcpVec Rosc) = (false≢true, false≢true)
+none-zero (TcpVec Standard) = (false≢true, false≢true)
+
 -- no refusal is told as an answer: its bits are those that no answer has, and 14 is no multiple of 4
 pub refusals-apart : ToldApart
-refusals-apart (osc-decode framing msg table limit) zero e h = absurd (false≢true e)
+refusals-apart (osc-decode framing msg table limit) zero e h = none-zero framing .0 e
 refusals-apart (osc-decode framing msg table limit) (suc n) e h = omega arith
 refusals-apart (osc-encode frame table count source out) zero e h = absurd (false≢true e)
 refusals-apart (osc-encode frame table count source out) (suc n) e h = omega arith
@@ -171,3 +200,16 @@ refusals-apart (osc-look table index) zero e h = absurd (false≢true e)
 refusals-apart (osc-look table index) (suc n) e h = omega arith
 refusals-apart (osc-start table bytes index) zero e h = absurd (false≢true e)
 refusals-apart (osc-start table bytes index) (suc n) e h = omega arith
+
+-- a list that stops is told as no answer, which has no refusal's number, and as no refusal, with which no bytes are left
+pub stops-apart : StopsApart
+stops-apart (osc-decode framing msg table limit) told more w = (
+  (λ h. let z : refusalIn told ≡ 0 = omega arith in
+      none-zero framing .1 (subst (λ (n : ℕ). among n (stopsBy framing) ≡ true) z (w .listed))),
+  (λ n e. omega (arith, w .left, e)),
+)
+stops-apart (osc-encode frame table count source out) told more w = absurd w
+stops-apart (osc-encode-string text out) told more w = absurd w
+stops-apart (osc-pad pos) told more w = absurd w
+stops-apart (osc-look table index) told more w = absurd w
+stops-apart (osc-start table bytes index) told more w = absurd w

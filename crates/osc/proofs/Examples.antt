@@ -6,7 +6,7 @@ use Prim.Native.Nat.{ℕ, _<_}
 use native.Mathlib.Omega.{arith}
 use lib.ListN.{getD, replicate}
 use Rattle.refusal.specs.declared.Fault.the-variants.{NotUtf8}
-use Rattle.refusal.specs.declared.Refusal.the-variants.{Unreadable, BadTable}
+use Rattle.refusal.specs.declared.Refusal.the-variants.{TooLong, Unreadable, TableFull, BadTable}
 use Rattle.wire.specs.Number.{number, bytes}
 use Rattle.wire.specs.Pad.{padOf}
 use Rattle.node.specs.Forest.{size, depth, snoc}
@@ -20,24 +20,26 @@ use Rattle.argument.specs.Dirt.{keptPadding, packetsPadding}
 use Rattle.argument.specs.Argument.{readArg}
 use Rattle.arguments.specs.Arguments.{readTags}
 use Rattle.packet.specs.Packet.{readMessage, bundleBy, elementBy, elementsBy, packetBy, packetAt, readPacket}
-use Rattle.heads.specs.Heads.{sizeOf, prefixOf}
+use Rattle.heads.specs.Heads.{sizeOf, prefixOf, lengthOf}
 use Rattle.packet.specs.FirstText.{startOf}
-use Rattle.totals.specs.Framing.{udp, readFrame, tcp, framesAt, readFrames, tcpVec}
+use Rattle.framing.specs.Framing.{udp, readFrame, cutFrame, tcp, tcp2, framesAt, tcpVec, tcpVec2}
 use Rattle.answering.specs.Limits.{decoded}
-use Rattle.totals.specs.declared.Framing.the-variants.{Udp, Tcp, TcpVec}
+use Rattle.edition.specs.declared.Edition.the-variants.{Rosc, Standard}
+use Rattle.framing.specs.declared.Framing.the-variants.{Udp, Tcp, TcpVec}
 use Rattle.answering.specs.declared.Decoded.the-variants as decodes
 use Rattle.strings.specs.Atomic.{oscString, oscBlob}
 use Rattle.writers.specs.Osc as osc
-use Rattle.encoder.specs.Outcome.{unframed, prefixed, bytesOutcome, treeOutcome, malformed, formed, stringOutcome}
+use Rattle.encoder.specs.Outcome.{unframed, framedBy, prefixed, bytesOutcome, treeOutcome, malformed, formed, stringOutcome}
 use Rattle.encoder.specs.declared.Encoded.{Encoded}
 use Rattle.encoder.specs.declared.Encoded.the-variants as encodes
 use Rattle.decoder.proofs.Only.{decodes-met}
 use Rattle.table.proofs.Examples as p3
 use Rattle.osc.specs.Answers.{Fits, Parts, EncodedParts}
-use Rattle.osc.specs.Boundary.{osc-decode, osc-encode, osc-encode-string, osc-pad, osc-look, osc-start, CMeets, CAnswered, CEnds}
+use Rattle.osc.specs.Boundary.{osc-decode, osc-encode, osc-encode-string, osc-pad, osc-look, osc-start, CMeets, cRefused, CAnswered}
+use Rattle.osc.specs.Boundary.{CStopped, CEnds, ReadBack}
 use Rattle.osc.proofs.Apart.{decoded-apart, told-apart, string-told-apart}
-use Rattle.osc.proofs.Boundary.{ends-listed, refusals-apart}
-use Rattle.osc.proofs.Once.{decoded-once, decoded-alone, WaitingTold, tcp-none-waits, encoded-once, pad-once}
+use Rattle.osc.proofs.Boundary.{ends-listed, refusals-apart, stops-apart}
+use Rattle.osc.proofs.Once.{decoded-once, decoded-alone, refusal-told, WaitingTold, tcp-none-waits, encoded-once, pad-once}
 use Rattle.osc.proofs.Only.{c-settled}
 
 -- a lent buffer of n bytes
@@ -61,18 +63,18 @@ abbrev unready : List ℕ
 unready = 0 ∷ 0 ∷ 0 ∷ 9 ∷ 0x2F ∷ 0x61 ∷ 0 ∷ 0 ∷ []
 
 -- `osc_decode_tcp` waits: 8, and any table is as it was
-p14 : (table : List ℕ) → CMeets (osc-decode Tcp unready table 64) 8 0 table
+p14 : (table : List ℕ) → CMeets (osc-decode (Tcp Rosc) unready table 64) 8 0 table
 unfolding number prefixOf readFrame tcp decoded keptPadding packetsPadding
 p14 table = record { answer = _; decodes = decodes-met; number = refl; beside = refl }
 
 -- `osc_decode_tcp_vec` tells 8 too, which are no packets there
-no-packets : (CMeets (osc-decode TcpVec unready (nines 17) 64) 8 0 (nines 17))
+no-packets : (CMeets (osc-decode (TcpVec Rosc) unready (nines 17) 64) 8 0 (nines 17))
     × (decoded tcpVec (capacity (nines 17)) 64 unready ≡ decodes.Packets 0 8 0)
-unfolding size depth number prefixOf readFrame tcpVec readFrames framesAt decoded stored recordsOf keptPadding packetsPadding
+unfolding size depth number prefixOf readFrame tcpVec framesAt decoded stored recordsOf keptPadding packetsPadding
 no-packets = (record { answer = _; decodes = decodes-met; number = refl; beside = refl }, refl)
 
 -- a message of one record, after a length that cuts nothing
-message : CMeets (osc-decode Tcp (0 ∷ 0 ∷ 0 ∷ 0 ∷ 0x2F ∷ 0x61 ∷ 0 ∷ 0 ∷ 0 ∷ 0 ∷ 0 ∷ 0 ∷ []) (nines 21) 64) 0x1_0000_0000 0
+message : CMeets (osc-decode (Tcp Rosc) (0 ∷ 0 ∷ 0 ∷ 0 ∷ 0x2F ∷ 0x61 ∷ 0 ∷ 0 ∷ 0 ∷ 0 ∷ 0 ∷ 0 ∷ []) (nines 21) 64) 0x1_0000_0000 0
     (0x2F ∷ 0 ∷ 0 ∷ 0 ∷ 0 ∷ 0 ∷ 0 ∷ 1 ∷ 0 ∷ 0 ∷ 0 ∷ 4 ∷ 0 ∷ 0 ∷ 0 ∷ 2 ∷ 0 ∷ 0 ∷ 0 ∷ 4 ∷ 9 ∷ [])
 unfolding size depth number bytes readText readTags startOf prefixOf readMessage packetBy packetAt readPacket readFrame tcp decoded
     stored recordsOf recordOf keptPadding packetsPadding
@@ -92,20 +94,101 @@ no-answer : CAnswered (osc-pad 5) 14 → ⊥
 no-answer = refusals-apart (osc-pad 5) 14 refl
 
 -- the hypotheses of `tcp-none-waits`, `decoded-once` and `decoded-apart`
-waits : (table : List ℕ) → WaitingTold unready table 64 8 0 table
-waits table = tcp-none-waits unready table 64 8 0 table (p14 table) refl refl
+waits : (table : List ℕ) → WaitingTold Rosc unready table 64 8 0 table
+waits table = tcp-none-waits Rosc unready table 64 8 0 table (p14 table) refl refl
 
 once : p14 [] .answer ≡ p14 (nines 17) .answer
-once = decoded-once Tcp unready unready [] (nines 17) 64 64 8 0 [] (nines 17) refl (p14 []) (p14 (nines 17))
+once = decoded-once (Tcp Rosc) unready unready [] (nines 17) 64 64 8 0 [] (nines 17) refl (p14 []) (p14 (nines 17))
 
 -- the hypotheses of `decoded-alone`: 2 is told of no other answer
 alone : p1 [] .answer ≡ p1 (nines 17) .answer
 alone =
-    decoded-alone Udp [] [] [] (nines 17) 64 64 0x200_0000_0000_0000 0 0 [] (nines 17) refl (omega arith) (omega arith) (p1 [])
+    decoded-alone Udp [] [] [] (nines 17) 64 64 0x200_0000_0000_0000 0 0 [] (nines 17) refl (omega arith) (omega arith) (λ _. refl) (p1 [])
     (p1 (nines 17))
 
 apart : Parts 12 (decodes.Packets 2 4 3) 0x2_0000_0004 3
 apart = let f : Fits 12 (decodes.Packets 2 4 3) = (omega arith, omega arith, omega arith) in decoded-apart 12 (decodes.Packets 2 4 3) f
+
+-- ---- decoders of edition 2
+
+-- three bytes, of which `osc_decode_tcp2` waits, and which are no packets of `osc_decode_tcp_vec2`
+abbrev three : List ℕ
+three = 0 ∷ 0 ∷ 0 ∷ []
+
+waits2 : (table : List ℕ) → CMeets (osc-decode (Tcp Standard) three table 64) 3 0 table
+unfolding number lengthOf cutFrame tcp2 decoded keptPadding packetsPadding
+waits2 table = record { answer = _; decodes = decodes-met; number = refl; beside = refl }
+
+no-packets2 : CMeets (osc-decode (TcpVec Standard) three (nines 17) 64) 3 0 (nines 17)
+unfolding size depth number lengthOf cutFrame tcpVec2 framesAt decoded stored recordsOf keptPadding packetsPadding
+no-packets2 = record { answer = _; decodes = decodes-met; number = refl; beside = refl }
+
+-- a message of one record, and the length of a frame that is too long
+abbrev stopping : List ℕ
+stopping = 0 ∷ 0 ∷ 0 ∷ 8 ∷ 0x2F ∷ 0x61 ∷ 0 ∷ 0 ∷ 0x2C ∷ 0 ∷ 0 ∷ 0 ∷ 0 ∷ 0 ∷ 0xFF ∷ 0xFC ∷ []
+
+-- its record, in 21 bytes
+abbrev one-record : List ℕ
+one-record = 0x2F ∷ 0 ∷ 0 ∷ 0 ∷ 0 ∷ 0 ∷ 0 ∷ 1 ∷ 0 ∷ 0 ∷ 0 ∷ 4 ∷ 0 ∷ 0 ∷ 0 ∷ 2 ∷ 0 ∷ 0 ∷ 0 ∷ 4 ∷ 9 ∷ []
+
+-- the list stops: 1 record, refusal 1, 4 bytes left, the frame at 12
+stops : CMeets (osc-decode (TcpVec Standard) stopping (nines 21) 64) 0x100_0001_0000_0004 0xC_0000_0000_0000 one-record
+unfolding size depth number bytes readText readTags startOf lengthOf readMessage packetBy packetAt readPacket cutFrame tcpVec2 framesAt
+    decoded stored recordsOf recordOf keptPadding packetsPadding
+stops = record { answer = _; decodes = decodes-met; number = refl; beside = refl }
+
+-- without room for the record the whole call is refused, with 10
+full : CMeets (osc-decode (TcpVec Standard) stopping [] 64) 0xA00_0000_0000_0000 0 []
+unfolding size depth number bytes readText readTags startOf lengthOf readMessage packetBy packetAt readPacket cutFrame tcpVec2 framesAt
+    decoded keptPadding packetsPadding
+full = record { answer = _; decodes = decodes-met; number = refl; beside = refl }
+
+-- every number at once: 1 record with 2 bytes of dirty padding, 17 for the address at 16, the frame at 12 and 8 bytes left
+short-address : CMeets (osc-decode (TcpVec Standard)
+    (0 ∷ 0 ∷ 0 ∷ 8 ∷ 0x2F ∷ 0x61 ∷ 0 ∷ 1 ∷ 0x2C ∷ 0 ∷ 0 ∷ 1 ∷ 0 ∷ 0 ∷ 0 ∷ 4 ∷ 0x2F ∷ 0x61 ∷ 0x62 ∷ 0x63 ∷ []) (nines 21) 64)
+    0x1100_0001_0000_0008 0xC_0010_0000_0002 one-record
+unfolding size depth number bytes readText readTags startOf lengthOf readMessage packetBy packetAt readPacket cutFrame tcpVec2 framesAt
+    decoded stored recordsOf recordOf keptPadding packetsPadding
+short-address = record { answer = _; decodes = decodes-met; number = refl; beside = refl }
+
+-- the hypotheses of `tcp-none-waits`, `ends-listed`, `stops-apart`, `decoded-once`, `decoded-alone` and `decoded-apart` in edition 2
+waiting2 : (table : List ℕ) → WaitingTold Standard three table 64 3 0 table
+waiting2 table = tcp-none-waits Standard three table 64 3 0 table (waits2 table) refl refl
+
+ends2 : CEnds (osc-decode (TcpVec Standard) stopping (nines 21) 64) 0x100_0001_0000_0004 0xC_0000_0000_0000 one-record
+ends2 = ends-listed _ _ _ _ stops
+
+stopped : CStopped (osc-decode (TcpVec Standard) stopping (nines 21) 64) 0x100_0001_0000_0004 0xC_0000_0000_0000
+stopped = record { listed = refl; left = omega arith; from = refl; field = λ _. refl }
+
+no-refusal : (n : ℕ) → 0x100_0001_0000_0004 ≡ cRefused (osc-decode (TcpVec Standard) stopping (nines 21) 64) n → ⊥
+no-refusal = stops-apart (osc-decode (TcpVec Standard) stopping (nines 21) 64) 0x100_0001_0000_0004 0xC_0000_0000_0000 stopped .1
+
+once2 : (t : CMeets (osc-decode (TcpVec Standard) stopping (nines 21) 64) 0x100_0001_0000_0004 0xC_0000_0000_0000 one-record)
+    → t .answer ≡ decodes.Stopped 1 4 0 TooLong 12
+unfolding stops
+once2 t =
+    decoded-once (TcpVec Standard) stopping stopping (nines 21) (nines 21) 64 64 0x100_0001_0000_0004 0xC_0000_0000_0000 one-record
+    one-record refl t stops
+
+alone2 : (more : ℕ) (t : CMeets (osc-decode (TcpVec Standard) stopping [] 64) 0xA00_0000_0000_0000 more [])
+    → t .answer ≡ decodes.Refused TableFull
+unfolding full
+alone2 more t =
+    decoded-alone (TcpVec Standard) stopping stopping [] [] 64 64 0xA00_0000_0000_0000 more 0 [] [] refl (omega arith) (omega arith)
+    (λ _. refl) t full
+
+apart2 : Parts 16 (decodes.Stopped 1 4 0 TooLong 12) 0x100_0001_0000_0004 0xC_0000_0000_0000
+apart2 =
+    let f : Fits 16 (decodes.Stopped 1 4 0 TooLong 12) = (omega arith, omega arith, omega arith, omega arith, omega arith) in
+    decoded-apart 16 (decodes.Stopped 1 4 0 TooLong 12) f
+
+-- the hypotheses of `refusal-told`, of a list that stops and of a refused call: both have a refusal's number, and 4 and 0 bytes left
+read-stop : ReadBack (stops .answer) 0x100_0001_0000_0004 0xC_0000_0000_0000
+read-stop = refusal-told (TcpVec Standard) stopping (nines 21) 64 0x100_0001_0000_0004 0xC_0000_0000_0000 one-record (omega arith) stops
+
+read-refusal : ReadBack (full .answer) 0xA00_0000_0000_0000 0
+read-refusal = refusal-told (TcpVec Standard) stopping [] 64 0xA00_0000_0000_0000 0 [] (omega arith) full
 
 -- ---- encoders
 
@@ -117,6 +200,13 @@ wrong-end out = (record { answer = encodes.Refused BadTable; outcome = malformed
 stream : CMeets (osc-encode prefixed (p3.table 2 2) 2 p3.packet (nines 17)) 16 0 ((0 ∷ 0 ∷ 0 ∷ 12 ∷ []) ++ (p3.packet ++ (9 ∷ [])))
 unfolding bytes depth classOf sortOf oscString osc.writeData osc.writeTags osc.writeMessage osc.writePacket bytesOutcome treeOutcome
 stream = (record { answer = encodes.Written 16; outcome = formed p3.message p3.five p3.p3-tree refl; number = refl }, refl)
+
+-- the bundle in a bundle in a stream of edition 2: its length stands before it
+stream2 : CMeets (osc-encode (framedBy Standard) p3.nested-table 7 p3.nested (nines 81)) 80 0
+    ((0 ∷ 0 ∷ 0 ∷ 76 ∷ []) ++ (p3.nested ++ (9 ∷ [])))
+unfolding bytes depth classOf sortOf oscString oscBlob osc.writeData osc.writeTags osc.writeMessage osc.writeBundle osc.writeElements
+    osc.writePacket bytesOutcome treeOutcome
+stream2 = (record { answer = encodes.Written 80; outcome = formed (p3.once 0) (p3.within 0) p3.nested-tree refl; number = refl }, refl)
 
 -- a text that is not UTF-8: refusal 4, and any output is as it was
 not-utf8 : (out : List ℕ) → CMeets (osc-encode-string (0xFF ∷ []) out) 0x400_0000_0000_0000 0 out
@@ -142,6 +232,12 @@ written-only told more after m = c-settled (osc-encode unframed p3.nested-table 
 stream-only : (told more : ℕ) (after : List ℕ) → CMeets (osc-encode prefixed (p3.table 2 2) 2 p3.packet (nines 17)) told more after
     → (told ≡ 16) × (more ≡ 0) × (after ≡ (0 ∷ 0 ∷ 0 ∷ 12 ∷ []) ++ (p3.packet ++ (9 ∷ [])))
 stream-only told more after m = c-settled (osc-encode prefixed (p3.table 2 2) 2 p3.packet (nines 17)) told 16 more 0 after _ m stream
+
+stream2-only : (told more : ℕ) (after : List ℕ)
+    → CMeets (osc-encode (framedBy Standard) p3.nested-table 7 p3.nested (nines 81)) told more after
+    → (told ≡ 80) × (more ≡ 0) × (after ≡ (0 ∷ 0 ∷ 0 ∷ 76 ∷ []) ++ (p3.nested ++ (9 ∷ [])))
+stream2-only told more after m =
+    c-settled (osc-encode (framedBy Standard) p3.nested-table 7 p3.nested (nines 81)) told 80 more 0 after _ m stream2
 
 text-only : (told more : ℕ) (after : List ℕ) → CMeets (osc-encode-string (0xC3 ∷ 0xA9 ∷ []) (nines 5)) told more after
     → (told ≡ 4) × (more ≡ 0) × (after ≡ 0xC3 ∷ 0xA9 ∷ 0 ∷ 0 ∷ 9 ∷ [])

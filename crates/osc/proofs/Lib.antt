@@ -1,8 +1,9 @@
 pub mod Ended
 pub mod Apart
 pub mod Fits
-pub mod Boundary
+pub mod Shapes
 pub mod Once
+pub mod Boundary
 pub mod Only
 pub mod Seen
 pub mod Examples

@@ -23,7 +23,7 @@ parts-only : {x r s m n : ℕ} {after after′ : List ℕ} → (r ≡ x) × (m �
     → (r ≡ s) × (m ≡ n) × (after ≡ after′)
 parts-only t u = (one-outcome (t .0) (u .0), one-outcome (t .1) (u .1), one-outcome (t .2) (u .2))
 
--- no second number, nothing else beside it and no other lent bytes meet the contract of one of the nine functions
+-- no second number, nothing else beside it and no other lent bytes meet the contract of one of the twelve functions
 pub c-settled : CSettled
 c-settled (osc-decode framing msg table limit) r s m n after after′ t u =
     let e = decodes-only (t .decodes) (u .decodes) in (

@@ -18,7 +18,7 @@ use Rattle.values.specs.declared.look.Looked.{Looked}
 use Rattle.values.specs.declared.look.Looked.the-variants as looked
 use Rattle.values.specs.declared.look.Started.{Started}
 use Rattle.values.specs.declared.look.Started.the-variants as started
-use Rattle.totals.specs.Framing.{Whole}
+use Rattle.framing.specs.Framing.{Whole}
 use Rattle.answering.specs.Limits.{Decodes}
 use Rattle.answering.specs.declared.Decoded.{Decoded}
 use Rattle.answering.specs.declared.Decoded.the-variants as decodes
@@ -30,24 +30,29 @@ use Rattle.encoder.specs.declared.Encoded.the-variants as encodes
 abbrev pub refusalNumber : Refusal → ℕ
 refusalNumber r = numberOf r * 0x100_0000_0000_0000
 
--- a decoder's answer to n bytes: the count in bits 32 to 55, the bytes left in bits 0 to 31; Waiting is count 0 with the whole input left
+-- a decoder's answer to n bytes: the count in bits 32 to 55, the bytes left in bits 0 to 31; Waiting is count 0 with the whole input left;
+-- where a list stops (Ticket 1), the number of the frame's refusal stands above both
 abbrev pub decodedNumber : ℕ → Decoded → ℕ
 decodedNumber n (decodes.Packets count left dirty) = count * 0x1_0000_0000 + left
 decodedNumber n decodes.Waiting = n
 decodedNumber n (decodes.Refused r) = refusalNumber r
+decodedNumber n (decodes.Stopped count left dirty r frame) = refusalNumber r + (count * 0x1_0000_0000 + left)
 
--- what is told beside it: dirty padding (Ticket 8) in bits 0 to 31, the offset of a field that was short (Ticket 2) in bits 32 to 47, and 0
--- where there is neither
+-- what is told beside it: dirty padding (Ticket 8) in bits 0 to 31, the offset of a field that was short (Ticket 2) in bits 32 to 47, that
+-- of the frame at which a list stops (Ticket 1) in bits 48 to 63, and 0 where there is none
 abbrev pub moreNumber : Decoded → ℕ
 moreNumber (decodes.Packets count left dirty) = dirty
 moreNumber decodes.Waiting = 0
 moreNumber (decodes.Refused r) = offsetOf r * 0x1_0000_0000
+moreNumber (decodes.Stopped count left dirty r frame) = dirty + offsetOf r * 0x1_0000_0000 + frame * 0x1_0000_0000_0000
 
 -- what an answer to n bytes holds has room in those bits
 abbrev pub Fits : ℕ → Decoded → Type 0
 Fits n (decodes.Packets count left dirty) = (count ≤ longest) × (left ≤ longest) × (dirty ≤ 6 * longest)
 Fits n decodes.Waiting = n ≤ longest
 Fits n (decodes.Refused r) = offsetOf r ≤ longest
+Fits n (decodes.Stopped count left dirty r frame) =
+    (count ≤ longest) × (left ≤ longest) × (dirty ≤ 6 * longest) × (offsetOf r ≤ longest) × (frame ≤ longest)
 
 -- a decoder's call, by its rule: it has an answer and leaves a table by the decoder's contract, and what is told, also in `more`, is that
 -- answer
@@ -132,17 +137,23 @@ lowIn x = x % 0x1_0000_0000
 abbrev pub offsetIn : ℕ → ℕ
 offsetIn more = more / 0x1_0000_0000 % 0x1_0000
 
--- what a decoder's number and what is told beside it are taken apart into: refusal, count, bytes left; offset, and dirty padding, which
--- `osc_dirty` takes from bits 0 to 31
-abbrev pub HasParts : ℕ → ℕ → (number count left offset dirty : ℕ) → Type 0
-HasParts x more number count left offset dirty =
+-- `osc_frame`, of what is told beside the number: bits 48 to 63
+abbrev pub frameIn : ℕ → ℕ
+frameIn more = more / 0x1_0000_0000_0000
+
+-- what a decoder's number and what is told beside it are taken apart into: refusal, count, bytes left; the field's offset, dirty padding,
+-- which `osc_dirty` takes from bits 0 to 31, and the frame's offset
+abbrev pub HasParts : ℕ → ℕ → (number count left offset dirty frame : ℕ) → Type 0
+HasParts x more number count left offset dirty frame =
     (refusalIn x ≡ number) × (countIn x ≡ count) × (lowIn x ≡ left) × (offsetIn more ≡ offset) × (lowIn more ≡ dirty)
+    × (frameIn more ≡ frame)
 
 -- what these parts say of its answer to n bytes
 abbrev pub Parts : ℕ → Decoded → ℕ → ℕ → Type 0
-Parts n (decodes.Packets count left dirty) x more = HasParts x more 0 count left 0 dirty
-Parts n decodes.Waiting x more = HasParts x more 0 0 n 0 0
-Parts n (decodes.Refused r) x more = HasParts x more (numberOf r) 0 0 (offsetOf r) 0
+Parts n (decodes.Packets count left dirty) x more = HasParts x more 0 count left 0 dirty 0
+Parts n decodes.Waiting x more = HasParts x more 0 0 n 0 0 0
+Parts n (decodes.Refused r) x more = HasParts x more (numberOf r) 0 0 (offsetOf r) 0 0
+Parts n (decodes.Stopped count left dirty r frame) x more = HasParts x more (numberOf r) count left (offsetOf r) dirty frame
 
 -- what the parts of an encoder's number say of its answer
 abbrev pub EncodedParts : Encoded → ℕ → Type 0

@@ -1,5 +1,6 @@
 // The C boundary: the public calls, each with its answer as one number of 64 bits. include/osc.h declares them for C and C++.
 use decoder::Decoded;
+use decoder::Edition;
 use decoder::Framing;
 use encoder::Encoded;
 use node::record;
@@ -8,8 +9,9 @@ use values::look::Looked;
 use values::look::Started;
 use wire::Padded;
 ghost use mathlib.Core.Path.{_≡_};
-ghost use Rattle.totals.specs.Framing.{udp, tcp, tcpVec, ruleOf};
-ghost use Rattle.encoder.specs.Outcome.{unframed, prefixed, Encodes, EncodesString};
+ghost use Rattle.edition.specs.declared.Edition.the-variants.{Standard};
+ghost use Rattle.framing.specs.Framing.{udp, tcp, tcpVec, tcp2, tcpVec2, ruleOf};
+ghost use Rattle.encoder.specs.Outcome.{unframed, prefixed, framedBy, Encodes, EncodesString};
 ghost use Rattle.osc.specs.Answers.{refusalNumber, decodedNumber, moreNumber, Fits, TellsDecoded, encodedNumber, Tells};
 ghost use Rattle.osc.specs.Answers.{TellsPadded, TellsLooked, TellsStarted};
 
@@ -33,10 +35,18 @@ fn decoded_number(answer: Decoded, len: usize) -> u64
         } => count as u64 * 0x1_0000_0000 + left as u64,
         Decoded::Waiting => len as u64,
         Decoded::Refused(refusal) => refusal_number(refusal),
+        Decoded::Stopped {
+            count,
+            left,
+            dirty: _,
+            refusal,
+            frame: _,
+        } => refusal_number(refusal) + (count as u64 * 0x1_0000_0000 + left as u64),
     }
 }
 
-// What a decoder tells beside it: dirty padding in bits 0 to 31, or the offset of a field that was short in bits 32 to 47.
+// What a decoder tells beside it: dirty padding in bits 0 to 31, the offset of a field that was short in bits 32 to 47, and the offset of
+// a frame that stopped a list in bits 48 to 63.
 fn more_number(answer: Decoded, len: usize) -> u64
     requires { ⌜ Fits len answer ⌝ }
     ensures { λ r. ⌜ r ≡ moreNumber answer ⌝ }
@@ -49,6 +59,16 @@ fn more_number(answer: Decoded, len: usize) -> u64
         } => dirty as u64,
         Decoded::Waiting => 0,
         Decoded::Refused(refusal) => refusal::offset_of(refusal) as u64 * 0x1_0000_0000,
+        Decoded::Stopped {
+            count: _,
+            left: _,
+            dirty,
+            refusal,
+            frame,
+        } => {
+            let field = refusal::offset_of(refusal) as u64;
+            dirty as u64 + field * 0x1_0000_0000 + frame as u64 * 0x1_0000_0000_0000
+        }
     }
 }
 
@@ -65,7 +85,7 @@ fn encoded_number(answer: Encoded) -> u64
 // A decoder by its framing, told as a number, and what is told beside it.
 fn decode(framing: Framing, msg: &[u8], table: &mut [u8], depth: u64, more: &mut u64) -> u64
     ensures { λ r.
-        ⌜ TellsDecoded (ruleOf framing) (now (msg .entry)) (now (table .entry)) depth r (now (more .exit)) (now (table .exit)) ⌝ }
+        ⌜ TellsDecoded (ruleOf framing depth) (now (msg .entry)) (now (table .entry)) depth r (now (more .exit)) (now (table .exit)) ⌝ }
 {
     let answer = decoder::decode(framing, msg, table, depth as usize);
     *more = more_number(answer, msg.len());
@@ -84,17 +104,17 @@ pub extern "C" fn osc_decode_udp(msg: &[u8], table: &mut [u8], depth: u64, more:
     decode(Framing::Udp, msg, table, depth, more)
 }
 
-// `decode_tcp`, told in the same way; Waiting is count 0 with the whole input left, since no other answer of it has 0 records.
+// `decode_tcp` of edition 1, told in the same way; Waiting is count 0 with the whole input left: no other answer of it has 0 records.
 //
 // Ruled out: Waiting told as 0 bytes left; as many left as the table has bytes.
 #[no_mangle]
 pub extern "C" fn osc_decode_tcp(msg: &[u8], table: &mut [u8], depth: u64, more: &mut u64) -> u64
     ensures { λ r. ⌜ TellsDecoded tcp (now (msg .entry)) (now (table .entry)) depth r (now (more .exit)) (now (table .exit)) ⌝ }
 {
-    decode(Framing::Tcp, msg, table, depth, more)
+    decode(Framing::Tcp(Edition::Rosc), msg, table, depth, more)
 }
 
-// `decode_tcp_vec`, told in the same way; it never waits, and count 0 with the whole input left is a list of no packets.
+// `decode_tcp_vec` of edition 1, told in the same way; it never waits, and count 0 with the whole input left is a list of no packets.
 //
 // Ruled out: the first packet of the list alone; the depth limit cut to 32 bits, so that 2^32 passes for 0.
 #[no_mangle]
@@ -106,7 +126,35 @@ pub extern "C" fn osc_decode_tcp_vec(
 ) -> u64
     ensures { λ r. ⌜ TellsDecoded tcpVec (now (msg .entry)) (now (table .entry)) depth r (now (more .exit)) (now (table .exit)) ⌝ }
 {
-    decode(Framing::TcpVec, msg, table, depth, more)
+    decode(Framing::TcpVec(Edition::Rosc), msg, table, depth, more)
+}
+
+// `decode_tcp` of edition 2, told in the same way.
+//
+// Ruled out: a bundle that takes the next frame for its elements; 21 told of three bytes, which wait.
+#[no_mangle]
+pub extern "C" fn osc_decode_tcp2(msg: &[u8], table: &mut [u8], depth: u64, more: &mut u64) -> u64
+    ensures { λ r. ⌜ TellsDecoded (tcp2 depth) (now (msg .entry)) (now (table .entry)) depth r (now (more .exit)) (now (table .exit)) ⌝ }
+{
+    decode(Framing::Tcp(Edition::Standard), msg, table, depth, more)
+}
+
+// `decode_tcp_vec` of edition 2, told in the same way. Where a frame is refused, its number stands above the count of the records before
+// it and the bytes left, which are 4 at least there and 0 where the whole call is refused; `more` has the dirty padding and the field's
+// offset side by side then, and the frame's offset in bits 48 to 63.
+//
+// Ruled out: a refused frame told without the packets before it; the offset of the field in the place of the frame's.
+#[no_mangle]
+pub extern "C" fn osc_decode_tcp_vec2(
+    msg: &[u8],
+    table: &mut [u8],
+    depth: u64,
+    more: &mut u64,
+) -> u64
+    ensures { λ r.
+        ⌜ TellsDecoded (tcpVec2 depth) (now (msg .entry)) (now (table .entry)) depth r (now (more .exit)) (now (table .exit)) ⌝ }
+{
+    decode(Framing::TcpVec(Edition::Standard), msg, table, depth, more)
 }
 
 // `encode`: the bytes written in bits 0 to 31, or the refusal's number in bits 56 to 63.
@@ -119,14 +167,25 @@ pub extern "C" fn osc_encode(table: &[u8], count: u64, source: &[u8], out: &mut 
     encoded_number(encoder::encode(table, count as usize, source, out))
 }
 
-// `encode_tcp`, told in the same way.
+// `encode_tcp` of edition 1, told in the same way.
 //
 // Ruled out: a message without its length; refusal 12 told as 12 bytes written.
 #[no_mangle]
 pub extern "C" fn osc_encode_tcp(table: &[u8], count: u64, source: &[u8], out: &mut [u8]) -> u64
     ensures { λ r. ⌜ Tells (Encodes prefixed (now (table .entry)) count (now (source .entry)) (now (out .entry))) r (now (out .exit)) ⌝ }
 {
-    encoded_number(encoder::encode_tcp(table, count as usize, source, out))
+    encoded_number(encoder::encode_tcp(Edition::Rosc, table, count as usize, source, out))
+}
+
+// `encode_tcp` of edition 2, told in the same way.
+//
+// Ruled out: a bundle without its length; the length told without its own four bytes.
+#[no_mangle]
+pub extern "C" fn osc_encode_tcp2(table: &[u8], count: u64, source: &[u8], out: &mut [u8]) -> u64
+    ensures { λ r.
+        ⌜ Tells (Encodes (framedBy Standard) (now (table .entry)) count (now (source .entry)) (now (out .entry))) r (now (out .exit)) ⌝ }
+{
+    encoded_number(encoder::encode_tcp(Edition::Standard, table, count as usize, source, out))
 }
 
 // `encode_string`, told in the same way.

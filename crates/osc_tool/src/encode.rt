@@ -3,11 +3,12 @@ use crate::named;
 use crate::say;
 use crate::space;
 use commands::EncodeAsked;
+use commands::Writing;
 use commands::encode_asked;
 use outcomes::encode_told;
 
 // Encodes with the texts of the file that word 4 names to the one that word 5 names.
-fn encode_with_source(has_length: bool, table: &[u8]) {
+fn encode_with_source(writing: Writing, table: &[u8]) {
     let mut source = io::large_buffer();
     let got = named::read_whole(4, 5, &mut source);
     if !got.is_read {
@@ -16,26 +17,26 @@ fn encode_with_source(has_length: bool, table: &[u8]) {
     let n = got.count;
     let mut out = io::large_buffer();
     let mut line = io::large_buffer();
-    let told = encode_told(has_length, table, &source[..n], &mut out, &mut line);
+    let told = encode_told(writing, table, &source[..n], &mut out, &mut line);
     named::keep(5, told, &out, &line);
 }
 
 // Encodes the table of the file that word 3 names.
-fn encode_file(has_length: bool) {
+fn encode_file(writing: Writing) {
     let mut table = space::table();
     let got = named::read_table(3, 5, &mut table);
     if !got.is_read {
         return;
     }
     let n = got.count;
-    encode_with_source(has_length, &table[..n]);
+    encode_with_source(writing, &table[..n]);
 }
 
 pub fn run() {
     let mut word = io::buffer();
     let n = os::arg(2, &mut word);
     match encode_asked(os::arg_count(), &word[..n]) {
-        EncodeAsked::As(has_length) => encode_file(has_length),
+        EncodeAsked::As(writing) => encode_file(writing),
         EncodeAsked::Wrong(trouble, i) => say::trouble(trouble, i, 0),
     }
 }

@@ -28,10 +28,10 @@ pub fn version() {
 }
 
 // What the commands are.
-const HELP: [u8; 521] = *b"\
-osc decode udp|tcp|tcp-vec INPUT TABLE [--depth N] [--records N]
+const HELP: [u8; 898] = *b"\
+osc decode udp|tcp|tcp-vec|tcp2|tcp2-vec INPUT TABLE [--depth N] [--records N]
     reads INPUT and writes its records, 20 bytes each, to TABLE
-osc encode udp|tcp TABLE SOURCE OUTPUT
+osc encode udp|tcp|tcp2 TABLE SOURCE OUTPUT
     writes the packet of TABLE, whose texts stand in SOURCE, to OUTPUT
 osc look TABLE INDEX
     says what record INDEX of TABLE holds; the first is 0
@@ -39,7 +39,10 @@ osc help, osc --help, osc -h
     says this
 osc --version
     says the version
-Exit status: 0 an answer; 1 a refusal; 2 trouble with a word or a file; 3 Waiting. After 1 and 3 no TABLE or OUTPUT is left.
+udp is one packet, tcp the first packet of a stream, and tcp-vec all of them, as rosc has a stream: a length cuts nothing, and none
+stands before a bundle. tcp2 and tcp2-vec are the same as OSC 1.0 has it: every packet stands behind its length, which cuts it.
+Exit status: 0 an answer; 1 a refusal; 2 trouble with a word or a file; 3 Waiting; 4 tcp2-vec stopped at a frame that is refused.
+After 1 and 3 no TABLE or OUTPUT is left. After 4 TABLE holds the packets before that frame.
 ";
 
 // Says what the commands are.

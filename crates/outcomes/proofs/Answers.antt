@@ -11,11 +11,11 @@ use Rattle.io.specs.Counts.{Counts}
 use Rattle.node.specs.Forest.{Forest, nil, size}
 use Rattle.node.specs.Records.{recordSize, mostRecords, recordsOf, capacity, stored}
 use Rattle.node.proofs.Recorded.{length-records}
-use Rattle.totals.specs.Framing.{Whole, trees, waiting, refusal}
-use Rattle.answering.specs.Limits.{limited, decoded, forestOf, tabled}
+use Rattle.framing.specs.Framing.{Whole, trees, waiting, refusal, stopped}
+use Rattle.answering.specs.Limits.{bounded, limited, decoded, forestOf, tabled}
 use Rattle.answering.specs.declared.Decoded.{Decoded}
 use Rattle.answering.specs.declared.Decoded.the-variants as answer
-use Rattle.decoder.proofs.Chosen.{by-decoded, by-trees}
+use Rattle.decoder.proofs.Chosen.{by-decoded, by-bounded}
 use Rattle.telling.specs.Answers.{decodedLine}
 use Rattle.outcomes.specs.Kept.{rootsOf, keptTrees, keptCount}
 use Rattle.outcomes.specs.CodeRoots.{StandAt}
@@ -25,14 +25,23 @@ pub record Fits (capacity : ℕ) (f : Forest) (d : Decoded) : Type 0 where
   pub counts : size (keptTrees d f) ≡ keptCount d
   pub few : keptCount d ≤ capacity
 
+-- where the trees are too many or too deep, nothing is kept
+bounded-fits : (capacity limit : ℕ) (f : Forest) (given : Decoded) → (size f ≤ capacity → Fits capacity f given)
+    → Fits capacity f (bounded capacity limit f given)
+unfolding size
+bounded-fits capacity limit f given g =
+    by-bounded (Fits capacity f) capacity limit f given (λ _. record { counts = refl; few = omega arith })
+    (λ _. record { counts = refl; few = omega arith })
+    (λ _ h. g h)
+
 limited-fits : (capacity limit : ℕ) (msg : List ℕ) (w : Whole) → Fits capacity (forestOf w) (limited capacity limit msg w)
 unfolding size
 limited-fits capacity limit msg (trees f left) =
-    by-trees (Fits capacity f) capacity limit msg f left (λ _. record { counts = refl; few = omega arith })
-    (λ _. record { counts = refl; few = omega arith })
-    (λ _ h. record { counts = refl; few = h })
+    bounded-fits capacity limit f _ (λ h. record { counts = refl; few = h })
 limited-fits capacity limit msg waiting = record { counts = refl; few = omega arith }
 limited-fits capacity limit msg (refusal k) = record { counts = refl; few = omega arith }
+limited-fits capacity limit msg (stopped f left k at) =
+    bounded-fits capacity limit f _ (λ h. record { counts = refl; few = h })
 
 -- so it is of every answer
 decoded-fits : (rule : List ℕ → Whole) (capacity limit : ℕ) (msg : List ℕ)
@@ -53,6 +62,7 @@ unfolding stored recordsOf
 tabled-leaves (answer.Packets count left dirty) f t = record { more = drop (recordSize * size f) t; is = refl }
 tabled-leaves answer.Waiting f t = record { more = t; is = refl }
 tabled-leaves (answer.Refused r) f t = record { more = t; is = refl }
+tabled-leaves (answer.Stopped count left dirty r at) f t = record { more = drop (recordSize * size f) t; is = refl }
 
 -- so does the one that a decoder leaves, whatever stands after the part that it was lent
 pub leaves : {p : List ℕ} (d : Decoded) (f : Forest) (t rest : List ℕ) → p ≡ tabled d f t → Leaves d f (p ++ rest)
@@ -113,3 +123,4 @@ pub packets-told : (d : Decoded) (f : Forest) (bytes : ℕ) → decodedLine (roo
 packets-told (answer.Packets count left dirty) f bytes = refl
 packets-told answer.Waiting f bytes = refl
 packets-told (answer.Refused r) f bytes = refl
+packets-told (answer.Stopped count left dirty r at) f bytes = refl

@@ -3,6 +3,7 @@
 mod roots; // roots.rt: how many packets a table holds
 
 use commands::Options;
+use commands::Writing;
 use decoder::Decoded;
 use decoder::Framing;
 use decoder::decode;
@@ -18,7 +19,7 @@ ghost use Prim.Native.Nat.{_*_, _≤_, min};
 ghost use lib.ListN.{length};
 ghost use Rattle.node.specs.Records.{recordSize, mostRecords, capacity};
 ghost use Rattle.encoder.specs.Outcome.{Encodes};
-ghost use Rattle.outcomes.specs.Kept.{isPackets, keptCount, isWritten, writtenCount, writingOf};
+ghost use Rattle.outcomes.specs.Kept.{hasTable, keptCount, isWritten, writtenCount, writingOf};
 ghost use Rattle.outcomes.specs.Told.{DecodeTold, EncodeTold};
 
 // What is kept and said: whether bytes are kept, how many first ones of the slice that was lent for them, and how long the line is.
@@ -29,8 +30,8 @@ pub struct Told {
 }
 
 // Whether a table is kept of an answer.
-fn is_packets(answer: Decoded) -> bool
-    ensures { λ r. ⌜ r ≡ isPackets answer ⌝ }
+fn has_table(answer: Decoded) -> bool
+    ensures { λ r. ⌜ r ≡ hasTable answer ⌝ }
 {
     match answer {
         Decoded::Packets {
@@ -40,6 +41,13 @@ fn is_packets(answer: Decoded) -> bool
         } => true,
         Decoded::Waiting => false,
         Decoded::Refused(_) => false,
+        Decoded::Stopped {
+            count: _,
+            left: _,
+            dirty: _,
+            refusal: _,
+            frame: _,
+        } => true,
     }
 }
 
@@ -55,6 +63,13 @@ fn kept_count(answer: Decoded) -> usize
         } => count,
         Decoded::Waiting => 0,
         Decoded::Refused(_) => 0,
+        Decoded::Stopped {
+            count,
+            left: _,
+            dirty: _,
+            refusal: _,
+            frame: _,
+        } => count,
     }
 }
 
@@ -70,7 +85,7 @@ fn least(a: usize, b: usize) -> usize
 
 // Decodes `msg` to `table`, with room for as many records as the options say, and puts the line for the answer into `line`.
 //
-// Ruled out: a depth that is not the one asked for; the whole table kept.
+// Ruled out: a depth that is not the one asked for; the whole table kept; no table of a list that stopped.
 pub fn decode_told(
     framing: Framing,
     options: Options,
@@ -89,7 +104,7 @@ pub fn decode_told(
     let n = tell_decoded(packets, msg.len(), answer, line);
     let bytes = count * RECORD_SIZE;
     Told {
-        is_kept: is_packets(answer),
+        is_kept: has_table(answer),
         bytes,
         line: n,
     }
@@ -115,32 +130,33 @@ fn written_count(answer: Encoded) -> usize
     }
 }
 
-// Calls the encoder, with the length before the packet where a stream is to be cut by it.
-fn encoded(has_length: bool, table: &[u8], source: &[u8], out: &mut [u8]) -> Encoded
+// Calls the encoder of a packet alone, or that of a stream of an edition.
+fn encoded(writing: Writing, table: &[u8], source: &[u8], out: &mut [u8]) -> Encoded
     ensures { λ r.
-        ⌜ Encodes (writingOf «has_length») (now (table .entry)) (capacity (now (table .entry))) (now (source .entry)) (now (out .entry))
+        ⌜ Encodes (writingOf writing) (now (table .entry)) (capacity (now (table .entry))) (now (source .entry)) (now (out .entry))
         (record { answer = r; out = now (out .exit) }) ⌝ }
 {
-    if has_length {
-        return encoder::encode_tcp(table, capacity_of(table), source, out);
+    let count = capacity_of(table);
+    match writing {
+        Writing::Alone => encoder::encode(table, count, source, out),
+        Writing::Stream(edition) => encoder::encode_tcp(edition, table, count, source, out),
     }
-    encoder::encode(table, capacity_of(table), source, out)
 }
 
 // Encodes all the records of `table` to `out`, and puts the line for the answer into `line`.
 //
-// Ruled out: no length before a message of a stream; bytes kept of a refusal.
+// Ruled out: no length before a message of a stream; the stream of another edition; bytes kept of a refusal.
 pub fn encode_told(
-    has_length: bool,
+    writing: Writing,
     table: &[u8],
     source: &[u8],
     out: &mut [u8],
     line: &mut [u8],
 ) -> Told
     ensures { λ r.
-        ⌜ EncodeTold «has_length» (now (table .entry)) (now (source .entry)) (now (out .entry)) (now (out .exit)) (now (line .exit)) r ⌝ }
+        ⌜ EncodeTold writing (now (table .entry)) (now (source .entry)) (now (out .entry)) (now (out .exit)) (now (line .exit)) r ⌝ }
 {
-    let answer = encoded(has_length, table, source, out);
+    let answer = encoded(writing, table, source, out);
     let n = tell_encoded(answer, line);
     Told {
         is_kept: is_written(answer),

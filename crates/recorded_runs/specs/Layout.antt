@@ -23,7 +23,7 @@ EndIn s at Damaged = Unit
 -- a case at the front of s: the operation, 8 bytes of number, 4 of room, two slices, 8 bytes of answer, 8 beside it and the bytes written
 pub record Laid (s : List ℕ) (c : Case) : Type 0 where
   pub operation : c .operation ≡ getD s 0 0
-  pub known : c .operation < 9
+  pub known : c .operation < 12
   pub number : c .number ≡ be 8 (drop 1 s)
   pub room : c .room ≡ be 4 (drop 9 s)
   pub small : c .room ≤ 65536

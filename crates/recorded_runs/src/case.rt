@@ -68,7 +68,7 @@ pub fn find(s: &[u8]) -> Found
     };
     let operation = s[0];
     let room = be_u32(s, 9);
-    if 8 < operation {
+    if 11 < operation {
         return Found::Broken;
     }
     if 65536 < room {

@@ -15,17 +15,17 @@ ghost use Prim.Native.Nat.{_≤_, _<_};
 ghost use lib.ListN.{length};
 ghost use mathlib.Core.Path.{_≡_};
 
-// The tally: for each of the 9 operations, 24 counts, one for each answer (given, waiting, refused with 0 to 21); then the answers, those
+// The tally: for each of the 12 operations, 24 counts, one for each answer (given, waiting, refused with 0 to 21); then the answers, those
 // that differ, and the sums of what was answered and of what was lent.
-type Tally = [u64; 220];
+type Tally = [u64; 292];
 
-const ANSWERS: usize = 216;
+const ANSWERS: usize = 288;
 
-const DIFFERENCES: usize = 217;
+const DIFFERENCES: usize = 289;
 
-const ANSWERED: usize = 218;
+const ANSWERED: usize = 290;
 
-const LENT: usize = 219;
+const LENT: usize = 291;
 
 // Room for a file of 1,048,576 bytes and one more, which tells that a file is longer.
 fn file_space() -> [u8; 1048577]
@@ -35,7 +35,7 @@ fn file_space() -> [u8; 1048577]
 }
 
 // The place of an answer among the 24 of its operation. A refusal stands in bits 56 to 63, but for `pad`, whose 14 is no multiple of 4;
-// `decode_tcp` waits where its count, in bits 32 to 55, is 0.
+// `decode_tcp` of either edition waits where its count, in bits 32 to 55, is 0.
 fn place(operation: u8, answer: u64) -> usize
     ensures { λ r. ⌜ r < 24 ⌝ }
 {
@@ -46,7 +46,7 @@ fn place(operation: u8, answer: u64) -> usize
     if 0 < refusal {
         return 2 + (refusal % 22) as usize;
     }
-    if operation == 1 && answer < 0x1_0000_0000 {
+    if (operation == 1 || operation == 9) && answer < 0x1_0000_0000 {
         return 1;
     }
     0
@@ -54,7 +54,7 @@ fn place(operation: u8, answer: u64) -> usize
 
 // Adds to a sum of the tally.
 fn add_sum(tally: &mut Tally, at: usize, sum: u64)
-    requires { ⌜ at < 220 ⌝ }
+    requires { ⌜ at < 292 ⌝ }
 {
     tally[at] = std::num::wrapping_add_u64(tally[at], sum);
 }
@@ -67,7 +67,7 @@ fn differs(tally: &mut Tally, operation: u8, outcome: Outcome) {
 
 // Counts a case, and says whether and in what it differs.
 fn judge(tally: &mut Tally, operation: u8, met: Met)
-    requires { ⌜ operation < 9 ⌝ }
+    requires { ⌜ operation < 12 ⌝ }
 {
     add(
         tally,
@@ -132,7 +132,7 @@ fn say_all(tally: &Tally) {
 
 // Replays a file, and says what came of it.
 fn report(file: &[u8]) {
-    let mut tally = [0u64; 220];
+    let mut tally = [0u64; 292];
     let end = replay_all(file, &mut tally);
     say_all(&tally);
     fault(file.len(), end, tally[ANSWERS]);

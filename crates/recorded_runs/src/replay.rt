@@ -38,7 +38,10 @@ fn answer(
         5 => osc::osc_encode_string(first, out),
         6 => osc::osc_pad(number),
         7 => osc::osc_look(first, number),
-        _ => osc::osc_start(first, number),
+        8 => osc::osc_start(first, number),
+        9 => osc::osc_decode_tcp2(first, out, number, more),
+        10 => osc::osc_decode_tcp_vec2(first, out, number, more),
+        _ => osc::osc_encode_tcp2(first, number, second, out),
     }
 }
 

@@ -8,8 +8,8 @@ ghost use Prim.Native.Nat.{_≤_, _<_};
 ghost use lib.ListN.{length};
 
 // The names of the operations, in the order of their numbers.
-const NAMES: [u8; 86] =
-    *b"decode_udp decode_tcp decode_tcp_vec encode encode_tcp encode_string pad look start_of";
+const NAMES: [u8; 126] =
+    *b"decode_udp decode_tcp decode_tcp_vec encode encode_tcp encode_string pad look start_of decode_tcp2 decode_tcp_vec2 encode_tcp2";
 
 // Says the name of an operation.
 fn name(operation: u8) {
@@ -40,7 +40,7 @@ pub fn difference(number: u64, operation: u8, outcome: Outcome) {
 
 // Says how often an operation gave each answer.
 fn count(operation: u8, tally: &[u64])
-    requires { ⌜ (operation < 9) × (216 ≤ length (now tally)) ⌝ }
+    requires { ⌜ (operation < 12) × (288 ≤ length (now tally)) ⌝ }
 {
     name(operation);
     let from = 24 * operation as usize;
@@ -49,10 +49,10 @@ fn count(operation: u8, tally: &[u64])
 
 // Says it of every operation.
 pub fn counts(tally: &[u64])
-    requires { ⌜ 216 ≤ length (now tally) ⌝ }
+    requires { ⌜ 288 ≤ length (now tally) ⌝ }
 {
     let mut operation = 0;
-    while operation < 9 {
+    while operation < 12 {
         count(operation, tally);
         operation += 1;
     }

@@ -10,7 +10,7 @@ use Rattle.refusal.specs.declared.Field.the-variants.{Address, TypeText,
 use Rattle.refusal.specs.declared.Fault.the-variants.{Empty, Short, NotUtf8, BadStart, NotOpen, UnknownTag, NotScalar}
 use Rattle.refusal.specs.declared.Refusal.{Refusal}
 use Rattle.refusal.specs.declared.Refusal.the-variants.{TooLong, Unreadable, TooDeep, TableFull, BadTable, OutputShort, DepthLimit}
-use Rattle.refusal.specs.declared.Refusal.the-variants.{PadOverflow}
+use Rattle.refusal.specs.declared.Refusal.the-variants.{PadOverflow, BytesLeft, OddLength}
 
 -- the field of a number
 field : ℕ → Field
@@ -35,7 +35,9 @@ which n at =
     (cond (eqb n 11) BadTable
     (cond (eqb n 12) OutputShort
     (cond (eqb n 13) DepthLimit
-    (cond (eqb n 14) PadOverflow (Unreadable (Short (field n) at))))))))))))))
+    (cond (eqb n 14) PadOverflow
+    (cond (eqb n 15) BytesLeft
+    (cond (eqb n 16) OddLength (Unreadable (Short (field n) at))))))))))))))))
 
 which-is : (r : Refusal) → which (numberOf r) (offsetOf r) ≡ r
 unfolding which field
@@ -57,6 +59,8 @@ which-is BadTable = refl
 which-is OutputShort = refl
 which-is DepthLimit = refl
 which-is PadOverflow = refl
+which-is BytesLeft = refl
+which-is OddLength = refl
 
 -- two refusals with one number and one offset are one
 pub number-tells : (r s : Refusal) → numberOf r ≡ numberOf s → offsetOf r ≡ offsetOf s → r ≡ s
@@ -81,6 +85,8 @@ no-offset BadTable h = refl
 no-offset OutputShort h = refl
 no-offset DepthLimit h = refl
 no-offset PadOverflow h = refl
+no-offset BytesLeft h = refl
+no-offset OddLength h = refl
 
 -- every refusal but 17 to 21 gives only its number
 pub number-alone : (r s : Refusal) → numberOf r ≡ numberOf s → numberOf r ≤ 16 → r ≡ s

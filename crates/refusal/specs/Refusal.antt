@@ -7,7 +7,7 @@ use Rattle.refusal.specs.declared.Fault.{Fault}
 use Rattle.refusal.specs.declared.Fault.the-variants.{Empty, Short, NotUtf8, BadStart, NotOpen, UnknownTag, NotScalar}
 use Rattle.refusal.specs.declared.Refusal.{Refusal}
 use Rattle.refusal.specs.declared.Refusal.the-variants.{TooLong, Unreadable, TooDeep, TableFull, BadTable, OutputShort, DepthLimit}
-use Rattle.refusal.specs.declared.Refusal.the-variants.{PadOverflow}
+use Rattle.refusal.specs.declared.Refusal.the-variants.{PadOverflow, BytesLeft, OddLength}
 
 -- what was short: "17 address, 18 type text, 19 argument data, 20 padding, 21 prefix or a bundle's time tag"
 abbrev pub fieldNumber : Field → ℕ
@@ -27,7 +27,7 @@ faultNumber NotOpen = 6
 faultNumber UnknownTag = 7
 faultNumber NotScalar = 8
 
--- every refusal, in the table's order
+-- every refusal, in the table's order; 15 and 16 are of frames of edition 2 (Ticket 1)
 abbrev pub numberOf : Refusal → ℕ
 numberOf TooLong = 1
 numberOf (Unreadable fault) = faultNumber fault
@@ -37,6 +37,8 @@ numberOf BadTable = 11
 numberOf OutputShort = 12
 numberOf DepthLimit = 13
 numberOf PadOverflow = 14
+numberOf BytesLeft = 15
+numberOf OddLength = 16
 
 -- "the offset at which that field began"; no other fault has one
 abbrev pub faultOffset : Fault → ℕ
@@ -58,6 +60,8 @@ offsetOf BadTable = 0
 offsetOf OutputShort = 0
 offsetOf DepthLimit = 0
 offsetOf PadOverflow = 0
+offsetOf BytesLeft = 0
+offsetOf OddLength = 0
 
 -- the fault of a part that begins so many bytes further on: its field begins there
 abbrev pub movedBy : ℕ → Fault → Fault

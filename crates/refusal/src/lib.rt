@@ -1,5 +1,5 @@
-// The refusals of document 01, in place of rosc's errors.rs: ours are numbered, and say nothing else but, of a field that was short, where
-// it began (Ticket 2).
+// The refusals of documents 01 and 02, in place of rosc's errors.rs: ours are numbered, and say nothing else but, of a field that was
+// short, where it began (Ticket 2).
 ghost use mathlib.Core.Path.{_≡_};
 ghost use Prim.Native.Nat.{_+_, _^_, _<_};
 ghost use Rattle.refusal.specs.Refusal.{numberOf, faultNumber, fieldNumber, offsetOf, faultOffset, movedBy};
@@ -54,6 +54,10 @@ pub enum Refusal {
     DepthLimit,
     // `pad` of a position over 2^64 - 4.
     PadOverflow,
+    // A frame of edition 2 has bytes left after its packet.
+    BytesLeft,
+    // The length of a frame of edition 2 is no multiple of 4.
+    OddLength,
 }
 
 // The number of a refusal in document 01.
@@ -71,6 +75,8 @@ pub fn number_of(refusal: Refusal) -> u8
         Refusal::OutputShort => 12,
         Refusal::DepthLimit => 13,
         Refusal::PadOverflow => 14,
+        Refusal::BytesLeft => 15,
+        Refusal::OddLength => 16,
     }
 }
 
@@ -117,6 +123,8 @@ pub fn offset_of(refusal: Refusal) -> usize
         Refusal::OutputShort => 0,
         Refusal::DepthLimit => 0,
         Refusal::PadOverflow => 0,
+        Refusal::BytesLeft => 0,
+        Refusal::OddLength => 0,
     }
 }
 

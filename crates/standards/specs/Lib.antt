@@ -1,3 +1,4 @@
 pub mod Seen
 pub mod Standards
 pub mod Trip
+pub mod Streams

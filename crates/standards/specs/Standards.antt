@@ -10,7 +10,7 @@ use Rattle.node.specs.Forest.{Forest, nil, node, size}
 use Rattle.node.specs.Records.{capacity}
 use Rattle.node.specs.Tags.{messageKind}
 use Rattle.node.specs.declared.record.Item.{Item}
-use Rattle.totals.specs.Framing.{Whole, trees, udp, tcp}
+use Rattle.framing.specs.Framing.{Whole, trees, udp, tcp}
 use Rattle.answering.specs.Limits.{decoded}
 use Rattle.answering.specs.declared.Decoded.the-variants as decoder
 use Rattle.table.specs.Tree.{IsTree}

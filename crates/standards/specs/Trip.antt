@@ -8,7 +8,7 @@ use Rattle.wire.specs.Limits.{longest, deepest}
 use Rattle.node.specs.Forest.{Forest, nil, node, depth}
 use Rattle.node.specs.Records.{endAt, itemAt, capacity}
 use Rattle.node.specs.declared.record.Item.{Item}
-use Rattle.totals.specs.Framing.{udp}
+use Rattle.framing.specs.Framing.{Whole, udp}
 use Rattle.answering.specs.declared.Decoded.the-variants.{Packets}
 use Rattle.table.specs.Tree.{IsTree}
 use Rattle.writers.specs.Osc.{writePacket}
@@ -49,14 +49,14 @@ pub record Playable (t : List ℕ) (count : ℕ) (source : List ℕ) (item : Ite
   pub shallow : depth (node item inside nil) ≤ deepest
   pub fits : length (writePacket source item inside) ≤ longest
 
--- what is played back: `encode` with room answers a multiple of four; `decode_udp` of what it wrote, depth 64 and room given,
+-- what is played back: an encoder with room answers a multiple of four; its decoder, of what it wrote, depth 64 and room given,
 -- answers the same count with nothing left and no dirty padding (Ticket 8), and the same table
-pub record PlaysBack (t : List ℕ) (count : ℕ) (source out : List ℕ) (r : Outcome) (table : List ℕ) : Type 0 where
+pub record PlaysBack (rule : List ℕ → Whole) (t : List ℕ) (count : ℕ) (source out : List ℕ) (r : Outcome) (table : List ℕ) : Type 0 where
   pub n : ℕ
   pub written : r .answer ≡ Written n
   pub multiple : n % 4 ≡ 0
-  pub decoded : answerTo udp deepest (take n (r .out)) table ≡ Packets count 0 0
-  pub same : SameTable source t (take n (r .out)) (tableAfter udp deepest (take n (r .out)) table) count
+  pub decoded : answerTo rule deepest (take n (r .out)) table ≡ Packets count 0 0
+  pub same : SameTable source t (take n (r .out)) (tableAfter rule deepest (take n (r .out)) table) count
 
 -- for every such table, any output and table with room, and whatever `encode` may answer by its contract
 abbrev pub RoundTrip : Type 0
@@ -64,4 +64,4 @@ RoundTrip =
     (t : List ℕ) (count : ℕ) (source : List ℕ) (item : Item) (inside : Forest) → Playable t count source item inside
     → (out : List ℕ) → length (writePacket source item inside) ≤ length out → (r : Outcome) → Encodes unframed t count source out r
     → (table : List ℕ) → count ≤ capacity table
-    → PlaysBack t count source out r table
+    → PlaysBack udp t count source out r table

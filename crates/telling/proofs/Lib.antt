@@ -2,3 +2,4 @@ pub mod Told
 pub mod Decimals
 pub mod Tables
 pub mod Said
+pub mod Shorts

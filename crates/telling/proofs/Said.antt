@@ -28,11 +28,12 @@ use Rattle.answering.specs.declared.Decoded.the-variants as decoded
 use Rattle.encoder.specs.declared.Encoded.{Encoded}
 use Rattle.encoder.specs.declared.Encoded.the-variants as encoded
 use Rattle.telling.specs.Forms.{pieceOf, takenBy, filledIn, line}
-use Rattle.telling.specs.Answers.{packetsForm, dirtyForm, refusedLine, decodedLine, encodedLine, versionLine}
+use Rattle.telling.specs.Answers.{packetsForm, dirtyForm, stoppedForm, stoppedDirtyForm, refusedLine, refusedWords, decodedLine}
+use Rattle.telling.specs.Answers.{encodedLine, versionLine}
 use Rattle.telling.specs.Shown.{shownAs, signWords, valueLine, lookedLine, startedLine}
 use Rattle.telling.specs.Troubles.{troubleLine}
 use Rattle.telling.specs.CodeTable.{saidBy, with, refusedAs, decodedAs, encodedAs, signedAs, valueAs, lookedAs}
-use Rattle.telling.specs.CodeTable.{startedAs, troubleAs}
+use Rattle.telling.specs.CodeTable.{reasonOf, startedAs, troubleAs}
 use Rattle.telling.specs.declared.line.Line.{Line}
 use Rattle.telling.specs.declared.troubles.Trouble.{Trouble}
 use Rattle.telling.specs.declared.troubles.Trouble.the-variants as trouble
@@ -66,6 +67,8 @@ refused-said refusal.BadTable text = refl
 refused-said refusal.OutputShort text = refl
 refused-said refusal.DepthLimit text = refl
 refused-said refusal.PadOverflow text = refl
+refused-said refusal.BytesLeft text = refl
+refused-said refusal.OddLength text = refl
 
 -- the form at a trouble's place is the trouble's
 pub trouble-said : (t : Trouble) (number : ℕ) (word : List ℕ) → saidBy (troubleAs t number) word ≡ troubleLine t number word
@@ -95,12 +98,23 @@ unfolding saidBy filledIn pieceOf takenBy
 packets-said packets count left dirty true = refl
 packets-said packets count left dirty false = refl
 
+-- packets that were read before a refused frame, in the same way
+stopped-said : (packets count left dirty frame : ℕ) (words : List ℕ) (clean : Bool)
+    → saidBy (cond clean (with 52 packets count left frame 0 0) (with 53 packets count left dirty frame 0)) words
+    ≡ cond clean (line stoppedForm (packets ∷ count ∷ left ∷ frame ∷ []) words)
+    (line stoppedDirtyForm (packets ∷ count ∷ left ∷ dirty ∷ frame ∷ []) words)
+unfolding saidBy filledIn pieceOf takenBy
+stopped-said packets count left dirty frame words true = refl
+stopped-said packets count left dirty frame words false = refl
+
 -- a decoder's answer
-pub decoded-said : (packets bytes : ℕ) (d : Decoded) → saidBy (decodedAs packets bytes d) [] ≡ decodedLine packets bytes d
+pub decoded-said : (packets bytes : ℕ) (d : Decoded) → saidBy (decodedAs packets bytes d) (reasonOf d) ≡ decodedLine packets bytes d
 unfolding saidBy filledIn pieceOf takenBy
 decoded-said packets bytes (decoded.Packets count left dirty) = packets-said packets count left dirty (eqb dirty 0)
 decoded-said packets bytes decoded.Waiting = refl
 decoded-said packets bytes (decoded.Refused r) = refused-said r []
+decoded-said packets bytes (decoded.Stopped count left dirty r frame) =
+    stopped-said packets count left dirty frame (refusedWords r) (eqb dirty 0)
 
 -- an encoder's answer
 pub encoded-said : (e : Encoded) → saidBy (encodedAs e) [] ≡ encodedLine e

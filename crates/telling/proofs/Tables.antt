@@ -74,7 +74,7 @@ allLines [] = true
 allLines (word ∷ words) = cond (oneLine (ascii word)) (allLines words) false
 
 -- the tests of two, one after the other
-both : (x y : Bool) → cond x y false ≡ true → (x ≡ true) × (y ≡ true)
+pub both : (x y : Bool) → cond x y false ≡ true → (x ≡ true) × (y ≡ true)
 both true y e = (refl, e)
 both false y e = absurd (false≢true e)
 

@@ -20,7 +20,8 @@ use Rattle.encoder.specs.declared.Encoded.{Encoded}
 use Rattle.encoder.specs.declared.Encoded.the-variants as encoded
 use Rattle.telling.specs.Ascii.{ascii}
 use Rattle.telling.specs.Forms.{filledIn}
-use Rattle.telling.specs.Answers.{refusedForms, packetsForm, dirtyForm, waitingForm, writtenForm, versionForm}
+use Rattle.telling.specs.Answers.{refusedForms, packetsForm, dirtyForm, stoppedForm, stoppedDirtyForm, waitingForm, writtenForm}
+use Rattle.telling.specs.Answers.{versionForm, refusedWords}
 use Rattle.telling.specs.Shown.{recordForm, startForm}
 use Rattle.telling.specs.Troubles.{troubleForm}
 use Rattle.telling.specs.declared.line.Line.{Line}
@@ -37,7 +38,7 @@ forms =
     ∷ troubleForm trouble.LookWords ∷ troubleForm trouble.NoFraming ∷ troubleForm trouble.OnePacket ∷ troubleForm trouble.NoOption
     ∷ troubleForm trouble.Twice ∷ troubleForm trouble.NoNumber ∷ troubleForm trouble.ManyRecords ∷ troubleForm trouble.NoName
     ∷ troubleForm trouble.LongName ∷ troubleForm trouble.NoFile ∷ troubleForm trouble.OneFile ∷ troubleForm trouble.TooLarge
-    ∷ troubleForm trouble.NoTable ∷ versionForm ∷ startForm ∷ dirtyForm ∷ [])
+    ∷ troubleForm trouble.NoTable ∷ versionForm ∷ startForm ∷ dirtyForm ∷ stoppedForm ∷ stoppedDirtyForm ∷ [])
 
 -- what a line says, with a text
 unfoldable pub saidBy : Line → List ℕ → List ℕ
@@ -55,11 +56,24 @@ refusedAs refusal = with (numberOf refusal) (numberOf refusal) (offsetOf refusal
 abbrev pub packetsAs : ℕ → ℕ → ℕ → ℕ → Line
 packetsAs packets count left dirty = cond (eqb dirty 0) (with 22 packets count left 0 0 0) (with 51 packets count left dirty 0 0)
 
+-- packets that were read before a refused frame, in the same way
+abbrev pub stoppedAs : ℕ → ℕ → ℕ → ℕ → ℕ → Line
+stoppedAs packets count left dirty frame =
+    cond (eqb dirty 0) (with 52 packets count left frame 0 0) (with 53 packets count left dirty frame 0)
+
 -- a decoder's answer
 abbrev pub decodedAs : ℕ → ℕ → Decoded → Line
 decodedAs packets bytes (decoded.Packets count left dirty) = packetsAs packets count left dirty
 decodedAs packets bytes decoded.Waiting = with 23 bytes 0 0 0 0 0
 decodedAs packets bytes (decoded.Refused refusal) = refusedAs refusal
+decodedAs packets bytes (decoded.Stopped count left dirty refusal frame) = stoppedAs packets count left dirty frame
+
+-- the text in the line of a decoder's answer: the words of the refusal at which a list stopped
+abbrev pub reasonOf : Decoded → List ℕ
+reasonOf (decoded.Packets count left dirty) = []
+reasonOf decoded.Waiting = []
+reasonOf (decoded.Refused refusal) = []
+reasonOf (decoded.Stopped count left dirty refusal frame) = refusedWords refusal
 
 -- an encoder's answer
 abbrev pub encodedAs : Encoded → Line

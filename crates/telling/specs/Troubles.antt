@@ -11,11 +11,11 @@ use Rattle.telling.specs.declared.troubles.Trouble.the-variants.{LongNam
 -- what each trouble is, of a word or the name of a file and a number of bytes
 abbrev pub troubleForm : Trouble → String
 troubleForm NoCommand = "osc: the first word is not decode, encode, look, help or --version: ~\n"
-troubleForm DecodeWords = "osc: decode takes udp|tcp|tcp-vec INPUT TABLE [--depth N] [--records N]\n"
-troubleForm EncodeWords = "osc: encode takes udp|tcp TABLE SOURCE OUTPUT\n"
+troubleForm DecodeWords = "osc: decode takes udp|tcp|tcp-vec|tcp2|tcp2-vec INPUT TABLE [--depth N] [--records N]\n"
+troubleForm EncodeWords = "osc: encode takes udp|tcp|tcp2 TABLE SOURCE OUTPUT\n"
 troubleForm LookWords = "osc: look takes TABLE INDEX\n"
-troubleForm NoFraming = "osc: not udp, tcp or tcp-vec: ~\n"
-troubleForm OnePacket = "osc: encode writes one packet: udp or tcp, not tcp-vec\n"
+troubleForm NoFraming = "osc: not udp, tcp, tcp-vec, tcp2 or tcp2-vec: ~\n"
+troubleForm OnePacket = "osc: encode writes one packet: udp, tcp or tcp2, not ~\n"
 troubleForm NoOption = "osc: not --depth or --records: ~\n"
 troubleForm Twice = "osc: given twice: ~\n"
 troubleForm NoNumber = "osc: not a number of at most nine digits: ~\n"

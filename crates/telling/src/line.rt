@@ -17,8 +17,8 @@ pub struct Line {
 }
 
 // The forms, a line to each: those of the refusals stand at their numbers, and a line whose number no refusal has is empty.
-const FORMS: [u8; 2017] = *b"
-refused %: decode input over 65,535 bytes, or encoded result (prefix included) over it
+const FORMS: [u8; 2320] = *b"
+refused %: decode input over 65,535 bytes, or encoded result (prefix included) over it, or frame length over 65,531
 refused %: a packet of no bytes
 
 refused %: text is not UTF-8
@@ -32,8 +32,8 @@ refused %: table not well formed, or a record asked for does not exist
 refused %: output slice shorter than the result
 refused %: depth limit over 64
 refused %: pad of a position over 2^64 - 4
-
-
+refused %: bytes left in the frame
+refused %: frame length not a multiple of 4
 refused %: the address at offset % is not all there
 refused %: the type text at offset % is not all there
 refused %: the argument data at offset % is not all there
@@ -51,11 +51,11 @@ record %: ~ bits 0x$, end %
 record %: ~ bits 0x$$, end %
 record %: ~ % % % %, end %
 osc: the first word is not decode, encode, look, help or --version: ~
-osc: decode takes udp|tcp|tcp-vec INPUT TABLE [--depth N] [--records N]
-osc: encode takes udp|tcp TABLE SOURCE OUTPUT
+osc: decode takes udp|tcp|tcp-vec|tcp2|tcp2-vec INPUT TABLE [--depth N] [--records N]
+osc: encode takes udp|tcp|tcp2 TABLE SOURCE OUTPUT
 osc: look takes TABLE INDEX
-osc: not udp, tcp or tcp-vec: ~
-osc: encode writes one packet: udp or tcp, not tcp-vec
+osc: not udp, tcp, tcp-vec, tcp2 or tcp2-vec: ~
+osc: encode writes one packet: udp, tcp or tcp2, not ~
 osc: not --depth or --records: ~
 osc: given twice: ~
 osc: not a number of at most nine digits: ~
@@ -69,6 +69,8 @@ osc: ~: a table has a multiple of 20 bytes, and this has % bytes
 osc ~
 start %
 packets: %, records: %, bytes left: %, dirty padding bytes: %
+stopped: packets: %, records: %, bytes left: %, ~, frame at offset %
+stopped: packets: %, records: %, bytes left: %, dirty padding bytes: %, ~, frame at offset %
 ";
 
 pub const PACKETS: usize = 22;
@@ -101,6 +103,10 @@ pub const VERSION: usize = 49;
 pub const START: usize = 50;
 
 pub const DIRTY: usize = 51;
+
+pub const STOPPED: usize = 52;
+
+pub const STOPPED_DIRTY: usize = 53;
 
 // A line of a form and as many numbers as one has.
 pub fn formed(form: usize, a: u64, b: u64, c: u64, d: u64, e: u64, f: u64) -> Line

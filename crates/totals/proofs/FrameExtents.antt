@@ -13,6 +13,7 @@ use Rattle.refusal.specs.Refusal.{faultOffset, movedBy}
 use Rattle.refusal.specs.declared.Fault.{Fault}
 use Rattle.refusal.specs.declared.Fault.the-variants.{Short}
 use Rattle.refusal.specs.declared.Field.the-variants.{Head}
+use Rattle.refusal.specs.declared.Refusal.the-variants.{Unreadable}
 use Rattle.wire.proofs.Choices.{by-test, by-le, by-both}
 use Rattle.node.specs.Forest.{Forest, nil, node, size, depth, level}
 use Rattle.node.specs.declared.record.Item.{Item}
@@ -27,15 +28,16 @@ use Rattle.measure.specs.CodeMeasure.{extent, nodeDirt}
 use Rattle.measure.specs.declared.Extent.{Extent}
 use Rattle.measure.specs.declared.Extent.the-variants.{Tree, Deep, Refused}
 use Rattle.measure.proofs.Extents.{extent-after, max-low}
-use Rattle.totals.specs.Framing.{Whole, trees, waiting, refusal, Frame, wait, read, frameWith, readFrame, before, afterFrame}
-use Rattle.totals.specs.Framing.{framesAt, readFrames, tcpVec}
+use Rattle.framing.specs.Framing.{Whole, trees, waiting, refusal, stopped, Frame, wait, read, refused, frameWith, readFrame}
+use Rattle.framing.specs.Framing.{before, framesAt, readFrames, refuses, tcpVec}
 use Rattle.totals.specs.CodeTotals.{frameExtent, totalOf, added}
 use Rattle.totals.specs.declared.FrameExtent.{FrameExtent}
 use Rattle.totals.specs.declared.FrameExtent.the-variants.{Waiting, Packet}
 use Rattle.totals.specs.declared.Total.{Total}
 use Rattle.totals.specs.declared.Total.the-variants as total
-use Rattle.totals.proofs.FrameKnot.{FrameIn, frame-in, frames-eq}
-use Rattle.totals.proofs.FrameStarts.{FrameStarts, frame-starts}
+use Rattle.framing.proofs.FrameKnot.{FrameIn, frame-in}
+use Rattle.framing.proofs.Lists as lists
+use Rattle.framing.proofs.FrameStarts.{FrameStarts, frame-starts, Unrefused, frame-unrefused}
 
 -- ---- one frame
 
@@ -60,43 +62,18 @@ module _ (base : ℕ) (l : List ℕ) where
   unfolding readFrame extent
   frame-runs-out limit dirt e = ap (λ x. frameExtent limit dirt (frameWith base l x)) e
 
-module _ (base : ℕ) (l : List ℕ) where
-  -- ---- the list after a frame
-
-  -- what is left of a list: nothing, or a list
-  abbrev pub remaining : Whole
-  remaining = cond (leb (length l) 0) (trees nil 0) (readFrames base l)
-
-  -- where something is left it is a list
-  pub remaining-list : 0 < length l → remaining ≡ readFrames base l
-  remaining-list h = rw (lt-leb (length l) 0 h)
-
-  -- where nothing is left there is no list
-  pub remaining-none : length l ≤ 0 → remaining ≡ trees nil 0
-  remaining-none h = rw (le-leb (length l) 0 h)
-
-  -- a list by its first frame
-  pub frames-by : {x : Frame} → readFrame base l ≡ x → readFrames base l ≡ afterFrame (λ b m. readFrames b m) base l x
-  frames-by e = frames-eq base l ∙ ap (afterFrame (λ b m. readFrames b m) base l) e
+-- what is left of a list of edition 1
+abbrev pub remaining : ℕ → List ℕ → Whole
+remaining = lists.remaining (λ b m. readFrame b m) refuses
 
 -- what is left after u bytes
 abbrev pub following : ℕ → List ℕ → ℕ → Whole
-following base l u = remaining (base + u) (drop u l)
-
--- a tree stands before the list after it
-pub frames-tree : {item : Item} {u : ℕ} {f : Forest} (base : ℕ) (l : List ℕ) → readFrame base l ≡ read (one item f u)
-    → readFrames base l ≡ before item f (following base l u)
-frames-tree {item} {u} {f} base l e = frames-by base l e ∙ ends (leb (length l) u) refl
-  where
-    ends : (t : Bool) → leb (length l) u ≡ t
-        → cond (leb (length l) u) (trees (node item f nil) 0) (before item f (readFrames (base + u) (drop u l))) ≡ before item f
-        (following base l u)
-    ends true h = rw (h, remaining-none (base + u) (drop u l) (omega (arith, leb-true (length l) u h, length-drop u l)))
-    ends false h = rw (h, remaining-list (base + u) (drop u l) (omega (arith, leb-false (length l) u h, length-drop u l)))
+following = lists.following (λ b m. readFrame b m) refuses
 
 -- ---- counting
 
-total-before : (limit : ℕ) (dirt : Forest → ℕ) (item : Item) (f : Forest) (d : ℕ) → ((g : Forest) → dirt (node item f g) ≡ d + dirt g)
+-- the total of a list is that of its first tree and of what follows it
+pub total-before : (limit : ℕ) (dirt : Forest → ℕ) (item : Item) (f : Forest) (d : ℕ) → ((g : Forest) → dirt (node item f g) ≡ d + dirt g)
     → (w : Whole)
     → totalOf limit dirt (before item f w) ≡ cond (leb (level (item .kind) (depth f)) limit)
     (added (1 + size f) d false (totalOf limit dirt w))
@@ -112,14 +89,23 @@ total-before limit dirt item f d e (trees g left) =
     (by-both (λ (x y : Total). x ≡ added (1 + size f) d false y) (leb (depth g) limit) refl refl))
     (λ h. let over : limit < max (level (item .kind) (depth f)) (depth g) = omega arith in rw (lt-leb _ _ over)
     (by-test (λ (x : Total). total.Deep ≡ added 0 0 true x) (leb (depth g) limit) (λ _. refl) (λ _. refl)))
+total-before limit dirt item f d e (stopped g left k at) =
+    by-le (λ (x : Total). totalOf limit dirt (stopped (node item f g) left k at) ≡ x) (level (item .kind) (depth f)) limit
+    (λ h. rw (max-low (level (item .kind) (depth f)) (depth g) limit h, e g)
+    (by-both (λ (x y : Total). x ≡ added (1 + size f) d false y) (leb (depth g) limit) refl refl))
+    (λ h. let over : limit < max (level (item .kind) (depth f)) (depth g) = omega arith in rw (lt-leb _ _ over)
+    (by-test (λ (x : Total). total.Deep ≡ added 0 0 true x) (leb (depth g) limit) (λ _. refl) (λ _. refl)))
 
-added-none : (x : Total) → added 0 0 false x ≡ x
+-- nothing before others
+pub added-none : (x : Total) → added 0 0 false x ≡ x
 added-none (total.Trees n left dirty) = rw (zero-add n, zero-add dirty)
 added-none total.Deep = refl
 added-none total.Waiting = refl
 added-none (total.Refused k) = refl
+added-none (total.Stopped n left dirty k at) = rw (zero-add n, zero-add dirty)
 
-added-more : (c d n e : ℕ) (deep : Bool) (x : Total) → added c d deep (added n e false x) ≡ added (c + n) (d + e) deep x
+-- frames before frames before others
+pub added-more : (c d n e : ℕ) (deep : Bool) (x : Total) → added c d deep (added n e false x) ≡ added (c + n) (d + e) deep x
 added-more c d n e true (total.Trees m left dirty) = refl
 added-more c d n e false (total.Trees m left dirty) = rw (add-assoc c n m, add-assoc d e dirty)
 added-more c d n e true total.Deep = refl
@@ -128,6 +114,8 @@ added-more c d n e true total.Waiting = refl
 added-more c d n e false total.Waiting = refl
 added-more c d n e true (total.Refused k) = refl
 added-more c d n e false (total.Refused k) = refl
+added-more c d n e true (total.Stopped m left dirty k at) = refl
+added-more c d n e false (total.Stopped m left dirty k at) = rw (add-assoc c n m, add-assoc d e dirty)
 
 added-deep : (c d n e : ℕ) (deep : Bool) (x : Total) → added c d deep (added n e true x) ≡ added c d true x
 added-deep c d n e true (total.Trees m left dirty) = refl
@@ -138,13 +126,16 @@ added-deep c d n e true total.Waiting = refl
 added-deep c d n e false total.Waiting = refl
 added-deep c d n e true (total.Refused k) = refl
 added-deep c d n e false (total.Refused k) = refl
+added-deep c d n e true (total.Stopped m left dirty k at) = refl
+added-deep c d n e false (total.Stopped m left dirty k at) = refl
 
-no-trees : (limit : ℕ) (msg : List ℕ) (left : ℕ) → total.Trees 0 left 0 ≡ totalOf limit (dirtyIn msg) (trees nil left)
+-- no frame is no tree
+pub no-trees : (limit : ℕ) (msg : List ℕ) (left : ℕ) → total.Trees 0 left 0 ≡ totalOf limit (dirtyIn msg) (trees nil left)
 unfolding size depth packetsPadding
 no-trees limit msg left = rw (leb·zero limit)
 
 -- a packet before others adds its own dirt, in the frame that it tells
-dirt-before : (base : ℕ) (msg : List ℕ) (item : Item) (f g : Forest) → item .start - 4 ≡ base
+pub dirt-before : (base : ℕ) (msg : List ℕ) (item : Item) (f g : Forest) → item .start - 4 ≡ base
     → dirtyIn msg (node item f g) ≡ nodeDirt base msg item f + dirtyIn msg g
 dirt-before base msg item f g e = rw (← e) (packets-join msg item f g)
 
@@ -157,23 +148,24 @@ module _ (limit base : ℕ) (msg l : List ℕ) (c d : ℕ) (deep : Bool) where
   abbrev onwardPacket : Extent → Total
   onwardPacket (Tree n next x) = added (c + n) (d + x) deep (totalOf limit (dirtyIn msg) (following base l next))
   onwardPacket (Deep next) = added c d true (totalOf limit (dirtyIn msg) (following base l next))
-  onwardPacket (Refused k) = total.Refused (movedBy base k)
+  onwardPacket (Refused k) = total.Refused (Unreadable (movedBy base k))
 
   abbrev onward : FrameExtent → Total
   onward Waiting = added c d deep (total.Trees 0 (length l) 0)
   onward (Packet x) = onwardPacket x
 
-  by-frame : (x : Frame) → readFrame base l ≡ x → FrameStarts base x
+  by-frame : (x : Frame) → readFrame base l ≡ x → FrameStarts base x → Unrefused x
       → withTotal (readFrames base l) ≡ onward (frameExtent limit (nodeDirt base msg) x)
   unfolding extent
-  by-frame wait e s = ap withTotal (frames-by base l e) ∙ ap (added c d deep) (sym (no-trees limit msg (length l)))
-  by-frame (read (fault k)) e s = ap withTotal (frames-by base l e) ∙ added-refused deep
+  by-frame wait e s u = ap withTotal (lists.list-by _ refuses frame-in base l e) ∙ ap (added c d deep) (sym (no-trees limit msg (length l)))
+  by-frame (refused k) e s u = absurd u
+  by-frame (read (fault k)) e s u = ap withTotal (lists.list-by _ refuses frame-in base l e) ∙ added-refused deep
     where
-      added-refused : (t : Bool) → added c d t (total.Refused (movedBy base k)) ≡ total.Refused (movedBy base k)
+      added-refused : (t : Bool) → added c d t (total.Refused (Unreadable (movedBy base k))) ≡ total.Refused (Unreadable (movedBy base k))
       added-refused true = refl
       added-refused false = refl
-  by-frame (read (one item f u)) e s =
-      ap withTotal (frames-tree base l e)
+  by-frame (read (one item f u)) e s v =
+      ap withTotal (lists.list-tree _ refuses frame-in base l e)
       ∙ ap (added c d deep) (total-before limit (dirtyIn msg) item f (nodeDirt base msg item f) (λ g. dirt-before base msg item f g s)
       (following base l u))
       ∙ rw (zero-add u) (by-both (λ (x : Total) (y : Extent). added c d deep x ≡ onwardPacket y) (leb (level (item .kind) (depth f)) limit)
@@ -183,10 +175,12 @@ module _ (limit base : ℕ) (msg l : List ℕ) (c d : ℕ) (deep : Bool) where
   next-frame : {x : FrameExtent} → 0 < length l → x ≡ frameExtent limit (nodeDirt base msg) (readFrame base l)
       → withTotal (remaining base l) ≡ onward x
   next-frame some h =
-      ap withTotal (remaining-list base l some) ∙ by-frame (readFrame base l) refl (frame-starts base l) ∙ ap onward (sym h)
+      ap withTotal (lists.remaining-list _ refuses base l some)
+      ∙ by-frame (readFrame base l) refl (frame-starts base l) (frame-unrefused base l) ∙ ap onward (sym h)
 
   no-frame : length l ≤ 0 → added c d deep (total.Trees 0 0 0) ≡ withTotal (remaining base l)
-  no-frame none = ap (added c d deep) (no-trees limit msg 0 ∙ ap (totalOf limit (dirtyIn msg)) (sym (remaining-none base l none)))
+  no-frame none = ap (added c d deep)
+      (no-trees limit msg 0 ∙ ap (totalOf limit (dirtyIn msg)) (sym (lists.remaining-none _ refuses base l none)))
 
 -- a frame that was measured lies within its input, and its dirt is small
 abbrev PacketIn : ℕ → Extent → Type 0
@@ -201,6 +195,7 @@ FrameExtentIn m (Packet x) = PacketIn m x
 frame-extent-in : (limit m base : ℕ) (msg : List ℕ) (x : Frame) → FrameIn m x → FrameExtentIn m (frameExtent limit (nodeDirt base msg) x)
 unfolding extent size
 frame-extent-in limit m base msg wait w = tt
+frame-extent-in limit m base msg (refused k) w = tt
 frame-extent-in limit m base msg (read (fault k)) w = w
 frame-extent-in limit m base msg (read (one item f u)) w =
     by-test (PacketIn m) (leb (level (item .kind) (depth f)) limit)
@@ -229,13 +224,13 @@ totalling-start limit msg h =
       few = omega arith;
       clean = omega arith;
       here = omega arith;
-      whole = sym (added-none _ ∙ ap (totalOf limit (dirtyIn msg)) (remaining-list 0 msg (omega arith)));
+      whole = sym (added-none _ ∙ ap (totalOf limit (dirtyIn msg)) (lists.remaining-list _ refuses 0 msg (omega arith)));
     }
 
 -- an empty input is refused
 pub empty-list : (limit : ℕ) (msg : List ℕ) → length msg ≡ 0
-    → total.Refused (Short Head 0) ≡ totalOf limit (dirtyIn msg) (tcpVec msg)
-unfolding tcpVec readFrames framesAt readFrame prefixOf
+    → total.Refused (Unreadable (Short Head 0)) ≡ totalOf limit (dirtyIn msg) (tcpVec msg)
+unfolding tcpVec framesAt readFrame prefixOf
 empty-list limit [] h = refl
 empty-list limit (x ∷ msg) h = absurd (omega arith)
 
@@ -292,5 +287,5 @@ module _ (limit : ℕ) (msg : List ℕ) (at c d : ℕ) (deep : Bool) (w : Totall
 
     -- at a frame that is refused: its offset is added to its fault's place
     pub totalling-refused : {k j : Fault} → x ≡ Packet (Refused k) → j ≡ movedBy at k
-        → total.Refused j ≡ totalOf limit (dirtyIn msg) (tcpVec msg)
+        → total.Refused (Unreadable j) ≡ totalOf limit (dirtyIn msg) (tcpVec msg)
     totalling-refused z m = rw m (sym (by-next ∙ ap (onward limit at msg (drop at msg) c d deep) z))

@@ -1,4 +1,2 @@
-pub mod FrameKnot
-pub mod FrameStarts
 pub mod FrameExtents
 pub mod Totals

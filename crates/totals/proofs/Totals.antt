@@ -16,26 +16,27 @@ use Rattle.argument.proofs.Pads.{one-packet}
 use Rattle.measure.specs.CodeMeasure.{extent, nodeDirt}
 use Rattle.measure.specs.declared.Extent.{Extent}
 use Rattle.measure.specs.declared.Extent.the-variants.{Tree}
-use Rattle.totals.specs.Framing.{single, udp, Frame, wait, read, readFrame, first, tcp, ruleOf}
+use Rattle.framing.specs.Framing.{single, udp, Frame, wait, read, refused, readFrame, first, tcp}
 use Rattle.totals.specs.CodeTotals.{frameExtent, totalOf, EndsIn, totalOfOne}
-use Rattle.totals.specs.declared.Framing.{Framing}
 use Rattle.totals.specs.declared.FrameExtent.{FrameExtent}
 use Rattle.totals.specs.declared.FrameExtent.the-variants as frame
 use Rattle.totals.specs.declared.Total.{Total}
 use Rattle.totals.specs.declared.Total.the-variants as total
-use Rattle.totals.proofs.FrameKnot.{FrameIn, frame-in}
-use Rattle.totals.proofs.FrameStarts.{StartsSo, packet-starts-so, FrameStarts, frame-starts}
+use Rattle.framing.proofs.FrameKnot.{FrameIn, frame-in}
+use Rattle.framing.proofs.FrameStarts.{StartsSo, packet-starts-so, FrameStarts, frame-starts, Unrefused, frame-unrefused}
 
-one-tree : (item : Item) (f : Forest) → depth (node item f nil) ≡ level (item .kind) (depth f)
+-- the depth of one tree
+pub one-tree : (item : Item) (f : Forest) → depth (node item f nil) ≡ level (item .kind) (depth f)
 unfolding depth
 one-tree item f = omega arith
 
-one-size : (item : Item) (f : Forest) → size (node item f nil) ≡ 1 + size f
+-- the records of one tree
+pub one-size : (item : Item) (f : Forest) → size (node item f nil) ≡ 1 + size f
 unfolding size
 one-size item f = omega arith
 
 -- the dirt of one packet, in a frame that stands where its packet says
-one-dirt : (base : ℕ) (msg : List ℕ) (item : Item) (f : Forest) → item .start - 4 ≡ base
+pub one-dirt : (base : ℕ) (msg : List ℕ) (item : Item) (f : Forest) → item .start - 4 ≡ base
     → dirtyIn msg (node item f nil) ≡ nodeDirt base msg item f
 one-dirt base msg item f e = rw (← e) (one-packet msg item f)
 
@@ -59,17 +60,18 @@ abbrev totalOfFrame : ℕ → FrameExtent → Total
 totalOfFrame n frame.Waiting = total.Waiting
 totalOfFrame n (frame.Packet x) = totalOfOne n x
 
-total-first : (n limit base : ℕ) (msg : List ℕ) (x : Frame) → FrameStarts base x
+total-first : (n limit base : ℕ) (msg : List ℕ) (x : Frame) → FrameStarts base x → Unrefused x
     → totalOfFrame n (frameExtent limit (nodeDirt base msg) x) ≡ totalOf limit (dirtyIn msg) (first n x)
-total-first n limit base msg wait w = refl
-total-first n limit base msg (read o) w = total-single n limit base msg o w
+total-first n limit base msg wait w u = refl
+total-first n limit base msg (refused k) w u = absurd u
+total-first n limit base msg (read o) w u = total-single n limit base msg o w
 
 -- the total of one frame is that of its extent
 pub tcp-total : {r : FrameExtent} (limit : ℕ) (msg : List ℕ) → r ≡ frameExtent limit (nodeDirt 0 msg) (readFrame 0 msg)
     → totalOfFrame (length msg) r ≡ totalOf limit (dirtyIn msg) (tcp msg)
 unfolding tcp
 tcp-total limit msg e =
-    ap (totalOfFrame (length msg)) e ∙ total-first (length msg) limit 0 msg (readFrame 0 msg) (frame-starts 0 msg)
+    ap (totalOfFrame (length msg)) e ∙ total-first (length msg) limit 0 msg (readFrame 0 msg) (frame-starts 0 msg) (frame-unrefused 0 msg)
 
 ends-in : (limit n : ℕ) (dirt : Item → Forest → ℕ) (o : Out) → Within n o → EndsIn n (extent limit 0 dirt o)
 unfolding extent
@@ -88,6 +90,7 @@ FrameEnds n (frame.Packet x) = EndsIn n x
 frame-ends : (limit n : ℕ) (dirt : Item → Forest → ℕ) (x : Frame) → FrameIn n x → FrameEnds n (frameExtent limit dirt x)
 unfolding extent
 frame-ends limit n dirt wait w = tt
+frame-ends limit n dirt (refused k) w = tt
 frame-ends limit n dirt (read (fault k)) w = tt
 frame-ends limit n dirt (read (one item f u)) w = by-test (EndsIn n) (leb (level (item .kind) (depth f)) limit) (λ _. omega arith) (λ _. tt)
 
@@ -100,8 +103,3 @@ pub tcp-ends : {x : Extent} (limit : ℕ) (msg : List ℕ) → frame.Packet x �
     → EndsIn (length msg) x
 tcp-ends limit msg e =
     subst (FrameEnds (length msg)) (sym e) (frame-ends limit (length msg) (nodeDirt 0 msg) (readFrame 0 msg) (frame-in 0 msg))
-
--- the first reading by a framing that is known
-pub total-by : {f g : Framing} → f ≡ g → {r : Total} (limit : ℕ) (msg : List ℕ) → r ≡ totalOf limit (dirtyIn msg) (ruleOf g msg)
-    → r ≡ totalOf limit (dirtyIn msg) (ruleOf f msg)
-total-by e {r} limit msg w = subst (λ (x : Framing). r ≡ totalOf limit (dirtyIn msg) (ruleOf x msg)) (sym e) w

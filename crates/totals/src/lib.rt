@@ -1,8 +1,9 @@
-// The first reading of a whole input, by its framing: it writes nothing.
+// The first reading of a whole input: of one packet, and of frames of edition 1. It writes nothing.
 use heads::Prefix;
 use measure::Extent;
 use refusal::Fault;
 use refusal::Field;
+use refusal::Refusal;
 use refusal::moved;
 ghost use mathlib.Core.Path.{_≡_};
 ghost use mathlib.Core.List.{List};
@@ -12,18 +13,8 @@ ghost use Rattle.wire.specs.Limits.{longest};
 ghost use Rattle.argument.specs.CodeParts.{StandsAt};
 ghost use Rattle.argument.specs.Dirt.{dirtyIn};
 ghost use Rattle.measure.specs.CodeMeasure.{nodeDirt};
-ghost use Rattle.totals.specs.Framing.{readFrame, tcp, tcpVec, ruleOf};
+ghost use Rattle.framing.specs.Framing.{readFrame, tcp, tcpVec};
 ghost use Rattle.totals.specs.CodeTotals.{frameExtent, EndsIn, totalOf, totalOfOne, added};
-
-// How packets stand in an input.
-pub enum Framing {
-    // One packet is all of the input.
-    Udp,
-    // The first packet of a TCP stream: a 4-byte length, and a packet from everything after it.
-    Tcp,
-    // The packets of a TCP stream, one after another, until nothing is left or one waits.
-    TcpVec,
-}
 
 // What the first reading of a frame answers.
 pub enum FrameExtent {
@@ -43,25 +34,21 @@ pub enum Total {
     // In one of the trees bundles and arrays are nested deeper than the limit.
     Deep,
     Waiting,
-    Refused(Fault),
-}
-
-// The first reading of a whole input.
-//
-// Ruled out: a list that ends at a frame that is too deep; a frame's packet cut at its length.
-pub fn measure_input(framing: Framing, msg: &[u8], depth: usize) -> Total
-    requires { ⌜ length (now msg) ≤ longest ⌝ }
-    ensures { λ r. ⌜ r ≡ totalOf depth (dirtyIn (now (msg .entry))) (ruleOf framing (now (msg .entry))) ⌝ }
-{
-    match framing {
-        Framing::Udp => measure_one(measure::measure_packet(msg, 0, depth), msg.len()),
-        Framing::Tcp => measure_tcp(msg, depth),
-        Framing::TcpVec => measure_tcp_vec(msg, depth),
-    }
+    Refused(Refusal),
+    // Of an edition 2 list: the trees before a refused frame, the bytes from its prefix on, why it is refused, and its offset.
+    Stopped {
+        count: usize,
+        left: usize,
+        dirty: usize,
+        refusal: Refusal,
+        frame: usize,
+    },
 }
 
 // The total of one packet of `n` bytes of input.
-fn measure_one(extent: Extent, n: usize) -> Total
+//
+// Ruled out: the bytes read as those left over; a tree where the packet is too deep.
+pub fn measure_one(extent: Extent, n: usize) -> Total
     requires { ⌜ EndsIn n extent ⌝ }
     ensures { λ r. ⌜ r ≡ totalOfOne n extent ⌝ }
 {
@@ -72,12 +59,14 @@ fn measure_one(extent: Extent, n: usize) -> Total
             dirty,
         },
         Extent::Deep { next: _ } => Total::Deep,
-        Extent::Refused(fault) => Total::Refused(fault),
+        Extent::Refused(fault) => Total::Refused(Refusal::Unreadable(fault)),
     }
 }
 
 // The first reading of one frame.
-fn measure_tcp(msg: &[u8], depth: usize) -> Total
+//
+// Ruled out: a frame's packet cut at its length; a packet that is refused taken for one that waits.
+pub fn measure_tcp(msg: &[u8], depth: usize) -> Total
     requires { ⌜ length (now msg) ≤ longest ⌝ }
     ensures { λ r. ⌜ r ≡ totalOf depth (dirtyIn (now (msg .entry))) (tcp (now (msg .entry))) ⌝ }
 {
@@ -88,15 +77,17 @@ fn measure_tcp(msg: &[u8], depth: usize) -> Total
 }
 
 // The first reading of a list of frames. A frame that is too deep is passed over: a later one may be refused.
-fn measure_tcp_vec(msg: &[u8], depth: usize) -> Total
+//
+// Ruled out: a list that ends at a frame that is too deep; a fault told from its frame's prefix on.
+pub fn measure_tcp_vec(msg: &[u8], depth: usize) -> Total
     requires { ⌜ length (now msg) ≤ longest ⌝ }
     ensures { λ r. ⌜ r ≡ totalOf depth (dirtyIn (now (msg .entry))) (tcpVec (now (msg .entry))) ⌝ }
 {
     if msg.len() == 0 {
-        return Total::Refused(Fault::Short {
+        return Total::Refused(Refusal::Unreadable(Fault::Short {
             field: Field::Head,
             at: 0,
-        });
+        }));
     }
     let mut at = 0;
     let mut count = 0;
@@ -119,7 +110,9 @@ fn measure_tcp_vec(msg: &[u8], depth: usize) -> Total
                     deep = true;
                     at += next;
                 }
-                Extent::Refused(fault) => return Total::Refused(moved(at, fault)),
+                Extent::Refused(fault) => {
+                    return Total::Refused(Refusal::Unreadable(moved(at, fault)));
+                }
             },
         }
     }

@@ -3,7 +3,7 @@
 //!
 //!     cargo run --example recording -- FILE
 
-use sennorbai::{decode_udp, encode, Value, DEEPEST, LONGEST, RECORD};
+use sennorbai::{decode_tcp, encode_tcp, Decoded, Edition, Value, DEEPEST, LONGEST, RECORD};
 use std::error::Error;
 use std::io::{stdout, Write};
 
@@ -29,9 +29,13 @@ pub fn go_through(recording: &[u8], log: &mut impl Write) -> Result<Figures, Box
     let mut left = recording;
     while !left.is_empty() {
         let at = recording.len() - left.len();
-        // The frame is cut by its length here: `decode_tcp` would let a bundle take the next frame as an element.
-        let (bytes, later) = frame(left).ok_or_else(|| format!("the frame at {at} is cut off"))?;
-        let packet = decode_udp(bytes, &mut table, DEEPEST).map_err(|refusal| format!("the frame at {at}: {refusal}"))?;
+        // A call takes at most so many bytes, and no frame is longer. In edition 1 a bundle would take the next frame as an element.
+        let window = &left[..left.len().min(LONGEST)];
+        let decoded = decode_tcp(Edition::Standard, window, &mut table, DEEPEST);
+        let packet = match decoded.map_err(|refusal| format!("the frame at {at}: {refusal}"))? {
+            Decoded::Packet(packet) => packet,
+            Decoded::Waiting => return Err(format!("the frame at {at} is cut off").into()),
+        };
         write!(log, "{at}:")?;
         for record in packet.records() {
             match record.value() {
@@ -43,16 +47,11 @@ pub fn go_through(recording: &[u8], log: &mut impl Write) -> Result<Figures, Box
         writeln!(log)?;
         figures.packets += 1;
         figures.records += packet.count();
-        if encode(packet.table(), &mut out)? == bytes {
+        let (frame, later) = left.split_at(window.len() - packet.left());
+        if encode_tcp(Edition::Standard, packet.table(), &mut out)? == frame {
             figures.same += 1;
         }
         left = later;
     }
     Ok(figures)
-}
-
-/// The packet of the first frame and what comes after it, or none where the frame is not all there.
-fn frame(recording: &[u8]) -> Option<(&[u8], &[u8])> {
-    let (length, later) = recording.split_first_chunk()?;
-    later.split_at_checked(u32::from_be_bytes(*length) as usize)
 }

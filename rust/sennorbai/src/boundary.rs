@@ -6,9 +6,14 @@
 //! 0 to 31 are the number of padding bytes that were not zero, and none are told for Waiting; all else is 0. An encoder's answer
 //! has the refusal's number and, in bits 0 to 31, the bytes written.
 //!
+//! A list of edition 2 that a refused frame ends has all of it: the refusal's number, the count of records before the frame, the
+//! bytes left over from its prefix on, at least 4, and as more the padding bytes of those packets, where a field began and, in bits
+//! 48 to 63, the offset of the frame's prefix. Of a call that is refused count and bytes left are 0, and that tells the two apart.
+//!
 //! The functions of the crate's root take these answers apart and are what a program should call.
 #![allow(unsafe_code)]
 
+use crate::edition::Edition;
 use crate::limits::RECORD;
 use crate::refusal::Refusal;
 use crate::value::{Color, Midi, Time, Value};
@@ -39,6 +44,22 @@ mod c {
             depth: u64,
             more: *mut u64,
         ) -> u64;
+        pub fn osc_decode_tcp2(
+            msg: *const u8,
+            len: usize,
+            table: *mut u8,
+            table_len: usize,
+            depth: u64,
+            more: *mut u64,
+        ) -> u64;
+        pub fn osc_decode_tcp_vec2(
+            msg: *const u8,
+            len: usize,
+            table: *mut u8,
+            table_len: usize,
+            depth: u64,
+            more: *mut u64,
+        ) -> u64;
         #[rustfmt::skip]
         pub fn osc_encode(
             table: *const u8,
@@ -51,6 +72,16 @@ mod c {
         ) -> u64;
         #[rustfmt::skip]
         pub fn osc_encode_tcp(
+            table: *const u8,
+            table_len: usize,
+            count: u64,
+            source: *const u8,
+            source_len: usize,
+            out: *mut u8,
+            out_len: usize,
+        ) -> u64;
+        #[rustfmt::skip]
+        pub fn osc_encode_tcp2(
             table: *const u8,
             table_len: usize,
             count: u64,
@@ -85,6 +116,16 @@ pub fn decode_tcp_vec(msg: &[u8], table: &mut [u8], depth: u64, more: &mut u64) 
     unsafe { c::osc_decode_tcp_vec(msg.as_ptr(), msg.len(), table.as_mut_ptr(), table.len(), depth, more) }
 }
 
+/// `osc_decode_tcp2`: the first packet of a TCP stream, by edition 2.
+pub fn decode_tcp2(msg: &[u8], table: &mut [u8], depth: u64, more: &mut u64) -> u64 {
+    unsafe { c::osc_decode_tcp2(msg.as_ptr(), msg.len(), table.as_mut_ptr(), table.len(), depth, more) }
+}
+
+/// `osc_decode_tcp_vec2`: the packets of a TCP stream, by edition 2.
+pub fn decode_tcp_vec2(msg: &[u8], table: &mut [u8], depth: u64, more: &mut u64) -> u64 {
+    unsafe { c::osc_decode_tcp_vec2(msg.as_ptr(), msg.len(), table.as_mut_ptr(), table.len(), depth, more) }
+}
+
 /// `osc_encode`: the packet of `count` records.
 pub fn encode(table: &[u8], count: u64, source: &[u8], out: &mut [u8]) -> u64 {
     unsafe { c::osc_encode(table.as_ptr(), table.len(), count, source.as_ptr(), source.len(), out.as_mut_ptr(), out.len()) }
@@ -94,6 +135,13 @@ pub fn encode(table: &[u8], count: u64, source: &[u8], out: &mut [u8]) -> u64 {
 pub fn encode_tcp(table: &[u8], count: u64, source: &[u8], out: &mut [u8]) -> u64 {
     unsafe {
         c::osc_encode_tcp(table.as_ptr(), table.len(), count, source.as_ptr(), source.len(), out.as_mut_ptr(), out.len())
+    }
+}
+
+/// `osc_encode_tcp2`: the same by edition 2; a length stands before either.
+pub fn encode_tcp2(table: &[u8], count: u64, source: &[u8], out: &mut [u8]) -> u64 {
+    unsafe {
+        c::osc_encode_tcp2(table.as_ptr(), table.len(), count, source.as_ptr(), source.len(), out.as_mut_ptr(), out.len())
     }
 }
 
@@ -117,18 +165,27 @@ pub fn start(table: &[u8], index: u64) -> u64 {
     unsafe { c::osc_start(table.as_ptr(), table.len(), index) }
 }
 
-/// The three decoders.
+/// The decoders.
 pub(crate) enum Decoder {
     Udp,
-    Tcp,
-    TcpVec,
+    Tcp(Edition),
+    TcpVec(Edition),
 }
 
-/// What a decoder gives: records, the number of input bytes left over, and that of padding bytes that were not zero.
+/// What a decoder gives: records, the number of input bytes left over, that of padding bytes that were not zero, and the refused
+/// frame that ended a list.
 pub(crate) struct Given<'a> {
     pub nodes: Nodes<'a>,
     pub left: usize,
     pub dirty: usize,
+    pub stopped: Option<Stop>,
+}
+
+/// A refused frame that ended a list: why, and the offset of its prefix.
+#[derive(Clone, Copy)]
+pub(crate) struct Stop {
+    pub refusal: Refusal,
+    pub frame: usize,
 }
 
 /// The records of well-formed trees, one after another, and the bytes that their ranges lie in.
@@ -148,13 +205,20 @@ impl<'a> Nodes<'a> {
         let mut more = 0;
         let answer = match by {
             Decoder::Udp => decode_udp(msg, table, depth, &mut more),
-            Decoder::Tcp => decode_tcp(msg, table, depth, &mut more),
-            Decoder::TcpVec => decode_tcp_vec(msg, table, depth, &mut more),
+            Decoder::Tcp(Edition::Rosc) => decode_tcp(msg, table, depth, &mut more),
+            Decoder::Tcp(Edition::Standard) => decode_tcp2(msg, table, depth, &mut more),
+            Decoder::TcpVec(Edition::Rosc) => decode_tcp_vec(msg, table, depth, &mut more),
+            Decoder::TcpVec(Edition::Standard) => decode_tcp_vec2(msg, table, depth, &mut more),
         };
-        let answer = Refusal::settle(answer, more)?;
-        let count = (answer >> 32) as usize;
+        let (count, left) = ((answer >> 32) as usize & 0xFF_FFFF, answer as u32 as usize);
+        let stopped = match Refusal::settle(answer, more) {
+            Ok(_) => None,
+            // Only of a list that has stopped are bytes left beside a refusal.
+            Err(refusal) if left > 0 => Some(Stop { refusal, frame: (more >> 48) as usize }),
+            Err(refusal) => return Err(refusal),
+        };
         let nodes = Nodes { records: &table.as_chunks().0[..count], source: msg };
-        Ok(Given { nodes, left: answer as u32 as usize, dirty: more as u32 as usize })
+        Ok(Given { nodes, left, dirty: more as u32 as usize, stopped })
     }
 
     /// A table from anywhere, if it is well formed. The encoder's first test is that, and 11 is given for nothing else; with no

@@ -1,6 +1,7 @@
 //! The encoders over lent buffers.
 
 use crate::boundary;
+use crate::edition::Edition;
 use crate::refusal::Refusal;
 use crate::table::Table;
 
@@ -22,18 +23,27 @@ pub fn encode<'o>(table: Table<'_>, out: &'o mut [u8]) -> Result<&'o [u8], Refus
     written(answer, out)
 }
 
-/// Writes the packet as [`encode`] does, with its length before a message and, as in rosc, none before a bundle.
+/// Writes the packet as [`encode`] does, with its length before it; in [`Edition::Rosc`] none stands before a bundle, as in rosc.
 ///
 /// ```
-/// use sennorbai::{decode_udp, encode_tcp, Refusal, DEEPEST};
+/// use sennorbai::{decode_udp, encode_tcp, Edition, Refusal, DEEPEST};
 ///
 /// let (mut table, mut out) = ([0; 64], [0; 64]);
-/// let packet = decode_udp(b"/a\0\0,\0\0\0", &mut table, DEEPEST)?;
-/// assert_eq!(encode_tcp(packet.table(), &mut out)?, b"\0\0\0\x08/a\0\0,\0\0\0");
+/// let message = decode_udp(b"/a\0\0,\0\0\0", &mut table, DEEPEST)?;
+/// for edition in [Edition::Rosc, Edition::Standard] {
+///     assert_eq!(encode_tcp(edition, message.table(), &mut out)?, b"\0\0\0\x08/a\0\0,\0\0\0");
+/// }
+/// let bundle = decode_udp(b"#bundle\0\0\0\0\0\0\0\0\x01", &mut table, DEEPEST)?.table();
+/// assert_eq!(encode_tcp(Edition::Standard, bundle, &mut out)?, b"\0\0\0\x10#bundle\0\0\0\0\0\0\0\0\x01");
+/// assert_eq!(encode_tcp(Edition::Rosc, bundle, &mut out)?, b"#bundle\0\0\0\0\0\0\0\0\x01");
 /// # Ok::<(), Refusal>(())
 /// ```
-pub fn encode_tcp<'o>(table: Table<'_>, out: &'o mut [u8]) -> Result<&'o [u8], Refusal> {
-    let answer = boundary::encode_tcp(table.bytes, table.count as u64, table.source, out);
+pub fn encode_tcp<'o>(edition: Edition, table: Table<'_>, out: &'o mut [u8]) -> Result<&'o [u8], Refusal> {
+    let encoder = match edition {
+        Edition::Rosc => boundary::encode_tcp,
+        Edition::Standard => boundary::encode_tcp2,
+    };
+    let answer = encoder(table.bytes, table.count as u64, table.source, out);
     written(answer, out)
 }
 

@@ -7,6 +7,8 @@
 //! - [`decode_udp`], [`decode_tcp`] and [`decode_tcp_vec`] read. They give a [`Packet`] or [`Packets`], whose [`Record`]s
 //!   are read as typed [`Value`]s: texts are `&str` and blobs `&[u8]`, both parts of the input. [`Record::start`] and
 //!   [`Record::data`] say where in the input each stood, and [`Packet::dirty`] how many bytes of padding were not zero.
+//! - [`Edition`] says how a TCP stream is cut: take [`Edition::Standard`], in which the length cuts the packet, unless the other end
+//!   or the program itself is one over rosc.
 //! - [`Builder`] makes a [`Table`] from values. [`Table::check`] reads a table from anywhere.
 //! - [`encode`], [`encode_tcp`] and [`encode_string`] write.
 //! - `rosc_compat` (feature `std`, which is on by default) has the types and signatures of the crate rosc 0.11.4.
@@ -32,13 +34,14 @@
 //!
 //! Depth counts bundles and arrays together: a bundle is one level and so is an array, along the deepest path of a tree; a message
 //! adds none. A decoder is told how deep its trees may be, at most [`DEEPEST`]; an encoder takes a tree of that depth and none
-//! deeper. So no call goes deeper than that either: each ends within 35,568 bytes of stack, whatever it is given.
+//! deeper. So no call goes deeper than that either: each ends within 35,776 bytes of stack, whatever it is given.
 #![cfg_attr(not(feature = "std"), no_std)]
 #![deny(missing_docs, unsafe_code)]
 
 pub mod boundary;
 mod builder;
 mod decode;
+mod edition;
 mod encode;
 mod limits;
 mod refusal;
@@ -48,7 +51,8 @@ mod table;
 mod value;
 
 pub use builder::{BuildError, Builder};
-pub use decode::{decode_tcp, decode_tcp_vec, decode_udp, Decoded};
+pub use decode::{decode_tcp, decode_tcp_vec, decode_udp, Decoded, DecodedList};
+pub use edition::Edition;
 pub use encode::{encode, encode_string, encode_tcp, pad};
 pub use limits::{DEEPEST, LONGEST, MOST, RECORD};
 pub use refusal::{Field, Refusal};

@@ -2,7 +2,8 @@
 
 use core::fmt;
 
-/// A refusal of document 01 and its tickets. It changes no byte of what was lent.
+/// A refusal of document 01 and its tickets. It changes no byte of what was lent. That of a frame which ends a list of edition 2
+/// stands beside the packets before the frame, in [`DecodedList::Stopped`](crate::DecodedList::Stopped).
 ///
 /// Where a field was short, it says which and where that field began. There is no refusal 3: 17 to 21 stand in its place.
 ///
@@ -19,7 +20,8 @@ use core::fmt;
 /// ```
 #[derive(Clone, Copy, Debug, PartialEq, Eq, PartialOrd, Ord, Hash)]
 pub enum Refusal {
-    /// The input of a decoder or the result of an encoder is over [`LONGEST`](crate::LONGEST) bytes.
+    /// The input of a decoder or the result of an encoder is over [`LONGEST`](crate::LONGEST) bytes, or a frame of edition 2 would
+    /// be: its length is over 65,531.
     TooLong,
     /// A packet of no bytes.
     Empty,
@@ -45,6 +47,10 @@ pub enum Refusal {
     DepthLimit,
     /// [`pad`](crate::pad) of a position over 2^64 − 4.
     PadOverflow,
+    /// A frame of edition 2 has bytes left after its packet, also those of an element that ended a bundle.
+    BytesLeft,
+    /// The length of a frame of edition 2 is no multiple of 4.
+    OddLength,
     /// A field runs past the bytes there.
     Short {
         /// What was short.
@@ -95,7 +101,7 @@ impl Field {
 
 impl Refusal {
     /// Every refusal, in the order of the numbers; of a field that was short, the one that began at byte 0.
-    pub const ALL: [Refusal; 18] = [
+    pub const ALL: [Refusal; 20] = [
         Refusal::TooLong,
         Refusal::Empty,
         Refusal::NotUtf8,
@@ -109,6 +115,8 @@ impl Refusal {
         Refusal::OutputShort,
         Refusal::DepthLimit,
         Refusal::PadOverflow,
+        Refusal::BytesLeft,
+        Refusal::OddLength,
         Refusal::Short { field: Field::Address, at: 0 },
         Refusal::Short { field: Field::TypeText, at: 0 },
         Refusal::Short { field: Field::Data, at: 0 },
@@ -116,7 +124,7 @@ impl Refusal {
         Refusal::Short { field: Field::Head, at: 0 },
     ];
 
-    /// Its number: 1, 2 and 4 to 14 are document 01's, and 17 to 21 Ticket 2's.
+    /// Its number: 1, 2 and 4 to 14 are document 01's, 15 and 16 Ticket 1's, and 17 to 21 Ticket 2's.
     pub const fn number(self) -> u8 {
         match self {
             Refusal::TooLong => 1,
@@ -132,6 +140,8 @@ impl Refusal {
             Refusal::OutputShort => 12,
             Refusal::DepthLimit => 13,
             Refusal::PadOverflow => 14,
+            Refusal::BytesLeft => 15,
+            Refusal::OddLength => 16,
             Refusal::Short { field, .. } => field.number(),
         }
     }
@@ -144,11 +154,13 @@ impl Refusal {
         }
     }
 
-    /// Document 01's words for when it is given; those of 9 are Ticket 4's, and those of 17 to 21 say what was short.
+    /// Document 01's words for when it is given; those of 9 are Ticket 4's, those of 15 and 16 and of a frame's length in 1 are
+    /// Ticket 1's, and those of 17 to 21 say what was short.
     pub const fn words(self) -> &'static str {
         match self {
             Refusal::TooLong => {
-                "decode input over 65,535 bytes, or encoded result (prefix included) over it; `encode_string` likewise"
+                "decode input over 65,535 bytes, a frame's length over 65,531, or encoded result (prefix included) over 65,535; \
+                 `encode_string` likewise"
             }
             Refusal::Empty => "a packet of no bytes",
             Refusal::NotUtf8 => "text is not UTF-8",
@@ -162,6 +174,8 @@ impl Refusal {
             Refusal::OutputShort => "output slice shorter than the result",
             Refusal::DepthLimit => "depth limit over 64",
             Refusal::PadOverflow => "`pad` of a position over 2^64 − 4",
+            Refusal::BytesLeft => "bytes left in the frame after its packet",
+            Refusal::OddLength => "the frame's length is not a multiple of 4",
             Refusal::Short { field, .. } => field.words(),
         }
     }

@@ -66,7 +66,7 @@ macro_rules! nodes_impl {
     ($name:ident) => {
         impl<'a> $name<'a> {
             #[inline]
-            pub(crate) fn new(Given { nodes, left, dirty }: Given<'a>) -> $name<'a> {
+            pub(crate) fn new(Given { nodes, left, dirty, .. }: Given<'a>) -> $name<'a> {
                 $name { nodes, left, dirty }
             }
 
@@ -99,14 +99,15 @@ macro_rules! nodes_impl {
             /// A table holds no padding, so it is 0 of what [`Table::check`] gives.
             ///
             /// ```
-            /// use sennorbai::{decode_tcp_vec, decode_udp, Refusal, DEEPEST};
+            /// use sennorbai::{decode_tcp_vec, decode_udp, Edition, Refusal, DEEPEST};
             ///
             /// let mut table = [0; 100];
             /// assert_eq!(decode_udp(b"/cue\0\0\0\0,s\0\0go\0\0", &mut table, DEEPEST)?.dirty(), 0);
             /// assert_eq!(decode_udp(b"/cue\0old,s\0\0go\0!", &mut table, DEEPEST)?.dirty(), 4);
             /// // A list has the sum over its packets.
             /// let msg = b"\0\0\0\x08/a\0!,\0\0\0\0\0\0\x08/b\0!,\0\0\0";
-            /// assert_eq!(decode_tcp_vec(msg, &mut table, DEEPEST)?.dirty(), 2);
+            /// let list = decode_tcp_vec(Edition::Standard, msg, &mut table, DEEPEST)?;
+            /// assert_eq!(list.packets().dirty(), 2);
             /// # Ok::<(), Refusal>(())
             /// ```
             #[inline]

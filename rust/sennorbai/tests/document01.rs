@@ -1,9 +1,9 @@
 //! Document 01's examples, limits and refusals over lent buffers; depth as Ticket 4 has it, short fields as Ticket 2, and padding
-//! that is not zero as Ticket 8.
+//! that is not zero as Ticket 8. Streams are those of edition 1; editions.rs has edition 2.
 
 use sennorbai::{
-    decode_tcp, decode_tcp_vec, decode_udp, encode, encode_string, encode_tcp, look, pad, Builder, Decoded, Field, Refusal,
-    Table, Time, Value, DEEPEST, LONGEST, RECORD,
+    decode_tcp, decode_tcp_vec, decode_udp, encode, encode_string, encode_tcp, look, pad, Builder, Decoded, Edition, Field,
+    Refusal, Table, Time, Value, DEEPEST, LONGEST, RECORD,
 };
 
 /// Bytes from hex digits with spaces between.
@@ -64,9 +64,9 @@ fn example_3_byte_for_byte() {
 fn examples_13_and_14() {
     let mut table = [0xAA; 64];
     let refusal = Refusal::Short { field: Field::TypeText, at: 8 };
-    assert_eq!(decode_tcp(&hex("00000008 2F610000"), &mut table, DEEPEST).unwrap_err(), refusal);
-    assert!(matches!(decode_tcp(&hex("00000009 2F610000"), &mut table, DEEPEST), Ok(Decoded::Waiting)));
-    let list = decode_tcp_vec(b"\0\0\0\x09/a\0\0", &mut table, DEEPEST).unwrap();
+    assert_eq!(decode_tcp(Edition::Rosc, &hex("00000008 2F610000"), &mut table, DEEPEST).unwrap_err(), refusal);
+    assert!(matches!(decode_tcp(Edition::Rosc, &hex("00000009 2F610000"), &mut table, DEEPEST), Ok(Decoded::Waiting)));
+    let list = decode_tcp_vec(Edition::Rosc, b"\0\0\0\x09/a\0\0", &mut table, DEEPEST).unwrap().packets();
     assert_eq!((list.count(), list.left(), list.roots().count()), (0, 8, 0));
     assert_eq!(table, [0xAA; 64]);
 }
@@ -100,8 +100,8 @@ fn records(packet: &[u8], limit: u64) -> Result<usize, Refusal> {
     let mut table = vec![0; RECORD * 2_000];
     let frame = [&(packet.len() as u32).to_be_bytes(), packet].concat();
     let udp = decode_udp(packet, &mut table, limit).map(|packet| packet.count());
-    let list = decode_tcp_vec(&frame, &mut table, limit).map(|packets| packets.count());
-    let tcp = decode_tcp(&frame, &mut table, limit).map(|decoded| match decoded {
+    let list = decode_tcp_vec(Edition::Rosc, &frame, &mut table, limit).map(|list| list.packets().count());
+    let tcp = decode_tcp(Edition::Rosc, &frame, &mut table, limit).map(|decoded| match decoded {
         Decoded::Packet(packet) => packet.count(),
         Decoded::Waiting => 0,
     });
@@ -161,9 +161,10 @@ fn encoded(bundles: usize, arrays: usize) -> Result<Vec<u8>, Refusal> {
     let table = builder.finish().unwrap();
     assert!(table.check().is_ok(), "a table may be well formed and too deep");
     let bytes = encode(table, &mut out).map(<[u8]>::to_vec);
-    let framed = encode_tcp(table, &mut out).map(<[u8]>::len);
-    let prefix = if bundles == 0 { 4 } else { 0 };
-    assert_eq!(framed, bytes.as_ref().map(|bytes| prefix + bytes.len()).map_err(|refusal| *refusal));
+    for (edition, prefix) in [(Edition::Rosc, if bundles == 0 { 4 } else { 0 }), (Edition::Standard, 4)] {
+        let framed = encode_tcp(edition, table, &mut out).map(<[u8]>::len);
+        assert_eq!(framed, bytes.as_ref().map(|bytes| prefix + bytes.len()).map_err(|refusal| *refusal));
+    }
     bytes
 }
 
@@ -209,10 +210,10 @@ fn limits_of_encoders() {
     let packet = decode_udp(msg, &mut table, DEEPEST).unwrap().table();
     let mut out = [0xAA; 17];
     assert_eq!(encode(packet, &mut out[..11]), Err(Refusal::OutputShort));
-    assert_eq!(encode_tcp(packet, &mut out[..15]), Err(Refusal::OutputShort));
+    assert_eq!(encode_tcp(Edition::Rosc, packet, &mut out[..15]), Err(Refusal::OutputShort));
     assert_eq!(out, [0xAA; 17]);
     assert_eq!(encode(packet, &mut out[..12]), Ok(&msg[..]));
-    assert_eq!(encode_tcp(packet, &mut out), Ok(&b"\0\0\0\x0C/a\0\0,i\0\0\0\0\0\x05"[..]));
+    assert_eq!(encode_tcp(Edition::Rosc, packet, &mut out), Ok(&b"\0\0\0\x0C/a\0\0,i\0\0\0\0\0\x05"[..]));
     assert_eq!(out[16], 0xAA);
     assert_eq!(encode(Table { count: 3, ..packet }, &mut out), Err(Refusal::BadTable));
 
@@ -256,7 +257,7 @@ fn values_of_every_kind() {
 
 #[test]
 fn refusals_print_number_and_words() {
-    let numbers = [1, 2, 4, 5, 6, 7, 8, 9, 10, 11, 12, 13, 14, 17, 18, 19, 20, 21];
+    let numbers = [1, 2, 4, 5, 6, 7, 8, 9, 10, 11, 12, 13, 14, 15, 16, 17, 18, 19, 20, 21];
     assert_eq!(Refusal::ALL.map(Refusal::number), numbers);
     assert!(Refusal::ALL.is_sorted());
     for refusal in Refusal::ALL {
@@ -269,6 +270,8 @@ fn refusals_print_number_and_words() {
     }
     assert_eq!(Refusal::TooDeep.to_string(), "9: bundles and arrays nested deeper than the limit");
     assert_eq!(Refusal::DepthLimit.to_string(), "13: depth limit over 64");
+    assert_eq!(Refusal::BytesLeft.to_string(), "15: bytes left in the frame after its packet");
+    assert_eq!(Refusal::OddLength.to_string(), "16: the frame's length is not a multiple of 4");
     let refusal = Refusal::Short { field: Field::Data, at: 65_532 };
     assert_eq!(refusal.to_string(), "19: the argument data that begins at byte 65532 is not all there");
 }
@@ -298,7 +301,7 @@ fn short_fields() {
         (Field::Head, 16, "0000000C 2F610000 2C690000 00000007 0000"),
         (Field::Address, 20, "0000000C 2F610000 2C690000 00000007 00000004 2F616263"),
     ] {
-        let refusal = decode_tcp_vec(&hex(input), &mut table, DEEPEST).unwrap_err();
+        let refusal = decode_tcp_vec(Edition::Rosc, &hex(input), &mut table, DEEPEST).unwrap_err();
         assert_eq!(refusal, Refusal::Short { field, at }, "{input}");
     }
     // What a bundle swallows is told by no refusal.
@@ -316,7 +319,7 @@ fn dirty(digits: &str) -> usize {
 /// The same in a list.
 fn dirty_list(digits: &str) -> usize {
     let mut table = [0; 16 * RECORD];
-    decode_tcp_vec(&hex(digits), &mut table, DEEPEST).unwrap().dirty()
+    decode_tcp_vec(Edition::Rosc, &hex(digits), &mut table, DEEPEST).unwrap().packets().dirty()
 }
 
 #[test]
@@ -363,7 +366,7 @@ fn dirty_padding_of_bundles_and_lists() {
 fn dirty_padding_of_one_frame_and_of_a_table() {
     let mut table = [0; 2 * RECORD];
     let frame = hex("00000008 2F610001 2C000000 FF");
-    match decode_tcp(&frame, &mut table, DEEPEST) {
+    match decode_tcp(Edition::Rosc, &frame, &mut table, DEEPEST) {
         Ok(Decoded::Packet(packet)) => {
             assert_eq!((packet.dirty(), packet.left()), (1, 1));
             assert_eq!(packet.table().check().unwrap().dirty(), 0);

@@ -5,7 +5,7 @@
 mod recording;
 
 use recording::{go_through, Figures};
-use sennorbai::{encode, Builder, Table, Time};
+use sennorbai::{encode, Builder, Table, Time, LONGEST};
 
 /// A frame: a length and the packet of a table.
 fn frame(table: Table<'_>) -> Vec<u8> {
@@ -50,4 +50,31 @@ fn a_bad_frame_is_named() {
     recording.truncate(66);
     let error = go_through(&recording, &mut Vec::new()).unwrap_err();
     assert_eq!(error.to_string(), "the frame at 64 is cut off");
+}
+
+#[test]
+fn a_recording_may_be_longer_than_a_call_takes() {
+    let one = two_frames();
+    let many = LONGEST / one.len() + 10;
+    let figures = go_through(&one.repeat(many), &mut Vec::new()).unwrap();
+    assert_eq!(figures, Figures { packets: 2 * many, records: 6 * many, same: 2 * many });
+    // The longest frame that there is, once more with a byte of the next one missing.
+    let mut recording = b"\0\0\xFF\xF8/a\0\0,b\0\0\0\0\xFF\xEC".to_vec();
+    recording.resize(65_532, 7);
+    let frame = recording.clone();
+    recording.extend(&frame);
+    let figures = go_through(&recording, &mut Vec::new()).unwrap();
+    assert_eq!(figures, Figures { packets: 2, records: 4, same: 2 });
+    recording.pop();
+    let error = go_through(&recording, &mut Vec::new()).unwrap_err();
+    assert_eq!(error.to_string(), "the frame at 65532 is cut off");
+}
+
+#[test]
+fn lengths_that_no_frame_has() {
+    let error = |recording: &[u8]| go_through(recording, &mut Vec::new()).unwrap_err().to_string();
+    assert_eq!(error(b"\0\0\0\x0A/a\0\0,\0\0\0XX"), "the frame at 0: 16: the frame's length is not a multiple of 4");
+    assert_eq!(error(b"\0\0\0\x0C/a\0\0,\0\0\0XXXX"), "the frame at 0: 15: bytes left in the frame after its packet");
+    assert!(error(b"\0\0\xFF\xFC").starts_with("the frame at 0: 1: "));
+    assert_eq!(error(b"\0\0"), "the frame at 0 is cut off");
 }

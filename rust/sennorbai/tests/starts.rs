@@ -1,7 +1,8 @@
 //! Where each item began, and the bytes that its data took.
 
 use sennorbai::{
-    decode_tcp_vec, decode_udp, encode, start_of, Builder, Packet, Records, Refusal, Table, Time, Value, DEEPEST, RECORD,
+    decode_tcp_vec, decode_udp, encode, start_of, Builder, Edition, Packet, Records, Refusal, Table, Time, Value, DEEPEST,
+    RECORD,
 };
 
 /// A message with an argument of every kind, the last ones in an array; its data begins at 28.
@@ -92,9 +93,11 @@ fn starts_count_from_the_first_byte_of_the_call() {
     assert_eq!(data, [&b"#bundle"[..], b"/a", b"\0\0\0\x05", b"#bundle"]);
 
     let stream = b"\0\0\0\x08/a\0\0,T\0\0\0\0\0\x0C/b\0\0,i\0\0\0\0\0\x05";
-    let packets = decode_tcp_vec(stream, &mut table, DEEPEST).unwrap();
-    assert_eq!(starts(packets.records()), [4, 12, 16, 24]);
-    assert_eq!(packets.roots().nth(1).unwrap().data(), Some(&b"/b"[..]));
+    for edition in [Edition::Rosc, Edition::Standard] {
+        let packets = decode_tcp_vec(edition, stream, &mut table, DEEPEST).unwrap().packets();
+        assert_eq!(starts(packets.records()), [4, 12, 16, 24]);
+        assert_eq!(packets.roots().nth(1).unwrap().data(), Some(&b"/b"[..]));
+    }
 
     // An element of 9 bytes: the next one stands at no multiple of 4, and its padding counts from the input's first byte.
     let odd = b"#bundle\0\0\0\0\0\0\0\0\x01\0\0\0\x09/a\0\0,\0\0\0X\0\0\0\x0B/b\0,i\0\0\0\0\0\x05";

@@ -8,13 +8,19 @@ returns : tie.Need-returns
 returns c = rw (c .before .before .total .given .1, lt-leb _ _ (c .if1 .taken))
 
 returns-2 : tie.Need-returns-2
-returns-2 c = rw (c .before .before .total .given .1, le-leb _ _ (c .if1 .left))
+returns-2 c = rw (c .before .before .total3 .given .1, lt-leb _ _ (c .if2 .taken))
 
 returns-3 : tie.Need-returns-3
-returns-3 c = rw (c .enum-told .given .1)
+returns-3 c = rw (c .before .before .total .given .1, le-leb _ _ (c .if1 .left))
 
-returns-5 : tie.Need-returns-5
-returns-5 c = rw (c .before .total2 .given .1)
+returns-4 : tie.Need-returns-4
+returns-4 c = rw (c .enum-told .given .1)
+
+returns-6 : tie.Need-returns-6
+returns-6 c = rw (c .before .total2 .given .1)
+
+returns-7 : tie.Need-returns-7
+returns-7 c = rw (c .before .before .total3 .given .1, le-leb _ _ (c .if2 .left))
 
 pub within-spec : {M : Type 1} → statement M
 within-spec =
@@ -25,7 +31,10 @@ within-spec =
     (λ c. search needs)
     (λ c. search needs)
     (λ c. search needs)
+    (λ c. search needs)
     returns-2
     returns-3
+    returns-4
     (λ c. search needs)
-    returns-5)
+    returns-6
+    returns-7)

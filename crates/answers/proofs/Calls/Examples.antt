@@ -1,6 +1,6 @@
 -- Examples, computed: endings that meet the contracts, with refusals, Waiting and results, and so the hypotheses of `listed`, `settled`
 -- and `nothing-changed`.
-use mathlib.Core.Path.{_≡_, refl, sym, ap}
+use mathlib.Core.Path.{_≡_, refl, sym, ap, subst}
 use mathlib.Core.Bool.{true}
 use mathlib.Core.List.{List, [], _∷_, _++_}
 use Prim.Native.Nat.{ℕ}
@@ -21,8 +21,9 @@ use Rattle.values.specs.declared.value.OscType.the-variants.{Blob, Double}
 use Rattle.values.specs.declared.look.Looked.the-variants as looked
 use Rattle.heads.specs.Heads.{prefixOf}
 use Rattle.packet.specs.Packet.{packetAt, readPacket}
-use Rattle.totals.specs.Framing.{udp, readFrame, tcp, tcpVec}
-use Rattle.totals.specs.declared.Framing.the-variants.{Udp, Tcp, TcpVec}
+use Rattle.edition.specs.declared.Edition.the-variants.{Rosc}
+use Rattle.framing.specs.Framing.{udp, readFrame, tcp, tcpVec}
+use Rattle.framing.specs.declared.Framing.the-variants.{Udp, Tcp, TcpVec}
 use Rattle.answering.specs.Limits.{decodeOrder, decoded, forestOf, tabled}
 use Rattle.answering.specs.declared.Decoded.{Decoded}
 use Rattle.answering.specs.declared.Decoded.the-variants as decodes
@@ -30,7 +31,7 @@ use Rattle.strings.specs.Atomic.{oscString, oscBlob}
 use Rattle.writers.specs.Osc as osc
 use Rattle.encoder.specs.Outcome.{bytesOutcome, treeOutcome, malformed, formed}
 use Rattle.encoder.specs.declared.Encoded.the-variants as encodes
-use Rattle.answers.specs.Calls.{Meets, Ending, decode, encode, pad, look, text-of, refuses, byEncoded}
+use Rattle.answers.specs.Calls.{Meets, Ending, decode, encode, pad, look, text-of, refuses, byEncoded, Fruitless}
 use Rattle.answers.specs.Demands.{tableAfter}
 use Rattle.table.proofs.Examples as p3
 use Rattle.answers.proofs.Calls.Listed.{listed}
@@ -44,7 +45,7 @@ p1 table = record { answered = refl; left = refl }
 
 -- P14: 00000009 2F610000 is not all there
 p14 : (table : List ℕ)
-    → Meets (decode Tcp (0 ∷ 0 ∷ 0 ∷ 9 ∷ 0x2F ∷ 0x61 ∷ 0 ∷ 0 ∷ []) table 64) (record { answer = decodes.Waiting; lent = table })
+    → Meets (decode (Tcp Rosc) (0 ∷ 0 ∷ 0 ∷ 9 ∷ 0x2F ∷ 0x61 ∷ 0 ∷ 0 ∷ []) table 64) (record { answer = decodes.Waiting; lent = table })
 unfolding number prefixOf readFrame tcp decoded
 p14 table = record { answered = refl; left = refl }
 
@@ -78,7 +79,7 @@ unfolding bytes depth classOf sortOf oscString oscBlob osc.writeData osc.writeTa
 nested = formed (p3.once 0) (p3.within 0) p3.nested-tree refl
 
 -- a list of two frames
-list : Meets (decode TcpVec p3.two (blank 12) 2)
+list : Meets (decode (TcpVec Rosc) p3.two (blank 12) 2)
     (record { answer = decodes.Packets 12 0 0; lent = tableAfter tcpVec 2 p3.two (blank 12) })
 list = record { answered = sym two-answer; left = ap (λ (r : Decoded). tabled r (forestOf (tcpVec p3.two)) (blank 12)) two-answer }
 
@@ -108,4 +109,4 @@ short-unchanged : (e : Ending (encode (p3.table 2 2) 2 p3.packet eleven)) → Me
 short-unchanged e m =
     let c = encode (p3.table 2 2) 2 p3.packet eleven in
     let q : byEncoded (e .answer) ≡ refuses OutputShort = ap (λ (x : Ending c). byEncoded (x .answer)) (settled c e _ m short) in
-    nothing-changed _ e m (λ r. let z : _≡_ {A = ℕ} 0 1 = cc in omega arith)
+    nothing-changed _ e m (subst Fruitless (sym q) tt)

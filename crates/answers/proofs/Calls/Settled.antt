@@ -8,15 +8,16 @@ use Rattle.wire.specs.Pad.{padOf}
 use Rattle.values.specs.Look.{lookAt, startedAt, textNamed}
 use Rattle.wire.specs.Limits.{longest, deepest}
 use Rattle.node.specs.Forest.{Forest, nil, node, depth}
-use Rattle.totals.specs.Framing.{ruleOf}
+use Rattle.framing.specs.Framing.{ruleOf}
 use Rattle.answering.specs.Limits.{forestOf, tabled}
 use Rattle.answering.specs.declared.Decoded.{Decoded}
-use Rattle.answering.specs.declared.Decoded.the-variants.{Packets, Waiting, Refused}
+use Rattle.answering.specs.declared.Decoded.the-variants.{Packets, Waiting, Refused, Stopped}
 use Rattle.writers.specs.Osc.{writePacket}
-use Rattle.encoder.specs.Outcome.{Outcome, bytesOutcome, treeOutcome, Encodes, malformed, formed, unframed, prefixed, stringOutcome}
+use Rattle.encoder.specs.Outcome.{Outcome, bytesOutcome, treeOutcome, Encodes, malformed, formed, unframed, framedBy}
+use Rattle.encoder.specs.Outcome.{stringOutcome}
 use Rattle.strings.specs.Atomic.{oscString}
 use Rattle.answers.specs.Calls.{Call, decode, encode, encode-tcp, encode-string, pad, look, start-of, text-of, Ending, Answer, Lent}
-use Rattle.answers.specs.Calls.{result, byDecoded, byEncoded, Settled, Met, NothingChanged}
+use Rattle.answers.specs.Calls.{byDecoded, byEncoded, Fruitless, Settled, Met, NothingChanged}
 use Rattle.answers.specs.Demands.{answerTo, tableAfter}
 use Rattle.wire.proofs.Choices.{by-test, by-le}
 use Rattle.table.proofs.Theorem.{formed-tree}
@@ -37,8 +38,8 @@ pub settled : Settled
 settled (decode framing msg table limit) e e' m m' = let x = decodes-only m m' in ending (x .0) (x .1)
 settled (encode table count source out) e e' m m' =
     let x = outcome-one (encodes-only unframed _ _ _ _ _ _ m m') in ending (x .0) (x .1)
-settled (encode-tcp table count source out) e e' m m' =
-    let x = outcome-one (encodes-only prefixed _ _ _ _ _ _ m m') in ending (x .0) (x .1)
+settled (encode-tcp edition table count source out) e e' m m' =
+    let x = outcome-one (encodes-only (framedBy edition) _ _ _ _ _ _ m m') in ending (x .0) (x .1)
 settled (encode-string text out) e e' m m' = let x = outcome-one (m ∙ sym m') in ending (x .0) (x .1)
 settled (pad pos) e e' m m' = ending (m ∙ sym m') refl
 settled (look table index) e e' m m' = ending (m ∙ sym m') refl
@@ -55,11 +56,12 @@ encodes-met frame t count source out n =
 -- no call is without an ending
 pub met : Met
 met (decode framing msg table limit) n =
-    n (record { answer = answerTo (ruleOf framing) limit msg table; lent = tableAfter (ruleOf framing) limit msg table }) decodes-met
+    n (record { answer = answerTo (ruleOf framing limit) limit msg table; lent = tableAfter (ruleOf framing limit) limit msg table })
+    decodes-met
 met (encode table count source out) n =
     encodes-met unframed table count source out (λ r m. n (record { answer = r .answer; lent = r .out }) m)
-met (encode-tcp table count source out) n =
-    encodes-met prefixed table count source out (λ r m. n (record { answer = r .answer; lent = r .out }) m)
+met (encode-tcp edition table count source out) n =
+    encodes-met (framedBy edition) table count source out (λ r m. n (record { answer = r .answer; lent = r .out }) m)
 met (encode-string text out) n = let r = stringOutcome text out in n (record { answer = r .answer; lent = r .out }) refl
 met (pad pos) n = n (record { answer = padOf pos; lent = tt }) refl
 met (look table index) n = n (record { answer = lookAt table index; lent = tt }) refl
@@ -68,20 +70,21 @@ met (text-of value packet label) n = n (record { answer = textNamed value packet
 
 -- ---- nothing changed
 
-decoded-same : (r : Decoded) (f : Forest) (table : List ℕ) → (byDecoded r ≡ result → ⊥) → tabled r f table ≡ table
-decoded-same (Packets count left dirty) f table n = absurd (n refl)
+decoded-same : (r : Decoded) (f : Forest) (table : List ℕ) → Fruitless (byDecoded r) → tabled r f table ≡ table
+decoded-same (Packets count left dirty) f table n = absurd n
+decoded-same (Stopped count left dirty k at) f table n = absurd n
 decoded-same Waiting f table n = refl
 decoded-same (Refused k) f table n = refl
 
 -- an outcome of an encoder that gives no result leaves the output as it was
 abbrev Same : List ℕ → Outcome → Type 0
-Same out r = (byEncoded (r .answer) ≡ result → ⊥) → r .out ≡ out
+Same out r = Fruitless (byEncoded (r .answer)) → r .out ≡ out
 
 write-same : (bs out : List ℕ) → Same out (bytesOutcome bs out)
 unfolding bytesOutcome
 write-same bs out =
     by-le (Same out) (length bs) longest
-    (λ h. by-le (Same out) (length bs) (length out) (λ k n. absurd (n refl)) (λ k n. refl))
+    (λ h. by-le (Same out) (length bs) (length out) (λ k n. absurd n) (λ k n. refl))
     (λ h n. refl)
 
 encodes-same : {frame : ℕ → List ℕ → List ℕ} {t : List ℕ} {count : ℕ} {source out : List ℕ} {r : Outcome}
@@ -99,9 +102,9 @@ string-same text out = by-test (Same out) (utf8 text) (λ h. write-same (oscStri
 
 -- an ending without a result leaves every lent byte as it was
 pub nothing-changed : NothingChanged
-nothing-changed (decode framing msg table limit) e m n = m .left ∙ decoded-same (e .answer) (forestOf (ruleOf framing msg)) table n
+nothing-changed (decode framing msg table limit) e m n = m .left ∙ decoded-same (e .answer) (forestOf (ruleOf framing limit msg)) table n
 nothing-changed (encode table count source out) e m n = encodes-same m n
-nothing-changed (encode-tcp table count source out) e m n = encodes-same m n
+nothing-changed (encode-tcp edition table count source out) e m n = encodes-same m n
 nothing-changed (encode-string text out) e m n = subst (Same out) (sym m) (string-same text out) n
 nothing-changed (pad pos) e m n = refl
 nothing-changed (look table index) e m n = refl

@@ -17,7 +17,7 @@ use Rattle.arguments.specs.Arguments.{readTags}
 use Rattle.heads.specs.Heads.{sizeOf, prefixOf}
 use Rattle.packet.specs.FirstText.{startOf}
 use Rattle.packet.specs.Packet.{readMessage, bundleBy, elementBy, elementsBy, packetBy, packetAt, readPacket}
-use Rattle.totals.specs.Framing.{udp, readFrame, tcp, framesAt, readFrames, tcpVec}
+use Rattle.framing.specs.Framing.{udp, readFrame, tcp, framesAt, tcpVec}
 use Rattle.answering.specs.Limits.{decoded}
 use Rattle.answering.specs.declared.Decoded.the-variants.{Refused}
 use Rattle.answers.specs.Demands.{answerTo}
@@ -55,7 +55,7 @@ cut-list = 0 ∷ 0 ∷ 0 ∷ 8 ∷ 0x2F ∷ 0x61 ∷ 0 ∷ 0 ∷ 0 ∷ 0 ∷ 0 �
 
 cut-refused : answerTo tcpVec 64 cut-list (blank 1) ≡ Refused (Unreadable (Short Head 12))
 unfolding number size depth snoc classOf sortOf readText readArg readTags startOf sizeOf prefixOf readMessage bundleBy elementBy
-    elementsBy packetBy packetAt readPacket readFrame framesAt readFrames tcpVec decoded keptPadding packetsPadding
+    elementsBy packetBy packetAt readPacket readFrame framesAt tcpVec decoded keptPadding packetsPadding
 cut-refused = refl
 
 cut-short : (frame : ℕ) × (frame ≤ 12) × (frame ≤ length cut-list) × ShortIn (drop frame cut-list) 0 (Short Head (12 - frame))

@@ -12,6 +12,7 @@ use Rattle.refusal.specs.Refusal.{movedBy}
 use Rattle.refusal.specs.declared.Fault.{Fault}
 use Rattle.refusal.specs.declared.Fault.the-variants.{Empty, Short, NotUtf8, BadStart, NotOpen, UnknownTag, NotScalar}
 use Rattle.refusal.specs.declared.Field.{Field}
+use Rattle.refusal.specs.declared.Refusal.the-variants.{Unreadable}
 use Rattle.refusal.specs.declared.Field.the-variants.{Address, TypeText, Data, Padding, Head}
 use Rattle.wire.specs.Number.{number}
 use Rattle.wire.specs.Same.{sameBytes}
@@ -44,9 +45,10 @@ use Rattle.packet.specs.declared.Start.the-variants as start
 use Rattle.packet.proofs.FirstText.{message-start-in, bundle-start-in}
 use Rattle.packet.proofs.Knot.{packet-eq}
 use Rattle.node.specs.Records.{capacity}
-use Rattle.totals.specs.Framing.{Whole, trees, waiting, refusal, single, udp, Frame, wait, read, frameWith, readFrame, first, tcp, before}
-use Rattle.totals.specs.Framing.{afterFrame, framesAt, readFrames, tcpVec}
-use Rattle.totals.proofs.FrameKnot.{FrameIn, frame-in}
+use Rattle.framing.specs.Framing.{Whole, trees, waiting, refusal, stopped, single, udp, Frame, wait, read, frameWith, readFrame, first}
+use Rattle.framing.specs.Framing as frames
+use Rattle.framing.specs.Framing.{tcp, before, afterFrame, framesAt, refuses, tcpVec}
+use Rattle.framing.proofs.FrameKnot.{FrameIn, frame-in}
 use Rattle.answers.specs.Fields.{Endless, FieldShort, ShortIn, FieldsShort, FrameShort}
 use Rattle.answers.proofs.Longer.Faults.{read-refused}
 
@@ -227,6 +229,7 @@ packet-short base l p = subst (OutShort l p) (sym (packet-eq base l p)) (by-star
 abbrev FrameHas : List ℕ → Frame → Type 0
 FrameHas l wait = Unit {0}
 FrameHas l (read o) = OutShort l 0 o
+FrameHas l (frames.refused r) = (k : Fault) → r ≡ Unreadable k → ⊥
 
 frame-short : (base : ℕ) (l : List ℕ) → FrameHas l (readFrame base l)
 unfolding readFrame prefixOf
@@ -240,19 +243,21 @@ frame-short base l =
 abbrev WholeShort : List ℕ → Whole → Type 0
 WholeShort l (trees f left) = Unit {0}
 WholeShort l waiting = Unit {0}
-WholeShort l (refusal k) = ShortIn l 0 k
+WholeShort l (refusal r) = (k : Fault) → r ≡ Unreadable k → ShortIn l 0 k
+WholeShort l (stopped f left k at) = Unit {0}
 
 single-short : (n : ℕ) (l : List ℕ) (o : Out) → OutShort l 0 o → WholeShort l (single n o)
-single-short n l (fault k) s = s
+single-short n l (fault k) s = λ j e. let same : k ≡ j = cc in subst (ShortIn l 0) same s
 single-short n l (one item inside used) s = tt
 
 first-short : (n : ℕ) (l : List ℕ) (x : Frame) → FrameHas l x → WholeShort l (first n x)
 first-short n l wait s = tt
 first-short n l (read o) s = single-short n l o s
+first-short n l (frames.refused r) s = λ k e. absurd (s k e)
 
 module _ (rule : List ℕ → Whole) (short : (msg : List ℕ) → WholeShort msg (rule msg)) where
   fields-short : FieldsShort rule
-  fields-short msg limit table field at e = subst (WholeShort msg) (read-refused rule (capacity table) limit msg e) (short msg)
+  fields-short msg limit table field at e = subst (WholeShort msg) (read-refused rule (capacity table) limit msg e) (short msg) _ refl
 
 -- the field that `decode_udp` tells of is not all there
 pub fields-short-udp : FieldsShort udp
@@ -277,13 +282,16 @@ record InFrame (l : List ℕ) (base : ℕ) (k : Fault) : Type 0 where
 abbrev ListShort : List ℕ → ℕ → Whole → Type 0
 ListShort l base (trees f left) = Unit {0}
 ListShort l base waiting = Unit {0}
-ListShort l base (refusal k) = InFrame l base k
+ListShort l base (refusal r) = (k : Fault) → r ≡ Unreadable k → InFrame l base k
+ListShort l base (stopped f left k at) = Unit {0}
 
 before-short : (item : Item) (f : Forest) (used base : ℕ) (l : List ℕ) (w : Whole) → used ≤ length l
     → ListShort (drop used l) (base + used) w → ListShort l base (before item f w)
 before-short item f used base l (trees g left) h s = tt
 before-short item f used base l waiting h s = tt
-before-short item f used base l (refusal k) h s =
+before-short item f used base l (stopped g left k at) h s = tt
+before-short item f used base l (refusal r) h w = λ k e.
+    let s = w k e in
     let sum : base + used + s .frame ≡ base + (used + s .frame) = omega arith in
     record {
       frame = used + s .frame;
@@ -294,21 +302,24 @@ before-short item f used base l (refusal k) h s =
     }
 
 after-frame-short : (go : ℕ → List ℕ → Whole) (base : ℕ) (l : List ℕ) (x : Frame) → FrameIn (length l) x → FrameHas l x
-    → ((q : ℕ) (m : List ℕ) → length m < length l → ListShort m q (go q m)) → ListShort l base (afterFrame go base l x)
+    → ((q : ℕ) (m : List ℕ) → length m < length l → ListShort m q (go q m)) → ListShort l base (afterFrame refuses go base l x)
 after-frame-short go base l wait w s h = tt
-after-frame-short go base l (read (fault k)) w s h =
+after-frame-short go base l (frames.refused r) w s h = λ k e. absurd (s k e)
+after-frame-short go base l (read (fault k)) w s h = λ j e.
     let z : base + 0 ≡ base = omega arith in
-    record { frame = 0; within = omega arith; own = k; moved = ap (λ (m : ℕ). movedBy m k) (sym z); short = s }
+    let same : j ≡ movedBy base k = cc in
+    record { frame = 0; within = omega arith; own = k; moved = same ∙ ap (λ (m : ℕ). movedBy m k) (sym z); short = s }
 after-frame-short go base l (read (one item f used)) w s h =
     by-le (ListShort l base) (length l) used (λ g. tt)
     (λ g. before-short item f used base l (go (base + used) (drop used l)) (omega arith)
     (h (base + used) (drop used l) (omega (arith, length-drop used l))))
 
-frames-short : (n base : ℕ) (l : List ℕ) → length l < n → ListShort l base (framesAt n base l)
+frames-short : (n base : ℕ) (l : List ℕ) → length l < n → ListShort l base (framesAt (λ b m. readFrame b m) refuses n base l)
 unfolding framesAt
 frames-short zero base l h = absurd (omega arith)
 frames-short (suc n) base l h =
-    after-frame-short (λ b m. framesAt n b m) base l (readFrame base l) (frame-in base l) (frame-short base l)
+    after-frame-short (λ b m. framesAt (λ c k. readFrame c k) refuses n b m) base l (readFrame base l) (frame-in base l)
+    (frame-short base l)
     (λ q m g. frames-short n q m (omega arith))
 
 -- the field of a list's frame is the one that the list tells of
@@ -332,7 +343,8 @@ from-frame msg field at s = by-own (s .own) (s .moved) (s .short)
 
 -- and the one that `decode_tcp_vec` tells of, from its frame on
 pub frame-field-short : FrameShort
-unfolding tcpVec readFrames
+unfolding tcpVec
 frame-field-short msg limit table field at e =
     from-frame msg field at
-    (subst (ListShort msg 0) (read-refused tcpVec (capacity table) limit msg e) (frames-short (suc (length msg)) 0 msg (omega arith)))
+    (subst (ListShort msg 0) (read-refused tcpVec (capacity table) limit msg e)
+    (frames-short (suc (length msg)) 0 msg (omega arith)) _ refl)

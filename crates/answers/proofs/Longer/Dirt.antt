@@ -19,7 +19,7 @@ use Rattle.heads.proofs.Heads.{prefix-in}
 use Rattle.packet.specs.Packet.{Out, fault, one, after, readPacket}
 use Rattle.packet.proofs.Dirt.{packet-same}
 use Rattle.packet.proofs.Items.{packet-start}
-use Rattle.totals.specs.Framing.{Whole, single, udp, frameWith, readFrame, first, tcp}
+use Rattle.framing.specs.Framing.{Whole, single, udp, frameWith, readFrame, first, tcp}
 use Rattle.answering.specs.Limits.{forestOf}
 use Rattle.answers.specs.Words.{BeginsSame, none, also, Continues, message, bundle}
 

@@ -4,6 +4,7 @@ use mathlib.Core.Path.{_≡_, refl, sym, _∙_}
 use mathlib.Core.List.{List, [], _∷_, _++_}
 use Prim.Native.Nat.{ℕ}
 use native.Mathlib.Omega.{arith}
+use lib.ListN.{drop}
 use Rattle.refusal.specs.declared.Fault.the-variants.{Empty, Short, BadStart, UnknownTag}
 use Rattle.refusal.specs.declared.Field.the-variants.{TypeText}
 use Rattle.refusal.specs.declared.Refusal.the-variants.{Unreadable}
@@ -14,19 +15,22 @@ use Rattle.text.specs.Text.{readText}
 use Rattle.argument.specs.Argument.{readArg}
 use Rattle.argument.specs.Dirt.{keptPadding, packetsPadding}
 use Rattle.arguments.specs.Arguments.{readTags}
-use Rattle.heads.specs.Heads.{sizeOf, prefixOf}
+use Rattle.heads.specs.Heads.{sizeOf, prefixOf, lengthOf}
 use Rattle.packet.specs.FirstText.{startOf}
 use Rattle.packet.specs.Packet.{readMessage, bundleBy, elementBy, elementsBy, packetBy, packetAt, readPacket}
-use Rattle.totals.specs.Framing.{udp, readFrame, tcp, framesAt, readFrames, tcpVec}
+use Rattle.framing.specs.Framing.{udp, readFrame, cutFrame, tcp, framesAt, tcpVec, tcpVec2, ruleOf}
+use Rattle.edition.specs.declared.Edition.the-variants.{Standard}
+use Rattle.framing.specs.declared.Framing.the-variants.{TcpVec}
 use Rattle.answering.specs.Limits.{decoded}
 use Rattle.answering.specs.declared.Decoded.{Decoded}
 use Rattle.answering.specs.declared.Decoded.the-variants.{Packets, Refused}
-use Rattle.answers.specs.Words.{Unlimited}
-use Rattle.answers.specs.Demands.{answerTo, GoesOn, FaultsStay}
+use Rattle.answers.specs.Words.{Gives, Unlimited}
+use Rattle.answers.specs.Demands.{answerTo, GoesOn, Stay, FaultsStay}
 use Rattle.decoder.proofs.Answers.{no-packets}
 use Rattle.table.proofs.Examples as p3
 use Rattle.table.proofs.Examples.{empty, nested}
 use Rattle.answers.proofs.Longer.MoreBytes.{more-bytes-udp, more-bytes-tcp}
+use Rattle.answers.proofs.Longer.Stay.{list-stays}
 use Rattle.answers.proofs.Longer.Faults.{faults-stay-udp, faults-stay-tcp}
 use Rattle.answers.proofs.Room.Examples.{blank, nested-answer}
 
@@ -139,13 +143,13 @@ third-refused = (prefix ++ empty) ++ (0 ∷ 0 ∷ 0 ∷ 17 ∷ 0x2F ∷ 0 ∷ 0 
 
 third-as-list : answerTo tcpVec 64 third-refused (blank 2) ≡ Refused (Unreadable BadStart)
 unfolding prefix number size depth snoc classOf sortOf readText readArg readTags startOf sizeOf prefixOf readMessage bundleBy elementBy
-    elementsBy packetBy packetAt readPacket readFrame framesAt readFrames tcpVec decoded keptPadding packetsPadding
+    elementsBy packetBy packetAt readPacket readFrame framesAt tcpVec decoded keptPadding packetsPadding
 third-as-list = refl
 
 -- with a byte appended the element is whole, and the bundle takes it
 third-taken : answerTo tcpVec 64 (third-refused ++ (0 ∷ [])) (blank 2) ≡ Packets 2 0 0
 unfolding prefix number size depth snoc classOf sortOf readText readArg readTags startOf sizeOf prefixOf readMessage bundleBy elementBy
-    elementsBy packetBy packetAt readPacket readFrame framesAt readFrames tcpVec decoded keptPadding packetsPadding
+    elementsBy packetBy packetAt readPacket readFrame framesAt tcpVec decoded keptPadding packetsPadding
 third-taken = refl
 
 -- after an element of 9 bytes the second frame, 00000009 2F000000 2C780000, is itself refused, with 7
@@ -158,7 +162,7 @@ second-refused =
 second-mended : (answerTo tcpVec 64 second-refused (blank 3) ≡ Refused (Unreadable UnknownTag))
     × (answerTo tcpVec 64 (second-refused ++ (0 ∷ [])) (blank 3) ≡ Packets 3 0 2)
 unfolding prefix number size depth snoc classOf sortOf readText readArg readTags startOf sizeOf prefixOf readMessage bundleBy elementBy
-    elementsBy packetBy packetAt readPacket readFrame framesAt readFrames tcpVec decoded keptPadding packetsPadding
+    elementsBy packetBy packetAt readPacket readFrame framesAt tcpVec decoded keptPadding packetsPadding
 second-mended = (refl, refl)
 
 -- so the statement is false of `decode_tcp_vec`
@@ -167,3 +171,32 @@ unfolding prefix
 lists-may-mend stay =
     no-packets (sym third-taken
     ∙ stay third-refused (0 ∷ []) 64 64 (blank 2) (blank 2) BadStart (λ m. m) (omega arith) (omega arith) third-as-list)
+
+-- ---- edition 2
+
+-- a frame with "/a" in it, and the first bytes of another
+abbrev slash : List ℕ
+slash = 0 ∷ 0 ∷ 0 ∷ 8 ∷ 0x2F ∷ 0x61 ∷ 0 ∷ 0 ∷ 0x2C ∷ 0 ∷ 0 ∷ 0 ∷ []
+
+abbrev begun : List ℕ
+begun = slash ++ (0 ∷ 0 ∷ 0 ∷ 8 ∷ [])
+
+one-given : Gives (answerTo (ruleOf (TcpVec Standard) 0) 0 begun (blank 1)) 1 0
+unfolding number size depth snoc classOf sortOf readText readArg readTags startOf sizeOf lengthOf readMessage bundleBy elementBy
+    elementsBy packetBy packetAt readPacket cutFrame framesAt tcpVec2 decoded keptPadding packetsPadding
+one-given = (refl, refl)
+
+both-given : answerTo (ruleOf (TcpVec Standard) 64) 64 (begun ++ drop 4 slash) (blank 2) ≡ Packets 2 0 0
+unfolding number size depth snoc classOf sortOf readText readArg readTags startOf sizeOf lengthOf readMessage bundleBy elementBy
+    elementsBy packetBy packetAt readPacket cutFrame framesAt tcpVec2 decoded keptPadding packetsPadding
+both-given = refl
+
+-- with the rest of the second frame, the first one's record stays
+first-stays : Stay (TcpVec Standard) begun (drop 4 slash) 0 64 (blank 1) (blank 2) 1
+first-stays =
+    list-stays begun (drop 4 slash) 0 64 (blank 1) (blank 2) 1 0 (omega arith) one-given
+    (record {
+      no-1 = λ e. let p = both-given in let z : _≡_ {A = ℕ} 0 1 = cc in omega arith;
+      no-10 = λ e. let p = both-given in let z : _≡_ {A = ℕ} 0 1 = cc in omega arith;
+      no-13 = λ e. let p = both-given in let z : _≡_ {A = ℕ} 0 1 = cc in omega arith;
+    })

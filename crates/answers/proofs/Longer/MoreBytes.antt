@@ -6,7 +6,7 @@ use native.Mathlib.Omega.{arith}
 use Rattle.node.specs.Forest.{Forest, size}
 use Rattle.node.specs.Records.{recordsOf}
 use Rattle.argument.specs.Dirt.{dirtyIn}
-use Rattle.totals.specs.Framing.{Whole, trees, udp, tcp}
+use Rattle.framing.specs.Framing.{Whole, trees, udp, tcp}
 use Rattle.answering.specs.Limits.{decoded, forestOf}
 use Rattle.answering.specs.declared.Decoded.the-variants.{Packets}
 use Rattle.answers.specs.Words.{Continues, Unlimited}

@@ -20,7 +20,7 @@ begins-all nil = none
 begins-all (node item inside rest) = also (begins-all rest)
 
 -- a row begins with the records of another: so many bytes of it are those records
-begins-records : {f g : Forest} (i : ℕ) (x : List ℕ) → BeginsSame f g → (y : List ℕ) × (recordsOf i g ++ x ≡ recordsOf i f ++ y)
+pub begins-records : {f g : Forest} (i : ℕ) (x : List ℕ) → BeginsSame f g → (y : List ℕ) × (recordsOf i g ++ x ≡ recordsOf i f ++ y)
 unfolding recordsOf
 begins-records {f} {g} i x none = (recordsOf i g ++ x, refl)
 begins-records i x (also {item = item} {inside = inside} w) =

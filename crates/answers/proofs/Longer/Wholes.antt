@@ -7,13 +7,14 @@ use borrow.Author.Tests.{le-leb}
 use lib.ListN.{length, drop, length-append}
 use lib.Seq.{drop-append-le}
 use Rattle.refusal.specs.declared.Fault.{Fault}
+use Rattle.refusal.specs.declared.Refusal.the-variants.{Unreadable}
 use Rattle.wire.specs.Number.{number}
 use Rattle.node.specs.Forest.{Forest}
 use Rattle.heads.specs.Heads.{prefixOf}
 use Rattle.heads.specs.declared.Prefix.{Prefix}
 use Rattle.heads.specs.declared.Prefix.the-variants as prefix
 use Rattle.packet.specs.Packet.{Out}
-use Rattle.totals.specs.Framing.{Whole, trees, waiting, refusal, single, udp, frameWith, readFrame, first, tcp}
+use Rattle.framing.specs.Framing.{Whole, trees, waiting, refusal, single, udp, frameWith, readFrame, first, tcp}
 use Rattle.answers.specs.Words.{Continues, message, bundle, Mendable}
 use Rattle.wire.proofs.Choices.{by-le}
 use Rattle.heads.proofs.Heads.{prefix-in}
@@ -22,7 +23,7 @@ use Rattle.answers.proofs.Longer.Packets.{Grows, was-refused, same-mess
 
 -- trees that were given go on, and a fault that no bytes mend is the same
 pub data Longer : Whole → Whole → Type 0 where
-  no-tree : {k : Fault} {w : Whole} → ((Mendable k → ⊥) → w ≡ refusal k) → Longer (refusal k) w
+  no-tree : {k : Fault} {w : Whole} → ((Mendable k → ⊥) → w ≡ refusal (Unreadable k)) → Longer (refusal (Unreadable k)) w
   none-yet : {w : Whole} → Longer waiting w
   goes-on : {f g : Forest} {left left' : ℕ} → Continues f g → Longer (trees f left) (trees g left')
 

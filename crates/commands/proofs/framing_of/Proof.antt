@@ -34,10 +34,42 @@ unfolding framingOf
 returns-4 c =
     let p3 = c .before .before .before in
     let p6 = p3 .before .before .before in
+    let p9 = p6 .before .before .before in
     rw (
-      tested (p6 .before .is-word .ensures) (p6 .if1 .left),
-      tested (p3 .before .is-word2 .ensures) (p3 .if2 .left),
-      tested (c .before .is-word3 .ensures) (c .if3 .left),
+      tested (p9 .before .is-word .ensures) (p9 .if1 .left),
+      tested (p6 .before .is-word2 .ensures) (p6 .if2 .left),
+      tested (p3 .before .is-word3 .ensures) (p3 .if3 .left),
+      tested (c .before .is-word4 .ensures) (c .if4 .taken),
+    )
+
+returns-5 : tie.Need-returns-5
+unfolding framingOf
+returns-5 c =
+    let p3 = c .before .before .before in
+    let p6 = p3 .before .before .before in
+    let p9 = p6 .before .before .before in
+    let p12 = p9 .before .before .before in
+    rw (
+      tested (p12 .before .is-word .ensures) (p12 .if1 .left),
+      tested (p9 .before .is-word2 .ensures) (p9 .if2 .left),
+      tested (p6 .before .is-word3 .ensures) (p6 .if3 .left),
+      tested (p3 .before .is-word4 .ensures) (p3 .if4 .left),
+      tested (c .before .is-word5 .ensures) (c .if5 .taken),
+    )
+
+returns-6 : tie.Need-returns-6
+unfolding framingOf
+returns-6 c =
+    let p3 = c .before .before .before in
+    let p6 = p3 .before .before .before in
+    let p9 = p6 .before .before .before in
+    let p12 = p9 .before .before .before in
+    rw (
+      tested (p12 .before .is-word .ensures) (p12 .if1 .left),
+      tested (p9 .before .is-word2 .ensures) (p9 .if2 .left),
+      tested (p6 .before .is-word3 .ensures) (p6 .if3 .left),
+      tested (p3 .before .is-word4 .ensures) (p3 .if4 .left),
+      tested (c .before .is-word5 .ensures) (c .if5 .left),
     )
 
 pub framing-of-spec : {M : Type 1} → statement M
@@ -53,4 +85,10 @@ framing-of-spec =
     (λ c. search needs)
     (λ c κs. search needs)
     returns-3
-    returns-4)
+    (λ c. search needs)
+    (λ c κs. search needs)
+    returns-4
+    (λ c. search needs)
+    (λ c κs. search needs)
+    returns-5
+    returns-6)

@@ -16,13 +16,15 @@ use Rattle.arguments.specs.Arguments.{readTags}
 use Rattle.heads.specs.Heads.{sizeOf, prefixOf}
 use Rattle.packet.specs.FirstText.{startOf}
 use Rattle.packet.specs.Packet.{readMessage, bundleBy, elementBy, elementsBy, packetBy, packetAt, readPacket}
-use Rattle.totals.specs.Framing.{udp, readFrame, tcp, framesAt, readFrames, tcpVec}
-use Rattle.totals.specs.declared.Framing.the-variants.{Udp, Tcp, TcpVec}
+use Rattle.framing.specs.Framing.{udp, readFrame, tcp, framesAt, tcpVec}
+use Rattle.framing.specs.declared.Framing.the-variants.{Udp, Tcp, TcpVec}
 use Rattle.answering.specs.Limits.{decoded}
 use Rattle.table.specs.Formed.{WellFormed}
 use Rattle.answers.specs.Demands.{tableAfter}
 use Rattle.given.specs.Encodable.{AreTrees}
 use Rattle.table.proofs.Examples.{small-bytes, mixed, nested, two, once, mixed-item, mixed-arguments, within}
+use Rattle.edition.specs.declared.Edition.the-variants.{Rosc}
+use Rattle.answers.proofs.Answered.{packets-give}
 use Rattle.answers.proofs.Room.Examples.{blank, nested-answer, two-answer}
 use Rattle.given.proofs.Encodable.Tables.{gives-trees, encodable}
 
@@ -38,21 +40,21 @@ by-udp = encodable Udp nested (small-bytes nested tt) 2 (blank 7) (once 0) (with
 by-tcp : WellFormed (tableAfter tcp 64 framed (blank 5)) 5 framed
 unfolding number size depth snoc classOf sortOf readText readArg readTags startOf prefixOf readMessage packetBy packetAt
     readPacket readFrame tcp decoded keptPadding packetsPadding
-by-tcp = encodable Tcp framed (small-bytes framed tt) 64 (blank 5) (mixed-item 4) (mixed-arguments 4) 0 5 0 refl refl
+by-tcp = encodable (Tcp Rosc) framed (small-bytes framed tt) 64 (blank 5) (mixed-item 4) (mixed-arguments 4) 0 5 0 refl refl
 
 by-vec : WellFormed (tableAfter tcpVec 64 framed (blank 5)) 5 framed
 unfolding number size depth snoc classOf sortOf readText readArg readTags startOf prefixOf readMessage packetBy packetAt
-    readPacket readFrame framesAt readFrames tcpVec decoded keptPadding packetsPadding
-by-vec = encodable TcpVec framed (small-bytes framed tt) 64 (blank 5) (mixed-item 4) (mixed-arguments 4) 0 5 0 refl refl
+    readPacket readFrame framesAt tcpVec decoded keptPadding packetsPadding
+by-vec = encodable (TcpVec Rosc) framed (small-bytes framed tt) 64 (blank 5) (mixed-item 4) (mixed-arguments 4) 0 5 0 refl refl
 
 -- twelve records, of two trees
 by-list : AreTrees (tableAfter tcpVec 2 two (blank 12)) 12 two (node (mixed-item 4) (mixed-arguments 4) (node (once 44) (within 44) nil))
 unfolding number size depth snoc classOf sortOf readText readArg readTags startOf sizeOf prefixOf readMessage bundleBy elementBy
-    elementsBy packetBy packetAt readPacket readFrame framesAt readFrames tcpVec
-by-list = gives-trees TcpVec two (small-bytes two tt) 2 (blank 12) 12 0 0 two-answer
+    elementsBy packetBy packetAt readPacket readFrame framesAt tcpVec
+by-list = gives-trees (TcpVec Rosc) two (small-bytes two tt) 2 (blank 12) 12 0 (packets-give two-answer)
 
 -- record 1's text is é
 its-text : Octets (0xC3 ∷ 0xA9 ∷ [])
 unfolding number bytes size depth snoc classOf sortOf readText readArg readTags startOf sizeOf prefixOf readMessage bundleBy elementBy
-    elementsBy packetBy packetAt readPacket readFrame framesAt readFrames tcpVec decoded stored recordOf recordsOf kindAt fieldAt
+    elementsBy packetBy packetAt readPacket readFrame framesAt tcpVec decoded stored recordOf recordsOf kindAt fieldAt
 its-text = by-list .reliable 1 (omega arith) .valid refl

@@ -4,13 +4,13 @@ use Prim.Native.Nat.{ℕ, _*_, _≤_}
 use native.Mathlib.Omega.{arith}
 use lib.ListN.{length}
 use borrow.Author.Needs.{needs}
-use Rattle.totals.specs.Framing.{ruleOf}
+use Rattle.framing.specs.Framing.{ruleOf}
 use Rattle.answering.specs.Limits.{decoded, forestOf}
 use Rattle.answering.specs.declared.Decoded.{Decoded}
 use Rattle.node.specs.Records.{recordSize, recordsOf}
 use Rattle.telling.specs.Answers.{decodedLine}
 use Rattle.telling.proofs.Told.{says-as}
-use Rattle.outcomes.specs.Kept.{rootsOf, isPackets, keptTrees}
+use Rattle.outcomes.specs.Kept.{rootsOf, hasTable, keptTrees}
 use Rattle.outcomes.specs.Told.{decodedWith}
 use Rattle.outcomes.proofs.Answers.{leaves, answered, answer-fits, records-in, stand, bytes-kept, bytes-counted, packets-told}
 use Rattle.outcomes.proofs.decode_told.Statement.{statement}
@@ -23,7 +23,7 @@ root-count-requires c κs =
     let p6 = p4 .before .before in
     let a = p6 .before .before .before .before .args in
     let msg = a .msg .now in
-    let rule = ruleOf (a .framing) in
+    let rule = ruleOf (a .framing) (a .options .depth) in
     let e = p4 .decode .ensures in
     records-in (leaves (p4 .decode .result) (forestOf (rule msg)) _ _ (e .left))
     (answer-fits rule (a .options .depth) msg (a .table .now) (p6 .least .result) (search needs) (e .answered)) (p1 .kept-count .ensures)
@@ -36,7 +36,7 @@ mul-bytes c =
     let s = p11 .before .before .before .before in
     let a = s .args in
     let h : p11 .least .result * recordSize ≤ length (a .table .now) = omega (arith, s .pre, p11 .least .ensures) in
-    let rule = ruleOf (a .framing) in
+    let rule = ruleOf (a .framing) (a .options .depth) in
     let x = answer-fits rule (a .options .depth) (a .msg .now) (a .table .now) (p11 .least .result) h (p9 .decode .ensures .answered) in
     record { fits = omega (arith, x .few, p6 .kept-count .ensures, p11 .least .ensures) }
 
@@ -50,7 +50,7 @@ returns c =
     let s = p12 .before .before .before .before in
     let a = s .args in
     let msg = a .msg .now in
-    let rule = ruleOf (a .framing) in
+    let rule = ruleOf (a .framing) (a .options .depth) in
     let f = forestOf (rule msg) in
     let e = p10 .decode .ensures in
     let d = p10 .decode .result in
@@ -63,7 +63,7 @@ returns c =
     let n : p5 .root-count .result ≡ rootsOf (keptTrees d f)
     = p5 .root-count .ensures (keptTrees d f) (stand l x (p7 .kept-count .ensures) (omega (arith, p12 .least .ensures))) in
     record {
-      kept = c .is-packets .ensures ∙ ap isPackets r;
+      kept = c .has-table .ensures ∙ ap hasTable r;
       counts = bytes-counted l x (p7 .kept-count .ensures);
       bytes = bytes-kept l x (p7 .kept-count .ensures) ∙ ap (λ (y : Decoded). recordsOf 0 (keptTrees y f)) r;
       says = says-as

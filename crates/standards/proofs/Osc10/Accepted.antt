@@ -13,7 +13,7 @@ use Rattle.argument.specs.Dirt.{dirtyIn}
 use Rattle.packet.specs.Packet.{readPacket, one}
 use Rattle.heads.specs.Heads.{prefixOf}
 use Rattle.heads.specs.declared.Prefix.the-variants as prefix
-use Rattle.totals.specs.Framing.{Whole, trees, udp, readFrame, tcp}
+use Rattle.framing.specs.Framing.{Whole, trees, udp, readFrame, tcp}
 use Rattle.answering.specs.Limits.{decoded}
 use Rattle.answering.specs.declared.Decoded.the-variants as decoder
 use Rattle.osc10.specs.Osc10.{Packet, Allowed, deep, oscInt32, StandsFor}
@@ -26,13 +26,14 @@ use Rattle.osc10.proofs.Clean.{call-clean}
 use Rattle.osc10.proofs.Depth.{tree-deep}
 
 module _ (rule : List ℕ → Whole) (s : List ℕ) where
-  -- a tree that is read whole is decoded where there is room
-  decode-whole : (room : ℕ) (F : Forest) → rule s ≡ trees F 0 → dirtyIn s F ≡ 0 → length s ≤ longest → depth F ≤ deepest → size F ≤ room
+  -- trees that are read whole are decoded where there is room
+  pub decode-whole : (room : ℕ) (F : Forest) → rule s ≡ trees F 0 → dirtyIn s F ≡ 0 → length s ≤ longest → depth F ≤ deepest → size F ≤ room
       → decoded rule room deepest s ≡ decoder.Packets (size F) 0 0
   unfolding decoded
   decode-whole room F e z n d c = rw (le-leb (length s) longest n, e, le-leb (depth F) deepest d, le-leb (size F) room c, z)
 
-  accept : (P : Packet) (item : Item) (inside : Forest) → Allowed P → length s ≤ longest → deep P ≤ deepest → StandsFor s P item inside
+  -- a tree that stands for a packet is accepted as it
+  pub accept : (P : Packet) (item : Item) (inside : Forest) → Allowed P → length s ≤ longest → deep P ≤ deepest → StandsFor s P item inside
       → rule s ≡ trees (node item inside nil) 0 → dirtyIn s (node item inside nil) ≡ 0
       → AcceptedAs rule P s
   unfolding depth
@@ -75,7 +76,7 @@ module _ (l : List ℕ) (low : length l < 256 ^ 4) where
       rw (← frame-ready, d, e, z)
 
   -- it stands after the prefix
-  frame-at : At (oscFrame l) 4 l
+  pub frame-at : At (oscFrame l) 4 l
   frame-at = rw length-bytes at (at-back (oscInt32 (length l)) l (at-all (oscFrame l)))
 
 -- the frame of every packet that OSC 1.0 allows, within the limits, is accepted as what it holds

@@ -22,7 +22,7 @@ use Rattle.values.specs.declared.value.OscType.the-variants.{Int}
 use Rattle.values.specs.declared.look.Looked.the-variants.{Value}
 use Rattle.argument.specs.Argument.{argItem}
 use Rattle.heads.specs.Heads.{messageItem}
-use Rattle.totals.specs.Framing.{udp, tcp}
+use Rattle.framing.specs.Framing.{udp, tcp}
 use Rattle.table.specs.Formed.{rangeOk, allowed}
 use Rattle.table.specs.Tree.{IsTree}
 use Rattle.strings.specs.Atomic.{oscString, oscBlob}
@@ -128,19 +128,20 @@ bracketed-accepted =
 -- ---- a message of OSC 1.0 itself
 
 -- /a with a blob of one byte, the double 1.5, the character x, the integer -1 and the text hi
-abbrev mixed : Packet
+abbrev pub mixed : Packet
 mixed =
     message (0x2F ∷ 0x61 ∷ [])
     (atom (blob (0xFF ∷ []))
     (atom (long 100 0x3FF80000 0) (atom (char 0x78) (atom (word 105 0xFFFFFFFF) (atom (string (0x68 ∷ 0x69 ∷ [])) end)))))
 
 -- 2F610000 2C626463 69730000 00000001 FF000000 3FF80000 00000000 00000078 FFFFFFFF 68690000
-abbrev mixed-bytes : List ℕ
+abbrev pub mixed-bytes : List ℕ
 mixed-bytes =
     0x2F ∷ 0x61 ∷ 0 ∷ 0 ∷ 0x2C ∷ 0x62 ∷ 0x64 ∷ 0x63 ∷ 0x69 ∷ 0x73 ∷ 0 ∷ 0 ∷ 0 ∷ 0 ∷ 0 ∷ 1 ∷ 0xFF ∷ 0 ∷ 0 ∷ 0
     ∷ 0x3F ∷ 0xF8 ∷ 0 ∷ 0 ∷ 0 ∷ 0 ∷ 0 ∷ 0 ∷ 0 ∷ 0 ∷ 0 ∷ 0x78 ∷ 0xFF ∷ 0xFF ∷ 0xFF ∷ 0xFF ∷ 0x68 ∷ 0x69 ∷ 0 ∷ 0 ∷ []
 
-mixed-strict : Strict mixed
+-- it is of OSC 1.0 itself
+pub mixed-strict : Strict mixed
 unfolding StrictIn ArgumentsStrict
 mixed-strict = (
   refl,
@@ -154,7 +155,8 @@ mixed-strict = (
   ),
 )
 
-mixed-spelled : Spells mixed mixed-bytes
+-- its bytes
+pub mixed-spelled : Spells mixed mixed-bytes
 unfolding bytes tagsOf
 mixed-spelled =
     as-message

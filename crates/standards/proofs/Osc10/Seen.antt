@@ -17,10 +17,11 @@ use Rattle.node.specs.declared.tags.Sort.the-variants.{Leaf}
 use Rattle.table.specs.Tree.{Spans}
 use Rattle.values.specs.Value.{bareOf, narrowOf, valueBy, valueOf}
 use Rattle.values.specs.Look.{partOr}
-use Rattle.totals.specs.Framing.{ruleOf}
+use Rattle.framing.specs.Framing.{ruleOf}
 use Rattle.answering.specs.Limits.{forestOf}
-use Rattle.totals.specs.declared.Framing.{Framing}
-use Rattle.totals.specs.declared.Framing.the-variants.{Udp, Tcp}
+use Rattle.framing.specs.declared.Framing.{Framing}
+use Rattle.edition.specs.declared.Edition.the-variants.{Rosc}
+use Rattle.framing.specs.declared.Framing.the-variants.{Udp, Tcp}
 use Rattle.answering.specs.declared.Decoded.the-variants.{Packets}
 use Rattle.answers.specs.Demands.{tableAfter, answerTo}
 use Rattle.osc10.specs.Osc10.{Atom, word, long, bare, string, blob, char, OscArguments, end, atom, array, Packet, message, bundle, none}
@@ -194,17 +195,17 @@ module _ (l t : List ℕ) (count : ℕ) (room : count ≤ capacity t) (zeros : (
 
 module _ (framing : Framing) (P : Packet) (l : List ℕ) (h : Allowed P) (low : length l ≤ longest) where
   -- a packet that is accepted as what it is is seen as what it is
-  seen-as : AcceptedAs (ruleOf framing) P l → SeenAs (ruleOf framing) P l
+  pub seen-as : AcceptedAs (ruleOf framing deepest) P l → SeenAs (ruleOf framing deepest) P l
   unfolding size Spans
   seen-as A table room =
-      let rule = ruleOf framing in
+      let rule = ruleOf framing deepest in
       let F = node (A .item) (A .inside) nil in
       let count = length (entriesOf P) in
       let c : size F ≡ count = omega (arith, packet-size (A .stands)) in
       let q : answerTo rule deepest l table ≡ Packets count 0 0 = rw c at (A .decodes (capacity table) (omega arith)) in
-      let few : size F + 0 ≤ length l = subst (WholeIn (length l)) (A .read) (whole-in framing l) in
+      let few : size F + 0 ≤ length l = subst (WholeIn (length l)) (A .read) (whole-in framing deepest l) in
       let t = tableAfter rule deepest l table in
-      let b : Begun 0 F (length l) = subst (WholeBegun 0 (length l)) (A .read) (whole-begun framing l) in
+      let b : Begun 0 F (length l) = subst (WholeBegun 0 (length l)) (A .read) (whole-begun framing deepest l) in
       let f = packet-fits (omega arith) P h (A .stands) b (omega arith) in
       let w = after-held rule deepest l table q F (ap forestOf (A .read)) f (omega arith) in
       let s = w .spans in
@@ -221,4 +222,4 @@ osc10-seen P l h w n d = seen-as Udp P l h n (osc10-accepted P l h w n d)
 
 -- and in a frame by `decode_tcp`
 pub frame-seen : FrameSeen
-frame-seen P l h w n d = seen-as Tcp P _ h n (frame-accepted P l h w n d)
+frame-seen P l h w n d = seen-as (Tcp Rosc) P _ h n (frame-accepted P l h w n d)

@@ -14,7 +14,8 @@ use Rattle.node.specs.Forest.{Forest, nil, node, depth}
 use Rattle.node.specs.declared.record.Item.{Item}
 use Rattle.table.specs.Tree.{Obeys, IsTree, FieldsFit}
 use Rattle.writers.specs.Osc.{writePacket}
-use Rattle.encoder.specs.Outcome.{Outcome, Encodes, formed, unframed, prefixed, treeOutcome, bytesOutcome}
+use Rattle.encoder.specs.Outcome.{Outcome, Encodes, formed, unframed, framedBy, prefixed, treeOutcome, bytesOutcome}
+use Rattle.edition.specs.declared.Edition.the-variants.{Standard}
 use Rattle.encoder.specs.declared.Encoded.the-variants.{Written}
 use Rattle.osc10.specs.Words.{Bytes}
 use Rattle.osc10.specs.Strict.{StrictTree}
@@ -55,20 +56,21 @@ module _ (frame : ℕ → List ℕ → List ℕ) where
       (λ _. held bs out)
       (λ _ n e. let z : _≡_ {A = ℕ} 0 1 = cc in absurd (omega arith))
 
--- within the limits, and with room, the packet is written
-pub written-all : (source out : List ℕ) (item : Item) (inside : Forest) → depth (node item inside nil) ≤ deepest
-    → length (writePacket source item inside) ≤ longest
-    → length (writePacket source item inside) ≤ length out
-    → treeOutcome unframed source out item inside .answer ≡ Written (length (writePacket source item inside))
+-- within the limits, and with room, the packet is written in its frame
+pub written-all : (frame : ℕ → List ℕ → List ℕ) (source out : List ℕ) (item : Item) (inside : Forest)
+    → depth (node item inside nil) ≤ deepest
+    → length (frame (item .kind) (writePacket source item inside)) ≤ longest
+    → length (frame (item .kind) (writePacket source item inside)) ≤ length out
+    → treeOutcome frame source out item inside .answer ≡ Written (length (frame (item .kind) (writePacket source item inside)))
 unfolding treeOutcome bytesOutcome
-written-all source out item inside d n h =
-    let bs = writePacket source item inside in
+written-all frame source out item inside d n h =
+    let bs = frame (item .kind) (writePacket source item inside) in
     rw (le-leb (depth (node item inside nil)) deepest d, le-leb (length bs) longest n, le-leb (length bs) (length out) h)
 
 -- ---- what the bytes are
 
 -- what holds of the bytes of every tree that is as given
-abbrev OfBytes : (ℕ → List ℕ → List ℕ) → (List ℕ → Item → Forest → Type 0) → (List ℕ → Item → Forest → List ℕ → Type 0) → Type 0
+abbrev pub OfBytes : (ℕ → List ℕ → List ℕ) → (List ℕ → Item → Forest → Type 0) → (List ℕ → Item → Forest → List ℕ → Type 0) → Type 0
 OfBytes frame Given Is =
     (source : List ℕ) → Bytes source → (item : Item) (inside : Forest) → Obeys source bundleKind (node item inside nil)
     → FieldsFit (node item inside nil) → Given source item inside
@@ -76,11 +78,16 @@ OfBytes frame Given Is =
 
 module _ (Given : List ℕ → Item → Forest → Type 0) (Is : List ℕ → Item → Forest → List ℕ → Type 0) where
   -- holds of what is written
-  of-written : (frame : ℕ → List ℕ → List ℕ) → OfBytes frame Given Is → OfWritten frame Given Is
+  pub of-written : (frame : ℕ → List ℕ → List ℕ) → OfBytes frame Given Is → OfWritten frame Given Is
   of-written frame is t count source item inside small bytes w g out r e n q =
       let q' : treeOutcome frame source out item inside .answer ≡ Written n = rw (outcome-is frame w e) at q in
       rw (outcome-is frame w e, written-held frame source out item inside n q')
       (is source bytes item inside (w .obeys) (spans-fit t small 0 count (node item inside nil) (w .spans)) g)
+
+  -- and of what stands in its frame in edition 2
+  pub in-cut : OfBytes unframed Given Is → OfBytes (framedBy Standard) Given (FrameOf Is)
+  in-cut is source bytes item inside o f g =
+      record { content = writePacket source item inside; framed = refl; is = is source bytes item inside o f g }
 
   -- and of what stands in a message's frame
   in-frame : OfBytes unframed Given Is → OfBytes prefixed (GivenMessage Given) (FrameOf Is)
@@ -91,10 +98,12 @@ module _ (Given : List ℕ → Item → Forest → Type 0) (Is : List ℕ → It
         is = is source bytes item inside o f (g .given);
       }
 
-clean-bytes : OfBytes unframed CleanTree Spelled
+-- the bytes of a clean tree are a packet that is allowed
+pub clean-bytes : OfBytes unframed CleanTree Spelled
 clean-bytes source bytes item inside o f c = packet-is source bytes item inside o c f
 
-strict-bytes : OfBytes unframed StrictTree SpelledStrictly
+-- those of a strict one are a packet of OSC 1.0 itself
+pub strict-bytes : OfBytes unframed StrictTree SpelledStrictly
 strict-bytes source bytes item inside o f s =
     let w = packet-is source bytes item inside o (strict-clean source 0 (node item inside nil) s) f in
     record { spelled = w; strict = strict-packet source 0 (w .packet) nil (w .allowed) (w .stands) s }

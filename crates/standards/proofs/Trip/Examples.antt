@@ -21,6 +21,7 @@ use Rattle.writers.specs.Osc.{writeData, writeTags, writeMessage, writeBundle, 
 use Rattle.encoder.specs.Outcome.{formed, unframed, treeOutcome, bytesOutcome}
 use Rattle.osc10.specs.Words.{NoNul, CleanNode, Clean}
 use Rattle.osc10.specs.Osc10.{Spelled}
+use Rattle.framing.specs.Framing.{udp}
 use Rattle.standards.specs.Trip.{Playable, PlaysBack}
 use Rattle.table.proofs.Examples.{small-bytes, by-tests, nested, once, within, nested-table, nested-tree}
 use Rattle.table.proofs.Examples as p3
@@ -32,12 +33,13 @@ use Rattle.standards.proofs.Trip.RoundTrip.{round-trip}
 plays : {t : List ℕ} {count : ℕ} {source : List ℕ} {item : Item} {inside : Forest} → Playable t count source item inside
     → (out table : List ℕ)
     → length (writePacket source item inside) ≤ length out → count ≤ capacity table
-    → PlaysBack t count source out (treeOutcome unframed source out item inside) table
+    → PlaysBack udp t count source out (treeOutcome unframed source out item inside) table
 plays w out table h n = round-trip _ _ _ _ _ w out h _ (formed _ _ (w .formed) refl) table n
 
 -- ---- P3
 
-p3-playable : Playable (p3.table 2 2) 2 p3.packet p3.message p3.five
+-- it can be played
+pub p3-playable : Playable (p3.table 2 2) 2 p3.packet p3.message p3.five
 unfolding NoNul CleanNode Clean depth bytes oscString writeData writeTags writeMessage writePacket sortOf classOf
 p3-playable =
     record {
@@ -50,7 +52,7 @@ p3-playable =
     }
 
 -- an output of 12 bytes and a table of two records are enough
-p3-plays : PlaysBack (p3.table 2 2) 2 p3.packet (replicate 12 0) (treeOutcome unframed p3.packet (replicate 12 0) p3.message p3.five)
+p3-plays : PlaysBack udp (p3.table 2 2) 2 p3.packet (replicate 12 0) (treeOutcome unframed p3.packet (replicate 12 0) p3.message p3.five)
     (replicate 40 0)
 unfolding bytes oscString writeData writeTags writeMessage writePacket sortOf classOf
 p3-plays = plays p3-playable (replicate 12 0) (replicate 40 0) (omega arith) (omega arith)
@@ -101,7 +103,7 @@ bundle-playable =
       fits = omega arith;
     }
 
-bundle-plays : PlaysBack table 5 source (replicate 40 0) (treeOutcome unframed source (replicate 40 0) bundle inside) (replicate 100 0)
+bundle-plays : PlaysBack udp table 5 source (replicate 40 0) (treeOutcome unframed source (replicate 40 0) bundle inside) (replicate 100 0)
 unfolding bytes oscString writeData writeTags writeMessage writeBundle writeElements writePacket sortOf classOf
 bundle-plays = plays bundle-playable (replicate 40 0) (replicate 100 0) (omega arith) (omega arith)
 
@@ -132,7 +134,7 @@ nested-playable =
       fits = omega arith;
     }
 
-nested-plays : PlaysBack nested-table 7 nested (replicate 76 0) (treeOutcome unframed nested (replicate 76 0) (once 0) (within 0))
+nested-plays : PlaysBack udp nested-table 7 nested (replicate 76 0) (treeOutcome unframed nested (replicate 76 0) (once 0) (within 0))
     (replicate 140 0)
 unfolding bytes oscString oscBlob writeData writeTags writeMessage writeBundle writeElements writePacket sortOf classOf
 nested-plays = plays nested-playable (replicate 76 0) (replicate 140 0) (omega arith) (omega arith)

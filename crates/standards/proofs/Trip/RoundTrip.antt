@@ -9,9 +9,10 @@ use Rattle.wire.specs.Limits.{longest, deepest}
 use Rattle.node.specs.Forest.{Forest, nil, node, size, depth}
 use Rattle.node.specs.Records.{capacity}
 use Rattle.node.specs.declared.record.Item.{Item}
-use Rattle.totals.specs.Framing.{udp}
+use Rattle.framing.specs.Framing.{udp, ruleOf}
+use Rattle.framing.specs.declared.Framing.{Framing}
 use Rattle.answering.specs.Limits.{decoded, forestOf}
-use Rattle.totals.specs.declared.Framing.the-variants.{Udp}
+use Rattle.framing.specs.declared.Framing.the-variants.{Udp}
 use Rattle.answering.specs.declared.Decoded.the-variants.{Packets}
 use Rattle.table.specs.Tree.{IsTree, FieldsFit}
 use Rattle.writers.specs.Osc.{writePacket}
@@ -34,24 +35,26 @@ use Rattle.standards.proofs.Trip.Tables.{spans-fit, same-table}
 use Rattle.standards.proofs.Osc10.Written.{outcome-is, written-held, written-all}
 
 -- bytes that spell the packet of a table's tree are decoded to a table that holds the same
-record Back (t : List ℕ) (count : ℕ) (source l table : List ℕ) : Type 0 where
-  decodes : answerTo udp deepest l table ≡ Packets count 0 0
-  same : SameTable source t l (tableAfter udp deepest l table) count
+pub record Back (framing : Framing) (t : List ℕ) (count : ℕ) (source l table : List ℕ) : Type 0 where
+  pub decodes : answerTo (ruleOf framing deepest) deepest l table ≡ Packets count 0 0
+  pub same : SameTable source t l (tableAfter (ruleOf framing deepest) deepest l table) count
 
 module _ {t : List ℕ} {count : ℕ} {source : List ℕ} {item : Item} {inside : Forest} (w : IsTree t count source item inside) where
-  read-back : (l table : List ℕ) → length l ≤ longest → count ≤ capacity table → (S : Spelled source item inside l)
-      → AcceptedAs udp (S .packet) l
-      → Back t count source l table
-  read-back l table low room S A =
+  -- the bytes of whatever stands before the packet do not matter, if they are accepted as the packet
+  pub read-back : (framing : Framing) (source' l table : List ℕ) → length l ≤ longest → count ≤ capacity table
+      → (S : Spelled source item inside source') → AcceptedAs (ruleOf framing deepest) (S .packet) l
+      → Back framing t count source l table
+  read-back framing source' l table low room S A =
+      let rule = ruleOf framing deepest in
       let F = node item inside nil in
       let T = node (A .item) (A .inside) nil in
       let same : Same source l F T = same-tree (S .packet) (S .allowed) (S .stands) (A .stands) trip.Same.none in
       let n : size T ≡ count = sym (same-size same) ∙ tree-size w in
-      let d : answerTo udp deepest l table ≡ Packets count 0 0 = rw n at (A .decodes (capacity table) (omega arith)) in
-      let b : Begun 0 T (length l) = subst (WholeBegun 0 (length l)) (A .read) (whole-begun Udp l) in
+      let d : answerTo rule deepest l table ≡ Packets count 0 0 = rw n at (A .decodes (capacity table) (omega arith)) in
+      let b : Begun 0 T (length l) = subst (WholeBegun 0 (length l)) (A .read) (whole-begun framing deepest l) in
       let f : FieldsFit T = packet-fits (omega arith) (S .packet) (S .allowed) (A .stands) b (omega arith) in
-      let s = after-held udp deepest l table d T (ap forestOf (A .read)) f (omega (arith, w .few)) .spans in
-      record { decodes = d; same = same-table t (tableAfter udp deepest l table) count same (w .spans) s }
+      let s = after-held rule deepest l table d T (ap forestOf (A .read)) f (omega (arith, w .few)) .spans in
+      record { decodes = d; same = same-table t (tableAfter rule deepest l table) count same (w .spans) s }
 
 -- what `encode` writes for a playable table decodes to the same table, with nothing left
 pub round-trip : RoundTrip
@@ -63,8 +66,8 @@ round-trip t count source item inside w out room r e table enough =
     (spans-fit t (w .bytes) 0 count F (w .formed .spans)) in
     let A = osc10-accepted (S .packet) bs (S .allowed) (S .spells) (w .fits)
     (omega (arith, w .shallow, tree-deep (S .packet) (S .allowed) (S .stands))) in
-    let B = read-back (w .formed) bs table (w .fits) enough S A in
-    let written = written-all source out item inside (w .shallow) (w .fits) room in
+    let B = read-back (w .formed) Udp bs bs table (w .fits) enough S A in
+    let written = written-all unframed source out item inside (w .shallow) (w .fits) room in
     let held : take (length bs) (treeOutcome unframed source out item inside .out) ≡ bs
     = written-held unframed source out item inside (length bs) written in
     rw (outcome-is unframed (w .formed) e)

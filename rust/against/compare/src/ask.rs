@@ -14,19 +14,29 @@ pub enum Call {
     Pad = 6,
     Look = 7,
     Start = 8,
+    Tcp2 = 9,
+    TcpVec2 = 10,
+    EncodeTcp2 = 11,
 }
 
 // Each call has a name in the counts.
-const _: () = assert!(Call::Start as usize + 1 == CALLS.len());
+const _: () = assert!(Call::EncodeTcp2 as usize + 1 == CALLS.len());
 
+/// The decoders that the crate has too.
 pub const DECODERS: [Call; 3] = [Call::Udp, Call::Tcp, Call::TcpVec];
+/// The decoders of edition 2.
+pub const STANDARD: [Call; 2] = [Call::Tcp2, Call::TcpVec2];
 
 impl Call {
     pub fn decodes(self) -> bool {
-        DECODERS.contains(&self)
+        DECODERS.contains(&self) || self.is_standard()
+    }
+    /// Whether it is a decoder of edition 2.
+    pub fn is_standard(self) -> bool {
+        STANDARD.contains(&self)
     }
     pub fn encodes(self) -> bool {
-        matches!(self, Call::Encode | Call::EncodeTcp)
+        matches!(self, Call::Encode | Call::EncodeTcp | Call::EncodeTcp2)
     }
 }
 
@@ -90,6 +100,11 @@ impl Due {
         self.answer = (number as u64) << 56;
         self.more = 0;
         self.wrote.clear();
+    }
+
+    /// Whether a refused frame ended a list: only then are bytes left beside a refusal.
+    pub fn stopped(&self, call: Call) -> bool {
+        call.decodes() && self.refusal(call) > 0 && self.answer as u32 > 0
     }
 
     /// The refusal's number, 0 where there is an answer. A padded position is none, save 14, which is no multiple of 4.

@@ -5,8 +5,9 @@ use crate::judge::{self, Found};
 use crate::met::{Met, Rule, Seen};
 use crate::peers::Peers;
 use crate::random::Random;
+use crate::short::Stage;
 use crate::table::RECORD;
-use crate::{edges, inputs, short, soiled, spoil};
+use crate::{edges, inputs, short, soiled, spoil, standard, streams};
 use rosc::{OscMessage, OscPacket, OscType};
 
 /// One case, in memory that the next one uses again.
@@ -21,14 +22,14 @@ impl Case {
         Case { asked: Asked::new(), due: Due::new(), seen: Seen::default() }
     }
 
-    /// The n-th short case, with ample room; false where all are done.
-    pub fn short(&mut self, n: u64) -> bool {
+    /// The n-th short case of the stages, with ample room where none is asked for; false where all are done.
+    pub fn short(&mut self, stages: &[Stage], n: u64) -> bool {
         self.seen = Seen::default();
-        let Some(call) = short::make(n, &mut self.asked) else { return false };
+        let Some(call) = short::make(stages, n, &mut self.asked) else { return false };
         let (asked, due, seen) = (&self.asked, &mut self.due, &mut self.seen);
         match call {
-            Call::Udp | Call::Tcp | Call::TcpVec => self.roomy_due(),
-            Call::Encode | Call::EncodeTcp => judge::encode(asked, due, seen),
+            Call::Udp | Call::Tcp | Call::TcpVec | Call::Tcp2 | Call::TcpVec2 => self.roomy_due(),
+            Call::Encode | Call::EncodeTcp | Call::EncodeTcp2 => judge::encode(asked, due, seen),
             Call::EncodeString => judge::encode_string(asked, due, seen),
             Call::Pad => judge::pad(asked, due, seen),
             Call::Look => judge::look(asked, due, seen),
@@ -50,7 +51,23 @@ impl Case {
         self.roomy_due();
     }
 
+    /// A stream for a decoder of edition 2 at a depth limit, with room for so many records, where 0 is ample.
+    pub fn framed(&mut self, call: Call, limit: u64, records: usize, input: &[u8]) {
+        self.seen = Seen::default();
+        self.asked.begin(call);
+        (self.asked.number, self.asked.room) = (limit, RECORD * records);
+        self.asked.first.extend_from_slice(input);
+        self.roomy_due();
+    }
+
     fn roomy_due(&mut self) {
+        if self.asked.call.is_standard() {
+            let stream = standard::find(self.asked.call, &self.asked.first, &mut self.due.wrote);
+            if self.asked.room == 0 {
+                self.asked.room = self.needed() + RECORD;
+            }
+            return standard::decode(&self.asked, &stream, &mut self.due, &mut self.seen);
+        }
         let found = self.find();
         self.asked.room = self.needed() + RECORD;
         judge::decode(&self.asked, &found, &mut self.due, &mut self.seen);
@@ -59,8 +76,9 @@ impl Case {
     /// Counts its answer and what it has shown and, where it is no refusal, the kinds of its records.
     pub fn count(&self, met: &mut Met) {
         let (call, refusal) = (self.asked.call, self.due.refusal(self.asked.call));
-        met.count(call as usize, refusal, self.seen);
-        if refusal == 0 && call.decodes() {
+        let stopped = self.due.stopped(call);
+        met.count(call as usize, refusal, stopped, self.seen);
+        if call.decodes() && (refusal == 0 || stopped) {
             self.due.wrote.chunks_exact(RECORD).for_each(|record| met.count_decoded(record[0]));
         }
         if refusal == 0 && call.encodes() {
@@ -79,6 +97,15 @@ impl Case {
             59..=60 => self.pad(r),
             61..=62 => self.look(r),
             _ => self.start(r),
+        }
+    }
+
+    /// A random case of edition 2.
+    pub fn standard(&mut self, r: &mut Random, peers: &Peers) {
+        self.seen = Seen::default();
+        match r.below(8) {
+            0 => self.encode_standard(r),
+            _ => self.decode_standard(r, peers),
         }
     }
 
@@ -167,19 +194,59 @@ impl Case {
         self.seen.note_if(Rule::OscpackRead, read && self.seen.has(Rule::OscpackWhole));
     }
 
+    /// A stream, under limits on either side of what one of its frames needs.
+    fn decode_standard(&mut self, r: &mut Random, peers: &Peers) {
+        self.asked.begin(r.pick(&[Call::Tcp2, Call::TcpVec2, Call::TcpVec2]));
+        let by = streams::input(r, peers, &mut self.asked.first);
+        let stream = standard::find(self.asked.call, &self.asked.first, &mut self.due.wrote);
+        let (depth, records) = stream.any(r);
+        self.asked.number = match r.below(12) {
+            0 | 1 => depth,
+            2 | 3 => depth.saturating_sub(1),
+            4 => r.below(67) as u64,
+            5 if r.one_in(8) => r.pick(&[65, 66, 1 << 32, 1 << 63, u64::MAX]),
+            _ => judge::DEEPEST,
+        };
+        let needed = self.needed();
+        self.asked.room = match r.below(12) {
+            0 | 1 => (RECORD * records + r.below(RECORD)).saturating_sub(RECORD),
+            2 => RECORD * records + r.below(RECORD),
+            3 => r.below(needed + 1),
+            4..=6 => needed + r.below(RECORD),
+            _ => needed + r.below(200),
+        };
+        standard::decode(&self.asked, &stream, &mut self.due, &mut self.seen);
+        let read = self.due.refusal(self.asked.call) == 0 && self.due.answer as u32 == 0;
+        self.seen.note_if(Rule::StdLiblo, read && by.liblo);
+        self.seen.note_if(Rule::StdOscpack, read && by.oscpack);
+    }
+
     fn encode(&mut self, r: &mut Random) {
         self.asked.begin(r.pick(&[Call::Encode, Call::EncodeTcp]));
         let packet = match r.below(2800) {
             0..=3 => long_message(r),
-            4..=9 => inputs::deepest(r),
-            10..=109 => inputs::nested(r),
-            110..=179 => {
-                let packet = inputs::tree(r, 3);
-                inputs::in_bundles(packet, 60 + r.below(6))
-            }
-            _ => inputs::tree(r, 3),
+            turn => tree(r, turn - 4),
         };
-        self.encode_tree(r, &packet);
+        self.encode_packet(r, &packet);
+    }
+
+    fn encode_standard(&mut self, r: &mut Random) {
+        self.asked.begin(Call::EncodeTcp2);
+        let packet = match r.below(3000) {
+            0..=95 => {
+                // A bundle of one element has 20 bytes around it.
+                let kind = r.below(3);
+                inputs::in_bundles(long_bytes(r, kind, 20), 1)
+            }
+            96..=99 => long_message(r),
+            turn => tree(r, turn - 100),
+        };
+        self.encode_packet(r, &packet);
+    }
+
+    /// What is due for the table of a packet, which is spoiled half of the time, and an output on either side of what is needed.
+    fn encode_packet(&mut self, r: &mut Random, packet: &OscPacket) {
+        self.encode_tree(r, packet);
         let spoiled = r.one_in(2);
         if spoiled {
             spoil::table(r, &mut self.asked);
@@ -255,15 +322,36 @@ impl Case {
     }
 }
 
+/// A tree for an encoder: at a low turn one around the limit of depth.
+fn tree(r: &mut Random, turn: usize) -> OscPacket {
+    match turn {
+        0..=5 => inputs::deepest(r),
+        6..=105 => inputs::nested(r),
+        106..=175 => {
+            let packet = inputs::tree(r, 3);
+            inputs::in_bundles(packet, 60 + r.below(6))
+        }
+        _ => inputs::tree(r, 3),
+    }
+}
+
 /// A message whose encoding is around 65,535 bytes, or whose records are around 65,535.
 fn long_message(r: &mut Random) -> OscPacket {
-    let text = |length: usize| "x".repeat(length);
-    let (addr, args) = match r.below(5) {
+    let args = match r.below(5) {
+        3 => vec![OscType::Nil; 65_516 + r.below(24)],
+        4 => vec![OscType::Int(7); 13_100 + r.below(12)],
+        kind => return long_bytes(r, kind, 0),
+    };
+    OscPacket::Message(OscMessage { addr: "/a".to_string(), args })
+}
+
+/// A message with a long address, text or blob, whose encoding is around 65,535 bytes with so many around it.
+fn long_bytes(r: &mut Random, kind: usize, around: usize) -> OscPacket {
+    let text = |length: usize| "x".repeat(length - around);
+    let (addr, args) = match kind {
         0 => (text(65_512 + r.below(24)), Vec::new()),
         1 => ("/a".to_string(), vec![OscType::String(text(65_508 + r.below(24)))]),
-        2 => ("/a".to_string(), vec![OscType::Blob(vec![1; 65_504 + r.below(24)])]),
-        3 => ("/a".to_string(), vec![OscType::Nil; 65_516 + r.below(24)]),
-        _ => ("/a".to_string(), vec![OscType::Int(7); 13_100 + r.below(12)]),
+        _ => ("/a".to_string(), vec![OscType::Blob(vec![1; 65_504 + r.below(24) - around])]),
     };
     OscPacket::Message(OscMessage { addr, args })
 }

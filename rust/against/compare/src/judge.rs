@@ -6,6 +6,7 @@ use crate::met::{Rule, Seen};
 use crate::oracle::{self, Depth, Told};
 use crate::padding;
 use crate::rules;
+use crate::standard;
 use crate::table::{word, Reader, RECORD};
 use crate::walk::{self, Lost};
 use rosc::encoder;
@@ -63,7 +64,7 @@ pub fn find(call: Call, input: &[u8], table: &mut Vec<u8>) -> Found {
 /// What is said beside packets: the bytes of padding that are not zero, counted over their table. The reader of fields, which does
 /// not know the packets, has to have found as many.
 fn padding(input: &[u8], prefix: usize, table: &[u8], read: Dirty, seen: &mut Seen) -> u64 {
-    let bytes = padding::dirty(input, prefix, table, seen);
+    let bytes = padding::dirty(input, prefix, table, 0, seen);
     assert_eq!(read.bytes, bytes, "the reader of fields finds other padding than the packets have: {input:02X?}");
     seen.add(read.seen);
     bytes as u64
@@ -151,6 +152,9 @@ pub fn encode(asked: &Asked, due: &mut Due, seen: &mut Seen) {
     }
     let bytes = if asked.call == Call::EncodeTcp { encoder::encode_tcp(&packet) } else { encoder::encode(&packet) };
     due.wrote = bytes.expect("the crate encodes every packet");
+    if asked.call == Call::EncodeTcp2 {
+        standard::put_length(&packet, &mut due.wrote, seen);
+    }
     not_too_long(due, seen);
 }
 

@@ -1,6 +1,7 @@
 //! Feeds rosc and the port the same inputs and compares every result: accept or refuse and the class of refusal, tree, bytes
 //! left, bytes written and bytes not written. Which field was short, where it began and how many bytes of padding are not zero is
-//! judged by a reader of its own; the padding is counted over rosc's packets too.
+//! judged by a reader of its own; the padding is counted over rosc's packets too. Edition 2 of TCP framing, which rosc does not have, is
+//! judged by a model of its own that hands rosc each frame alone.
 //!
 //!     cargo run --release --offline -p compare -- --cases N --seed S
 //!
@@ -31,6 +32,8 @@ mod run;
 mod short;
 mod soiled;
 mod spoil;
+mod standard;
+mod streams;
 mod table;
 mod walk;
 mod words;

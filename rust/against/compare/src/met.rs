@@ -147,12 +147,80 @@ rules! {
     StartConfirmed 1 "start: the crate confirms how far it has read",
     StartAny 1 "encode: starts that no decoder writes",
     PadTop 1 "pad: up to 2^64 - 4",
+    StdWaitsEmpty 1 "edition 2, one frame: waits, no byte",
+    StdWaitsShort 1 "edition 2, one frame: waits, 1 to 3 bytes",
+    StdWaitsBare 1 "edition 2, one frame: waits, its length alone",
+    StdWaitsPart 1 "edition 2, one frame: waits, a part of its packet",
+    StdMoreLeft 1 "edition 2, one frame: read, and bytes left",
+    StdListEmpty 10 "edition 2, list: no byte, no packet",
+    StdListWhole 1 "edition 2, list: nothing left",
+    StdListSeveral 1 "edition 2, list: several packets, nothing left",
+    StdListNone 1 "edition 2, list: no packet, and waits",
+    StdListShort 1 "edition 2, list: waits, 1 to 3 bytes",
+    StdListBare 1 "edition 2, list: waits, a length alone",
+    StdListPart 1 "edition 2, list: waits, a part of a packet",
+    StdListFar 1 "edition 2: bytes left after 1,000 bytes and more",
+    StdListDirty 1 "edition 2: dirty padding in packets before bytes left",
+    StdDirtySeveral 1 "edition 2: dirty padding in several packets",
+    StdWaitsLast 1 "edition 2: waits, one byte is missing",
+    StdZero 1 "edition 2: length 0",
+    StdLess 1 "edition 2: length 1 to 3 less than its message",
+    StdMore 1 "edition 2: length 1 to 3 more than its message",
+    StdLess4 1 "edition 2: length 4 less than its message",
+    StdMore4 1 "edition 2: length 4 more than its message, bytes there",
+    StdMore4Waits 1 "edition 2: length 4 more than its message, bytes missing",
+    StdHighest 10 "edition 2: length 65,528, all there",
+    StdHighestWaits 1 "edition 2: length 65,528, bytes missing",
+    StdOddHighest 1 "edition 2: length 65,529 to 65,531",
+    StdOver 1 "edition 2: length 65,532",
+    StdOverOdd 1 "edition 2: length over 65,531 and no multiple of 4",
+    StdOddWaits 1 "edition 2: length no multiple of 4, bytes missing",
+    StdLeftMessage 1 "edition 2: bytes left after a message",
+    StdLeftBundle 1 "edition 2: bytes left after a bundle that an element ended",
+    StdLeftDeep 1 "edition 2: bytes left in a frame that is too deep",
+    StdDropped 1 "edition 2: read, bytes dropped in an element",
+    StdEnds 1 "edition 2: read, an element ends a bundle inside an element",
+    StdUnclosed 1 "edition 2: read, unclosed array",
+    StdKept 1 "edition 2: a bundle before a frame that edition 1 takes as an element",
+    StdStopFirst 1 "edition 2, stopped: at the first frame",
+    StdStopLater 1 "edition 2, stopped: after packets",
+    StdStopField 1 "edition 2, stopped: a short field after packets",
+    StdStopFar 1 "edition 2, stopped: at byte 256 and later",
+    StdStopFarther 10 "edition 2, stopped: at byte 32,768 and later",
+    StdStopDirty 1 "edition 2, stopped: dirty padding in the packets given",
+    StdStopGood 1 "edition 2: a good frame after the refused one",
+    StdStopFull 1 "edition 2: refused before a frame that the table has no room for",
+    StdRefusedDirty 1 "edition 2: dirty padding in the refused frame, not counted",
+    StdDepthAt 1 "edition 2: depth at the limit",
+    StdDepth64 1 "edition 2: read at depth 64",
+    StdDeep65 1 "edition 2: refused at depth 65, limit 64",
+    StdDeepOver 1 "edition 2: depth one over the limit",
+    StdDeepBundles 1 "edition 2, too deep: bundles alone",
+    StdDeepArrays 1 "edition 2, too deep: arrays alone",
+    StdDeepBoth 1 "edition 2, too deep: bundles and arrays together",
+    StdDeepFull 1 "edition 2, too deep: a frame that the table has no room for either",
+    StdDeepFirst 1 "edition 2, too deep: before a frame that the table has no room for",
+    StdRoomExact 1 "edition 2: capacity exact",
+    StdFull 1 "edition 2: capacity too small for the first frame",
+    StdFullLater 1 "edition 2: capacity too small for a later frame",
+    StdFullLess 1 "edition 2: capacity one less",
+    StdFullRefused 1 "edition 2: capacity too small, before a frame that is refused",
+    StdFullDeep 1 "edition 2: capacity too small, before a frame that is too deep",
+    StdFullDirty 1 "edition 2: capacity too small, dirty padding not counted",
+    StdInput65535 10 "edition 2: input of 65,535 bytes",
+    StdInput65536 10 "edition 2: input of 65,536 bytes",
+    StdMessage 1 "edition 2, encode: a message after its length",
+    StdBundle 1 "edition 2, encode: a bundle after its length",
+    StdBundle65532 10 "edition 2, encode: a bundle and its length, 65,532 bytes",
+    StdBundle65536 10 "edition 2, encode: a bundle and its length, 65,536 bytes",
     LibloWhole 1 "liblo: as written",
     LibloRead 1 "liblo: as written, all of it read",
     LibloDamaged 1 "liblo: damaged",
     OscpackWhole 1 "oscpack: as written",
     OscpackRead 1 "oscpack: as written, all of it read",
     OscpackDamaged 1 "oscpack: damaged",
+    StdLiblo 1 "liblo: in a stream of edition 2 that is all read",
+    StdOscpack 1 "oscpack: in a stream of edition 2 that is all read",
 }
 
 // Each rule has a bit of what a case has shown.
@@ -191,14 +259,33 @@ impl Seen {
 pub const KINDS: &[u8] = b"/#sbifhdtcrmTFNI[";
 
 /// The calls by name, in the order of their numbers.
-pub const CALLS: [&str; 9] = ["udp", "tcp", "tcp_vec", "encode", "encode_tcp", "encode_string", "pad", "look", "start"];
+pub const CALLS: [&str; 12] = [
+    "udp",
+    "tcp",
+    "tcp_vec",
+    "encode",
+    "encode_tcp",
+    "encode_string",
+    "pad",
+    "look",
+    "start",
+    "tcp2",
+    "tcp_vec2",
+    "encode_tcp2",
+];
 
-/// How many of the calls `rosc_compat` has: all but the last two.
+/// How many of the calls `rosc_compat` has: the first.
 const SHARED: usize = 7;
 
-/// Numbers of refusals, 0 for an answer; those that nothing gives, and the crate's 3, are met by no call of the boundary.
+/// Numbers of refusals, 0 for an answer; the crate's 3 is met by no call of the boundary.
 const REFUSALS: usize = 22;
-const NONE_GIVES: [usize; 3] = [3, 15, 16];
+const NONE_GIVES: usize = 3;
+
+/// What the decoders of edition 2 may give, each of which is to be met: those of one frame, and of a list those of the call and of the
+/// frame that ended it. There is no 20: a frame ends at a multiple of 4, so that no padding in it is short.
+const TCP2: (usize, &[usize]) = (9, &[1, 2, 4, 5, 6, 7, 8, 9, 10, 13, 15, 16, 17, 18, 19, 21]);
+const TCP_VEC2: (usize, &[usize]) = (10, &[1, 10, 13]);
+const STOPS: &[usize] = &[1, 2, 4, 5, 6, 7, 8, 9, 15, 16, 17, 18, 19, 21];
 
 /// How often each call gave each number.
 type Answers = [[u64; REFUSALS]; CALLS.len()];
@@ -206,6 +293,7 @@ type Answers = [[u64; REFUSALS]; CALLS.len()];
 /// The counts of all cases.
 pub struct Met {
     answers: Answers,
+    stops: [u64; REFUSALS],
     decoded: [u64; 256],
     encoded: [u64; 256],
     rules: [u64; RULES.len()],
@@ -215,12 +303,14 @@ pub struct Met {
 impl Met {
     pub fn new() -> Met {
         let answers = [[0; REFUSALS]; CALLS.len()];
-        Met { answers, decoded: [0; 256], encoded: [0; 256], rules: [0; RULES.len()], compat: answers }
+        let stops = [0; REFUSALS];
+        Met { answers, stops, decoded: [0; 256], encoded: [0; 256], rules: [0; RULES.len()], compat: answers }
     }
 
-    /// Counts a case of the boundary: the call, its refusal or 0, and what it has shown.
-    pub fn count(&mut self, call: usize, refusal: u8, seen: Seen) {
-        self.answers[call][refusal as usize] += 1;
+    /// Counts a case of the boundary: the call, its refusal or 0, whether that is of a frame that ended a list, and what it has shown.
+    pub fn count(&mut self, call: usize, refusal: u8, stopped: bool, seen: Seen) {
+        let counts = if stopped { &mut self.stops } else { &mut self.answers[call] };
+        counts[refusal as usize] += 1;
         seen.rules().for_each(|rule| self.rules[rule] += 1);
     }
 
@@ -242,6 +332,7 @@ impl Met {
     pub fn add(&mut self, other: &Met) {
         let both = |mine: &mut [u64], its: &[u64]| mine.iter_mut().zip(its).for_each(|(m, i)| *m += i);
         self.answers.iter_mut().zip(&other.answers).for_each(|(m, i)| both(m, i));
+        both(&mut self.stops, &other.stops);
         both(&mut self.decoded, &other.decoded);
         both(&mut self.encoded, &other.encoded);
         both(&mut self.rules, &other.rules);
@@ -251,8 +342,8 @@ impl Met {
     /// Every count with its name and how many times more seldom than usual it may be met.
     fn lines(&self) -> Vec<(String, u64, u64)> {
         let mut lines = Vec::new();
-        for refusal in (1..REFUSALS).filter(|refusal| !NONE_GIVES.contains(refusal)) {
-            let times = self.answers.iter().map(|call| call[refusal]).sum();
+        for refusal in (1..REFUSALS).filter(|refusal| *refusal != NONE_GIVES) {
+            let times = self.answers.iter().chain([&self.stops]).map(|call| call[refusal]).sum();
             lines.push((format!("refusal {refusal}"), 1, times));
         }
         for (call, answers) in self.answers.iter().enumerate() {
@@ -263,9 +354,19 @@ impl Met {
             lines.push((format!("kind {} decoded", *kind as char), 1, self.decoded[*kind as usize]));
             lines.push((format!("kind {} encoded", *kind as char), 1, self.encoded[*kind as usize]));
         }
+        lines.extend(self.standard_lines());
         lines.extend(RULES.iter().map(|(rule, seldom, words)| (words.to_string(), *seldom, self.rules[*rule as usize])));
         lines.extend(self.compat_lines());
         lines
+    }
+
+    /// The refusals of the decoders of edition 2, each by itself.
+    fn standard_lines(&self) -> Vec<(String, u64, u64)> {
+        let refused = [TCP2, TCP_VEC2].into_iter().flat_map(|(call, numbers)| {
+            numbers.iter().map(move |number| (format!("{}: refusal {number}", CALLS[call]), 1, self.answers[call][*number]))
+        });
+        let stopped = STOPS.iter().map(|number| (format!("tcp_vec2: stopped by {number}"), 1, self.stops[*number]));
+        refused.chain(stopped).collect()
     }
 
     /// The counts of `rosc_compat`: the same by call, and its errors by number; 1 and 9 are its limits.

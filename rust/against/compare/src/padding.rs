@@ -5,10 +5,10 @@
 use crate::met::{Rule, Seen};
 use crate::table::{word, RECORD};
 
-/// The number of bytes; what they are the padding of is noted. A prefix of so many bytes stands before each packet, and its padding
-/// counts from there.
-pub fn dirty(input: &[u8], prefix: usize, table: &[u8], seen: &mut Seen) -> usize {
-    let (mut from, mut bytes, mut packets) = (0, 0, 0);
+/// The number of bytes, of the packets from a place in the table on; what they are the padding of is noted. A prefix of so many bytes
+/// stands before each packet, and its padding counts from there.
+pub fn dirty(input: &[u8], prefix: usize, table: &[u8], mut from: usize, seen: &mut Seen) -> usize {
+    let (mut bytes, mut packets) = (0, 0);
     while from < table.len() {
         let base = word(table, from + 16) as usize - prefix;
         let end = RECORD * word(table, from + 4) as usize;

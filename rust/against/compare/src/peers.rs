@@ -3,6 +3,7 @@
 use crate::inputs;
 use crate::met::{Rule, Seen};
 use crate::random::Random;
+use crate::streams::Writers;
 use crate::table::word;
 use std::io::Write;
 use std::path::Path;
@@ -78,6 +79,21 @@ impl Peers {
             inputs::damage(r, &mut bytes);
         }
         bytes
+    }
+
+    /// One packet as it was written; by whom is noted.
+    pub fn written(&self, r: &mut Random, by: &mut Writers) -> Vec<u8> {
+        let at = r.below(self.liblo.len() + self.oscpack.len());
+        match self.liblo.get(at) {
+            Some(packet) => {
+                by.liblo = true;
+                packet.clone()
+            }
+            None => {
+                by.oscpack = true;
+                self.oscpack[at - self.liblo.len()].clone()
+            }
+        }
     }
 }
 

@@ -61,6 +61,9 @@ impl Bench {
             Call::Pad => boundary::pad(asked.number),
             Call::Look => boundary::look(first, asked.number),
             Call::Start => boundary::start(first, asked.number),
+            Call::Tcp2 => boundary::decode_tcp2(first, room, asked.number, &mut more),
+            Call::TcpVec2 => boundary::decode_tcp_vec2(first, room, asked.number, &mut more),
+            Call::EncodeTcp2 => boundary::encode_tcp2(first, asked.number, second, room),
         };
         (answer, more)
     }

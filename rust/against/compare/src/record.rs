@@ -6,6 +6,7 @@ use crate::judge::DEEPEST;
 use crate::met::{Met, Seen};
 use crate::peers::Peers;
 use crate::random::Random;
+use crate::short::{STAGES, STANDARD_STAGES};
 use crate::table::RECORD;
 use std::collections::HashMap;
 use std::fs;
@@ -15,6 +16,8 @@ use std::path::Path;
 const LONGEST_CASE: usize = 368;
 const MOST_ROOM: usize = 640;
 const LOOKED_AT: u64 = 400_000;
+/// The same for edition 2.
+const LOOKED_AT_STANDARD: u64 = 100_000;
 /// The short cases are looked at in steps.
 const STEP: u64 = 41;
 
@@ -97,7 +100,33 @@ const DIRTY: &[(Call, &[u8])] = &[
     (Call::TcpVec, b"\0\0\0\0#bundle\0\0\0\0\0\0\0\0\x01\0\0\0\x09/a\0\x01,\0\0\0X\0\0\0\0/a\0\x01,\0\0\x02"),
 ];
 
-/// What a case adds: its answer, its rules, kinds and sizes. Each is kept up to a quota.
+/// Inputs that tell the readings of Ticket 1 apart, each with a depth limit and room for so many records, where 0 is ample. The last two
+/// are those of the Tickets 2 and 8 for lists of edition 2.
+#[rustfmt::skip]
+const FRAMED: &[(Call, u64, usize, &[u8])] = &[
+    (Call::TcpVec2, 64, 0, b""),
+    (Call::Tcp2, 64, 0, b""),
+    (Call::TcpVec2, 64, 0, b"\0\0\0"),
+    (Call::Tcp2, 64, 0, b"\0\0\0"),
+    (Call::TcpVec2, 64, 0, b"\0\0\0\0"),
+    (Call::Tcp2, 64, 0, b"\0\0\0\0"),
+    (Call::TcpVec2, 0, 0, b"\0\0\0\x10#bundle\0\0\0\0\0\0\0\0\x01"),
+    (Call::TcpVec2, 64, 0, b"\0\0\0\x08/a\0\0,\0\0\0\0\0\xFF\xFC"),
+    (Call::TcpVec2, 64, 0, b"\0\0\0\x08/a\0\0,\0\0\0\0\0\xFF\xFB"),
+    (Call::TcpVec2, 64, 0, b"\0\0\0\x08/a\0\0,\0\0\0\0\0\xFF\xF8"),
+    (Call::Tcp2, 64, 0, b"\0\0\0\x14#bundle\0\0\0\0\0\0\0\0\x01\0\0\0\0"),
+    (Call::Tcp2, 0, 0, b"\0\0\0\x14#bundle\0\0\0\0\0\0\0\0\x01\0\0\0\0"),
+    (Call::Tcp2, 64, 0, b"\0\0\0\x28#bundle\0\0\0\0\0\0\0\0\x01\0\0\0\x14#bundle\0\0\0\0\0\0\0\0\x01\0\0\0\0"),
+    (Call::TcpVec2, 64, 0, b"\0\0\0\x10#bundle\0\0\0\0\0\0\0\0\x01\0\0\0\x08/a\0\0,\0\0\0"),
+    (Call::TcpVec2, 0, 1, b"\0\0\0\x08/a\0\0,\0\0\0\0\0\0\x10#bundle\0\0\0\0\0\0\0\0\x01"),
+    (Call::TcpVec2, 1, 1, b"\0\0\0\x08/a\0\0,\0\0\0\0\0\0\x10#bundle\0\0\0\0\0\0\0\0\x01"),
+    (Call::TcpVec2, 0, 1, b"\0\0\0\x08/a\0\0,T\0\0\0\0\0\x0C/a\0\0,[T]\0\0\0\0"),
+    (Call::TcpVec2, 64, 0, b"\0\0\0\x0C/a\0\0,i\0\0\0\0\0\x07\0\0\0\x04/abc"),
+    (Call::TcpVec2, 64, 0, b"\0\0\0\x08/a\0\x01,\0\0\0\0\0\0\0"),
+];
+
+/// What a case adds: its answer, its rules, kinds and sizes. Each is kept up to a quota, which is lower for edition 2: its packets are
+/// those of the other calls.
 #[derive(Clone, Copy, PartialEq, Eq, Hash)]
 enum Bucket {
     Answer(u8, u8),
@@ -115,8 +144,11 @@ enum Bucket {
 impl Bucket {
     fn quota(self) -> u32 {
         match self {
+            Bucket::Answer(9.., _) => 10,
             Bucket::Answer(..) => 40,
             Bucket::Rule(3 | 4 | 7, ..) => 15,
+            Bucket::Rule(9.., ..) | Bucket::Kind(9.., _) => 2,
+            Bucket::Length(9.., _) | Bucket::Wrote(9.., _) | Bucket::Left(9.., _) | Bucket::Dirty(9.., _) => 1,
             Bucket::Rule(..) => 5,
             Bucket::Kind(..) => 12,
             Bucket::Length(..) | Bucket::Wrote(..) => 2,
@@ -218,11 +250,27 @@ fn choose(seed: u64) -> Sample {
     for n in 0..LOOKED_AT {
         case.random(&mut r, &Peers::none());
         sample.offer(&case);
-        if n % 10 == 0 && case.short(n / 10 * STEP) {
+        if n % 10 == 0 && case.short(STAGES, n / 10 * STEP) {
             sample.offer(&case);
         }
     }
+    choose_standard(&mut r, &mut case, &mut sample);
     sample
+}
+
+/// Adds the cases of edition 2: those of its readings, short cases, random cases.
+fn choose_standard(r: &mut Random, case: &mut Case, sample: &mut Sample) {
+    for (call, limit, records, input) in FRAMED {
+        case.framed(*call, *limit, *records, input);
+        sample.offer(case);
+    }
+    for n in 0..LOOKED_AT_STANDARD {
+        case.standard(r, &Peers::none());
+        sample.offer(case);
+        if n % 10 == 0 && case.short(STANDARD_STAGES, n / 10 * STEP) {
+            sample.offer(case);
+        }
+    }
 }
 
 /// Writes the sample, and the note that says how it was made, under crates/recorded_runs.
@@ -263,9 +311,11 @@ data/answers.bin holds a sample of the answers of rosc 0.11.4, built unchanged, 
 tables, its errors as numbers, and document 01's limits, rules of a table and of a record on top. Where each item began is
 found by a walk over the input that the crate's packets lead; which field was short, and where it began, by a reader of its own,
 which agrees with the crate on the class of every refusal. The bytes of padding that are not zero are counted after the items that
-the walk found, and by that reader, which agrees. The port had no part in it. The sample is chosen for coverage: a case is kept if
+the walk found, and by that reader, which agrees. Edition 2 of TCP framing, which the crate does not have, is cut by a loop of its
+own, and the crate has read each frame alone. The port had no part in it. The sample is chosen for coverage: a case is kept if
 it adds an answer, rule, kind, length or limit that is not there often enough. Document 01's examples P1 to P14 come first, and
-after them those that tell the readings of the Tickets 2, 8 and 4 apart. What needs long slices (refusal 1, tables of depth 64) is
+after them those that tell the readings of the Tickets 2, 8 and 4 apart; the cases of edition 2 are the last, and those that tell the
+readings of Ticket 1 apart the first of them. What needs long slices (an input or a result that is too long, tables of depth 64) is
 not here: the program limit_runs has it.
 ";
 
@@ -276,14 +326,15 @@ Cases one after another, all numbers big-endian.
 
 | Bytes | What |
 |---|---|
-| 1 | 0 `decode_udp`, 1 `decode_tcp`, 2 `decode_tcp_vec`, 3 `encode`, 4 `encode_tcp`, 5 `encode_string`, 6 `pad`, 7 `look`, 8 `start_of` |
+| 1 | 0 `decode_udp`, 1 `decode_tcp`, 2 `decode_tcp_vec`, 3 `encode`, 4 `encode_tcp`, 5 `encode_string`, 6 `pad`, 7 `look`, 8 `start_of`; \
+of edition 2: 9 `decode_tcp`, 10 `decode_tcp_vec`, 11 `encode_tcp` |
 | 8 | depth, count, position or index; 0 for `encode_string` |
 | 4 | room: bytes of the buffer that the call may write |
 | 4, n | length and bytes of the input, table or text; none for `pad` |
 | 4, n | length and bytes of the source, for `encode` and `encode_tcp` |
 | 8 | the answer, as include/osc.h has it |
-| 8 | what a decoder says beside it, as include/osc.h has it: where a field began that was short, or the bytes of padding that are \
-not zero; 0 for the other calls |
+| 8 | what a decoder says beside it, as include/osc.h has it: where a field began that was short, the bytes of padding that are \
+not zero, and the offset of a frame that ended a list; 0 for the other calls |
 | 4, n | length and bytes that must stand at the front of the room; all others there are unchanged |
 
 ## What is met

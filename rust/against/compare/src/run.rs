@@ -7,6 +7,7 @@ use crate::peers::Peers;
 use crate::port::Bench;
 use crate::random::Random;
 use crate::short;
+use std::ops::Range;
 use std::sync::atomic::{AtomicU64, Ordering};
 use std::thread;
 use std::time::{Duration, Instant};
@@ -14,9 +15,12 @@ use std::time::{Duration, Instant};
 /// Cases of a batch.
 const BATCH: u64 = 1000;
 const WORKERS: usize = 2;
-/// Of every twenty batches, nine are of short inputs as long as there are any.
+/// Of every twenty batches, nine are of short inputs and one of those for edition 2, as long as there are any; three more are of random
+/// inputs for edition 2, and the others of random inputs for the other calls.
 const ROUND: u64 = 20;
-const SHORT: u64 = 9;
+const SHORT: Range<u64> = 0..9;
+const SHORT_STANDARD: Range<u64> = 9..10;
+const STANDARD: Range<u64> = 10..13;
 /// Of the random cases, one in so many is for `rosc_compat` and not for the boundary.
 const COMPAT: usize = 8;
 /// The crate recurses over nested input: its threads have room for that.
@@ -37,13 +41,27 @@ struct Plan {
 struct Findings {
     met: Met,
     short: u64,
+    short_standard: u64,
     differences: Vec<(u64, String)>,
+}
+
+impl Findings {
+    fn new() -> Findings {
+        Findings { met: Met::new(), short: 0, short_standard: 0, differences: Vec::new() }
+    }
+}
+
+/// The number of a case among those of its share of the batches, if its batch is one of them.
+fn nth(share: Range<u64>, batch: u64, n: u64) -> Option<u64> {
+    let (round, turn) = (batch / ROUND, batch % ROUND);
+    let before = round * (share.end - share.start) + turn.checked_sub(share.start)?;
+    share.contains(&turn).then_some(before * BATCH + n)
 }
 
 impl Plan {
     /// Does batches until none is left.
     fn work(&self) -> Findings {
-        let mut found = Findings { met: Met::new(), short: 0, differences: Vec::new() };
+        let mut found = Findings::new();
         let (mut case, mut bench) = (Case::new(), Bench::new());
         loop {
             let batch = self.next.fetch_add(1, Ordering::Relaxed);
@@ -72,9 +90,12 @@ impl Plan {
         bench: &mut Bench,
         found: &mut Findings,
     ) -> Option<String> {
-        let short = batch % ROUND < SHORT && case.short((batch / ROUND * SHORT + batch % ROUND) * BATCH + n);
-        if short {
+        if nth(SHORT, batch, n).is_some_and(|n| case.short(short::STAGES, n)) {
             found.short += 1;
+        } else if nth(SHORT_STANDARD, batch, n).is_some_and(|n| case.short(short::STANDARD_STAGES, n)) {
+            found.short_standard += 1;
+        } else if nth(SHORT_STANDARD.start..STANDARD.end, batch, n).is_some() {
+            case.standard(r, &self.peers);
         } else {
             case.random(r, &self.peers);
             // What `rosc_compat` has no place for is a case of the boundary still.
@@ -114,7 +135,7 @@ pub fn alone<T: Send + 'static>(what: impl FnOnce() -> T + Send + 'static) -> T 
 /// Compares that many cases; true where there is no difference and all was met often enough.
 pub fn run(cases: u64, seed: u64) -> Result<bool, String> {
     let plan = Plan { cases, seed, peers: Peers::load(seed)?, next: AtomicU64::new(0), done: AtomicU64::new(0) };
-    let mut all = Findings { met: Met::new(), short: 0, differences: Vec::new() };
+    let mut all = Findings::new();
     thread::scope(|scope| {
         let start = |_| thread::Builder::new().stack_size(STACK).spawn_scoped(scope, || plan.work()).expect("a thread");
         let workers: Vec<_> = (0..WORKERS).map(start).collect();
@@ -123,12 +144,14 @@ pub fn run(cases: u64, seed: u64) -> Result<bool, String> {
             let one = worker.join().expect("a worker that ended by itself");
             all.met.add(&one.met);
             all.short += one.short;
+            all.short_standard += one.short_standard;
             all.differences.extend(one.differences);
         }
     });
     all.differences.sort();
     let enough = all.met.report(cases, &plan.peers.missing());
-    short::report(all.short);
+    short::report(short::STAGES, all.short);
+    short::report(short::STANDARD_STAGES, all.short_standard);
     for (case, words) in all.differences.iter().take(SHOWN) {
         println!("case {case}: {words}");
     }

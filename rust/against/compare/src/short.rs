@@ -1,7 +1,8 @@
 //! Short inputs, exhaustively: every sequence of each length over a telling alphabet, one length after another.
 
-use crate::ask::{Asked, Call, DECODERS};
+use crate::ask::{Asked, Call, DECODERS, STANDARD};
 use crate::judge::DEEPEST;
+use crate::met::CALLS;
 use crate::table::RECORD;
 
 /// Families of short inputs, each with an alphabet of its own.
@@ -23,6 +24,9 @@ enum Family {
     Records,
     /// Positions for `pad`: low ones, and the very last.
     Positions,
+    /// Frames of edition 2, good and bad, the last of which is cut at every place, at two depth limits and with ample room or little.
+    /// A stream that is cut in an earlier frame is a shorter one.
+    Cuts,
 }
 
 const BYTES: &[&[u8]] = &[b"\0", b"\x04", b"\x05", b"\x06", b"/", b"#", b",", b"\xC3", b"\xA9", b"\xFF"];
@@ -65,21 +69,73 @@ const ENDS: u64 = 6;
 const LOW: u64 = 70_000;
 const LAST: u64 = 16;
 
-/// The stages in the order in which they are done: a family, and from which length to which.
-const STAGES: &[(Family, u32, u32)] = &[
-    (Family::Records, 1, 1),
-    (Family::Positions, 1, 1),
-    (Family::Tables, 0, 3),
-    (Family::Brackets, 0, 7),
-    (Family::Bytes, 0, 5),
-    (Family::Groups, 0, 4),
-    (Family::Texts, 0, 3),
-    (Family::Types, 0, 5),
-    (Family::Texts, 4, 4),
-    (Family::Types, 6, 6),
-    (Family::Tables, 4, 4),
-    (Family::Groups, 5, 5),
-    (Family::Bytes, 6, 6),
+/// Frames of edition 2. The first six are good, at limit 0 three of them too deep; the others are refused by 1, 2, 16, 15, 15, 7, 17, 18,
+/// 19, 21, 4 and 5.
+const FRAMES: &[&[u8]] = &[
+    b"\0\0\0\x08/a\0\0,\0\0\0",
+    b"\0\0\0\x08/a\0\x01,\0\0\x02",
+    b"\0\0\0\x0C/a\0\0,i\0\0\0\0\0\x07",
+    b"\0\0\0\x0C/a\0\0,[T]\0\0\0\0",
+    b"\0\0\0\x10#bundle\0\0\0\0\0\0\0\0\x01",
+    b"\0\0\0\x1C#bundle\0\0\0\0\0\0\0\0\x01\0\0\0\x08/b\0\0,T\0\0",
+    b"\0\0\xFF\xFC",
+    b"\0\0\0\0",
+    b"\0\0\0\x09/a\0\0,\0\0\0X",
+    b"\0\0\0\x0C/a\0\0,\0\0\0XXXX",
+    b"\0\0\0\x14#bundle\0\0\0\0\0\0\0\0\x01\0\0\0\0",
+    b"\0\0\0\x08/a\0\x01,x\0\0",
+    b"\0\0\0\x04/abc",
+    b"\0\0\0\x04/ab\0",
+    b"\0\0\0\x08/a\0\0,i\0\0",
+    b"\0\0\0\x08#bundle\0",
+    b"\0\0\0\x04/\xFF\0\0",
+    b"\0\0\0\x04a\0\0\0",
+];
+
+/// The depth limits of the cut streams, and how many records there is room for, where 0 is ample.
+const CUT_LIMITS: [(u64, usize); 6] = [(DEEPEST, 0), (DEEPEST, 1), (DEEPEST, 2), (0, 0), (0, 1), (0, 2)];
+
+/// A family, the calls that each of its inputs is for, and from which length to which.
+pub struct Stage {
+    family: Family,
+    calls: &'static [Call],
+    from: u32,
+    to: u32,
+}
+
+const fn stage(family: Family, calls: &'static [Call], from: u32, to: u32) -> Stage {
+    Stage { family, calls, from, to }
+}
+
+/// The stages in the order in which they are done.
+pub const STAGES: &[Stage] = &[
+    stage(Family::Records, &[Call::Look, Call::Start], 1, 1),
+    stage(Family::Positions, &[Call::Pad], 1, 1),
+    stage(Family::Tables, &[Call::Encode, Call::EncodeTcp], 0, 3),
+    stage(Family::Brackets, &DECODERS, 0, 7),
+    stage(Family::Bytes, &DECODERS, 0, 5),
+    stage(Family::Groups, &DECODERS, 0, 4),
+    stage(Family::Texts, &[Call::EncodeString], 0, 3),
+    stage(Family::Types, &DECODERS, 0, 5),
+    stage(Family::Texts, &[Call::EncodeString], 4, 4),
+    stage(Family::Types, &DECODERS, 6, 6),
+    stage(Family::Tables, &[Call::Encode, Call::EncodeTcp], 4, 4),
+    stage(Family::Groups, &DECODERS, 5, 5),
+    stage(Family::Bytes, &DECODERS, 6, 6),
+];
+
+/// Those of edition 2.
+pub const STANDARD_STAGES: &[Stage] = &[
+    stage(Family::Cuts, &STANDARD, 1, 2),
+    stage(Family::Tables, &[Call::EncodeTcp2], 0, 2),
+    stage(Family::Brackets, &STANDARD, 0, 5),
+    stage(Family::Bytes, &STANDARD, 0, 4),
+    stage(Family::Groups, &STANDARD, 0, 3),
+    stage(Family::Cuts, &[Call::TcpVec2], 3, 3),
+    stage(Family::Bytes, &STANDARD, 5, 5),
+    stage(Family::Groups, &STANDARD, 4, 4),
+    stage(Family::Brackets, &STANDARD, 6, 7),
+    stage(Family::Tables, &[Call::EncodeTcp2], 3, 3),
 ];
 
 impl Family {
@@ -99,62 +155,63 @@ impl Family {
             Family::Types => TYPES,
             Family::Brackets => BRACKETS,
             Family::Texts => TEXTS,
+            Family::Cuts => FRAMES,
             _ => &[],
         }
     }
     fn words(self) -> &'static str {
         match self {
-            Family::Bytes => "bytes, each decoder",
-            Family::Groups => "groups of bytes, each decoder",
-            Family::Types => "characters of type text, each decoder",
-            Family::Brackets => "brackets and tags, alone and in a bundle, limits 0 to 3, each decoder",
-            Family::Texts => "bytes of text, encode_string",
-            Family::Tables => "records, each encoder",
-            Family::Records => "records with one bit set, look and start",
-            Family::Positions => "positions, pad",
+            Family::Bytes => "bytes",
+            Family::Groups => "groups of bytes",
+            Family::Types => "characters of type text",
+            Family::Brackets => "brackets and tags, alone and in a bundle, limits 0 to 3",
+            Family::Texts => "bytes of text",
+            Family::Tables => "records",
+            Family::Records => "records with one bit set",
+            Family::Positions => "positions",
+            Family::Cuts => "frames, cut at every place, limits 0 and 64, capacity 1, 2 and ample",
         }
     }
-    /// The calls that each input is for.
-    fn calls(self) -> &'static [Call] {
-        match self {
-            Family::Bytes | Family::Groups | Family::Types | Family::Brackets => &DECODERS,
-            Family::Texts => &[Call::EncodeString],
-            Family::Tables => &[Call::Encode, Call::EncodeTcp],
-            Family::Records => &[Call::Look, Call::Start],
-            Family::Positions => &[Call::Pad],
-        }
-    }
-    /// In how many ways each input is asked for.
+    /// In how many ways each input is asked for; those of cut frames are limits.
     fn ways(self) -> u64 {
         match self {
             Family::Brackets => 2 * LIMITS,
+            Family::Cuts => CUT_LIMITS.len() as u64,
             _ => 1,
         }
     }
-    /// How many cases a length has.
-    fn cases(self, length: u32) -> u64 {
-        self.letters().pow(length) * self.ways() * self.calls().len() as u64
+    /// How many sequences of a length there are; of frames the last is cut, so that it stands for as many as it has bytes.
+    fn sequences(self, length: u32) -> u64 {
+        match self {
+            Family::Cuts => self.letters().pow(length - 1) * FRAMES.concat().len() as u64,
+            _ => self.letters().pow(length),
+        }
     }
 }
 
-/// Makes the n-th short call; none where all are done.
-pub fn make(mut n: u64, asked: &mut Asked) -> Option<Call> {
-    for (family, from, to) in STAGES {
-        for length in *from..=*to {
-            if n < family.cases(length) {
-                fill(*family, length, n, asked);
+impl Stage {
+    /// How many cases a length has.
+    fn cases(&self, length: u32) -> u64 {
+        self.family.sequences(length) * self.family.ways() * self.calls.len() as u64
+    }
+}
+
+/// Makes the n-th short call of the stages; none where all are done.
+pub fn make(stages: &[Stage], mut n: u64, asked: &mut Asked) -> Option<Call> {
+    for stage in stages {
+        for length in stage.from..=stage.to {
+            if n < stage.cases(length) {
+                asked.begin(stage.calls[n as usize % stage.calls.len()]);
+                fill(stage.family, length, n / stage.calls.len() as u64, asked);
                 return Some(asked.call);
             }
-            n -= family.cases(length);
+            n -= stage.cases(length);
         }
     }
     None
 }
 
-fn fill(family: Family, length: u32, n: u64, asked: &mut Asked) {
-    let calls = family.calls();
-    asked.begin(calls[n as usize % calls.len()]);
-    let mut left = n / calls.len() as u64;
+fn fill(family: Family, length: u32, mut left: u64, asked: &mut Asked) {
     if asked.call.decodes() {
         asked.number = DEEPEST;
     }
@@ -164,6 +221,7 @@ fn fill(family: Family, length: u32, n: u64, asked: &mut Asked) {
             begin_brackets(left % family.ways(), length, asked);
             left /= family.ways();
         }
+        Family::Cuts => return fill_cuts(length, left, asked),
         _ => {}
     }
     for _ in 0..length {
@@ -177,6 +235,23 @@ fn fill(family: Family, length: u32, n: u64, asked: &mut Asked) {
     }
     if family == Family::Types {
         asked.first.extend_from_slice(b"\0\0\0\x02a\0\0\0\0\0\xD8\0");
+    }
+}
+
+/// Frames, of which the last has at least one byte.
+fn fill_cuts(length: u32, mut left: u64, asked: &mut Asked) {
+    let (limit, records) = CUT_LIMITS[left as usize % CUT_LIMITS.len()];
+    (asked.number, asked.room) = (limit, RECORD * records);
+    left /= CUT_LIMITS.len() as u64;
+    for _ in 1..length {
+        push(Family::Cuts, left % Family::Cuts.letters(), asked);
+        left /= Family::Cuts.letters();
+    }
+    for frame in FRAMES {
+        if left < frame.len() as u64 {
+            return asked.first.extend_from_slice(&frame[..=left as usize]);
+        }
+        left -= frame.len() as u64;
     }
 }
 
@@ -231,12 +306,19 @@ fn push(family: Family, letter: u64, asked: &mut Asked) {
     }
 }
 
-/// Says which lengths were exhausted by that many short cases.
-pub fn report(mut done: u64) {
-    for (family, from, to) in STAGES {
-        let size: u64 = (*from..=*to).map(|length| family.cases(length)).sum();
+/// Says which lengths of the stages were exhausted by that many short cases.
+pub fn report(stages: &[Stage], mut done: u64) {
+    for stage in stages {
+        let size: u64 = (stage.from..=stage.to).map(|length| stage.cases(length)).sum();
         let words = if done >= size { "exhausted" } else { "not exhausted" };
-        println!("{words}: {from} to {to} {}, of {}: {} of {size}", family.words(), family.letters(), done.min(size));
+        let calls: Vec<_> = stage.calls.iter().map(|call| CALLS[*call as usize]).collect();
+        let (Stage { family, from, to, .. }, calls) = (stage, calls.join(", "));
+        println!(
+            "{words}: {from} to {to} {} of {}, {calls}: {} of {size}",
+            family.words(),
+            family.letters(),
+            done.min(size)
+        );
         done = done.saturating_sub(size);
     }
 }

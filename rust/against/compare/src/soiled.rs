@@ -100,11 +100,17 @@ fn push_frame(r: &mut Random, to: &mut Vec<u8>, packet: &[u8]) {
     }
 }
 
+/// One such packet.
+pub fn packet(r: &mut Random) -> Vec<u8> {
+    let mut packet = Vec::new();
+    push_packet(r, &mut packet, 3);
+    packet
+}
+
 /// An input: one such packet, or with `frames` that many of them with their prefixes. Now and then it is damaged.
 pub fn input(r: &mut Random, frames: usize, to: &mut Vec<u8>) {
     for _ in 0..frames.max(1) {
-        let mut packet = Vec::new();
-        push_packet(r, &mut packet, 3);
+        let packet = packet(r);
         match frames {
             0 => to.extend(packet),
             _ => push_frame(r, to, &packet),

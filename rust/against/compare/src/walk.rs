@@ -50,28 +50,21 @@ pub struct Walk<'a> {
 /// The table of the crate's packets over an input, with the offsets that the walk finds; answers how deep what is lost would be.
 /// The bytes left over must agree.
 pub fn table(input: &[u8], prefix: usize, packets: &[OscPacket], left: usize, to: &mut Vec<u8>, seen: &mut Seen) -> Lost {
-    let (spots, positions, lost) = (Vec::new(), Vec::new(), Lost::default());
-    let mut walk = Walk { input, base: 0, at: 0, spots, positions, around: 0, lost, seen: *seen };
+    let mut walk = Walk::new(input, 0, 0, *seen);
     for packet in packets {
         walk.frame(prefix, packet);
     }
-    assert_eq!(input.len() - walk.at, left, "the walk and the crate disagree on the bytes left over: {input:02X?}");
     walk.seen.note_if(Rule::LeftOver, left > 0);
     walk.seen.note_if(Rule::Several, packets.len() > 1);
-    *seen = walk.seen;
-    let mut next = walk.spots.iter();
-    for packet in packets {
-        put_packet(to, packet, &mut |bytes| {
-            let spot = *next.next().expect("a spot for each item");
-            assert_eq!(input[spot.range as usize..][..bytes.len()], *bytes, "the walk found other bytes than the crate");
-            spot
-        });
-    }
-    assert!(next.next().is_none(), "an item for each spot");
-    for record in to.chunks_exact(RECORD) {
-        assert!(begins(input, record), "the crate's value does not stand where the walk says: {input:02X?}");
-    }
-    walk.lost
+    walk.put(packets, left, to, seen)
+}
+
+/// Appends to the table the packet of one frame, which its length has cut: the prefix stands at `from`, and the packet takes all
+/// bytes after it.
+pub fn cut_frame(input: &[u8], from: usize, packet: &[OscPacket], to: &mut Vec<u8>, seen: &mut Seen) -> Lost {
+    let mut walk = Walk::new(input, from, from + 4, *seen);
+    packet.iter().for_each(|packet| walk.packet(packet, input.len()));
+    walk.put(packet, 0, to, seen)
 }
 
 /// Whether the value of a record, as the crate gave it, stands where the walk says that the item begins. A tag without data and
@@ -88,7 +81,32 @@ fn begins(input: &[u8], record: &[u8]) -> bool {
     }
 }
 
-impl Walk<'_> {
+impl<'a> Walk<'a> {
+    /// A walk that begins at a place, with padding counted from another.
+    fn new(input: &'a [u8], base: usize, at: usize, seen: Seen) -> Walk<'a> {
+        Walk { input, base, at, spots: Vec::new(), positions: Vec::new(), around: 0, lost: Lost::default(), seen }
+    }
+
+    /// Appends the records of the packets that were walked over, after which so many bytes must be left.
+    fn put(self, packets: &[OscPacket], left: usize, to: &mut Vec<u8>, seen: &mut Seen) -> Lost {
+        let (input, from) = (self.input, to.len());
+        assert_eq!(input.len() - self.at, left, "the walk and the crate disagree on the bytes left over: {input:02X?}");
+        let mut next = self.spots.iter();
+        for packet in packets {
+            put_packet(to, packet, &mut |bytes| {
+                let spot = *next.next().expect("a spot for each item");
+                assert_eq!(input[spot.range as usize..][..bytes.len()], *bytes, "the walk found other bytes than the crate");
+                spot
+            });
+        }
+        assert!(next.next().is_none(), "an item for each spot");
+        for record in to[from..].chunks_exact(RECORD) {
+            assert!(begins(input, record), "the crate's value does not stand where the walk says: {input:02X?}");
+        }
+        *seen = self.seen;
+        self.lost
+    }
+
     fn frame(&mut self, prefix: usize, packet: &OscPacket) {
         self.base = self.at;
         self.at += prefix;

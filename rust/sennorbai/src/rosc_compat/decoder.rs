@@ -4,7 +4,7 @@
 
 use super::scratch::{first, lend};
 use super::{OscArray, OscBundle, OscColor, OscError, OscMessage, OscMidiMessage, OscPacket, OscTime, OscType};
-use crate::{Decoded, Record, Time, Value, DEEPEST, LONGEST, RECORD};
+use crate::{Decoded, Edition, Record, Time, Value, DEEPEST, LONGEST, RECORD};
 use std::mem;
 
 /// Common MTU size for ethernet
@@ -31,7 +31,7 @@ pub fn decode_udp(msg: &[u8]) -> Result<(&[u8], OscPacket), OscError> {
 ///
 /// [OSC specification]: https://cnmat.org/OpenSoundControl/OSC-spec.html
 pub fn decode_tcp(msg: &[u8]) -> Result<(&[u8], Option<OscPacket>), OscError> {
-    lend(|buffers| match crate::decode_tcp(msg, first(&mut buffers.table, room(msg)), DEEPEST)? {
+    lend(|buffers| match crate::decode_tcp(Edition::Rosc, msg, first(&mut buffers.table, room(msg)), DEEPEST)? {
         Decoded::Packet(read) => Ok((last(msg, read.left()), Some(packet(read.root())))),
         Decoded::Waiting => Ok((msg, None)),
     })
@@ -41,7 +41,7 @@ pub fn decode_tcp(msg: &[u8]) -> Result<(&[u8], Option<OscPacket>), OscError> {
 /// OSC packets in the slice as well as a slice of the bytes remaining after the last packet.
 pub fn decode_tcp_vec(msg: &[u8]) -> Result<(&[u8], Vec<OscPacket>), OscError> {
     lend(|buffers| {
-        let read = crate::decode_tcp_vec(msg, first(&mut buffers.table, room(msg)), DEEPEST)?;
+        let read = crate::decode_tcp_vec(Edition::Rosc, msg, first(&mut buffers.table, room(msg)), DEEPEST)?.packets();
         Ok((last(msg, read.left()), read.roots().map(packet).collect()))
     })
 }

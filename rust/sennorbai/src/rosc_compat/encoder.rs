@@ -5,7 +5,7 @@
 use super::scratch::{first, lend};
 use super::OscPacket;
 use super::{plain, table};
-use crate::{Refusal, Table, LONGEST};
+use crate::{Edition, Refusal, Table, LONGEST};
 
 /// Takes a reference to an OSC packet and returns
 /// a byte vector on success. If the packet was invalid
@@ -32,7 +32,7 @@ pub fn encode(packet: &OscPacket) -> super::Result<Vec<u8>> {
 /// Works exactly the same as [encode()]. Except that it prepends the length of the message into
 /// the first 4 bytes of the returned Vec, as per the OSC 1.0 specification.
 pub fn encode_tcp(packet: &OscPacket) -> super::Result<Vec<u8>> {
-    Ok(write(packet, crate::encode_tcp, <[u8]>::to_vec)?)
+    Ok(write(packet, framed, <[u8]>::to_vec)?)
 }
 
 /// Takes a reference to an OSC packet and writes the
@@ -70,7 +70,7 @@ pub fn encode_into<O: Output>(packet: &OscPacket, out: &mut O) -> Result<usize, 
 /// Works exactly the same as [encode_into()]. Except that it prepends the length of the message into
 /// the first 4 bytes of the provided [Output], as per the OSC 1.0 specification.
 pub fn encode_into_tcp<O: Output>(packet: &OscPacket, out: &mut O) -> Result<usize, O::Err> {
-    match write(packet, crate::encode_tcp, |bytes| out.write(bytes)) {
+    match write(packet, framed, |bytes| out.write(bytes)) {
         Ok(written) => written,
         Err(_) => out.write(&plain::encode_tcp(packet)),
     }
@@ -118,6 +118,11 @@ pub fn pad(pos: u64) -> u64 {
 
 /// One of the library's encoders.
 type Encoder = for<'t, 'o> fn(Table<'t>, &'o mut [u8]) -> Result<&'o [u8], Refusal>;
+
+/// rosc's framing is edition 1.
+fn framed<'o>(table: Table<'_>, out: &'o mut [u8]) -> Result<&'o [u8], Refusal> {
+    crate::encode_tcp(Edition::Rosc, table, out)
+}
 
 /// Writes a packet by an encoder, from its table and to an output that are both scratch, and hands the bytes on.
 fn write<T>(packet: &OscPacket, encoder: Encoder, then: impl FnOnce(&[u8]) -> T) -> Result<T, Refusal> {

@@ -1,6 +1,10 @@
 -- `decoder::frames::decode_frames` meets its contract. The invariant: the table, completed by the frames that are left, is the
 -- table at the end.
-use Rattle.decoder.proofs.FrameFills.{Listing, fills-tail, listing-start, listing-end, next-fits, next-in, listing-on, listing-waits}
+use Rattle.decoder.proofs.FrameFills.{Listing, remaining, fills-tail, listing-start, listing-end, none-left, next-fits, next-in}
+use Rattle.decoder.proofs.FrameFills.{listing-on, listing-waits}
+use Rattle.framing.specs.Framing.{refuses, tcpVec}
+use Rattle.framing.proofs.FrameKnot.{frame-in}
+use Rattle.answering.specs.Limits.{forestOf}
 use Rattle.wire.proofs.Parts.{tail}
 use native.Mathlib.Omega.{arith}
 use lib.ListN.{length}
@@ -10,7 +14,7 @@ use Rattle.decoder.proofs.frames.decode_frames.Statement.{statement}
 use Rattle.decoder.proofs.frames.decode_frames.Tie as tie
 
 abbrev Inv-loop : tie.InvT-loop
-Inv-loop msg table₀ at₀ count₀ table at count = (at ≤ length msg) × Listing msg table₀ table at count
+Inv-loop msg table₀ at₀ count₀ table at count = (at ≤ length msg) × Listing remaining (forestOf (tcpVec msg)) msg table₀ table at count
 
 abbrev μ-loop : tie.MeasureT-loop
 μ-loop msg table₀ at₀ count₀ table at count = length msg - at
@@ -36,7 +40,8 @@ decode-frame-requires c κs =
     let p6 = p3 .before .before .before in (
       omega (arith, (c .before .decode-frame-arg .given .2), (p6 .pre .0)),
       rw (tail (p6 .args .msg .now) (p3 .loop .at))
-          (next-fits (p6 .args .msg .now) (p6 .args .table .now) (p3 .loop .table) (p3 .loop .at) (p3 .loop .count) (p3 .loop .inv .1)
+          (next-fits _ refuses frame-in (p6 .args .msg .now) (p6 .args .table .now) (p3 .loop .table) (p3 .loop .at) (p3 .loop .count)
+          (p3 .loop .inv .1)
           (p2 .loop-test .taken)),
     )
 
@@ -48,7 +53,7 @@ add-count c =
     let p12 = p9 .before .before .before in
     omega (
       arith,
-      next-in (p12 .args .msg .now) (p12 .args .table .now) (p9 .loop .table) (p9 .loop .at) (p9 .loop .count)
+      next-in _ refuses frame-in (p12 .args .msg .now) (p12 .args .table .now) (p9 .loop .table) (p9 .loop .at) (p9 .loop .count)
           (p9 .loop .inv .1) (p8 .loop-test .taken) (fills-tail (p12 .args .msg .now) (p9 .loop .at) (p5 .decode-frame .ensures))
           (c .before .n .given .1),
     )
@@ -61,7 +66,7 @@ add-at c =
     let p12 = p9 .before .before .before in
     omega (
       arith,
-      next-in (p12 .args .msg .now) (p12 .args .table .now) (p9 .loop .table) (p9 .loop .at) (p9 .loop .count)
+      next-in _ refuses frame-in (p12 .args .msg .now) (p12 .args .table .now) (p9 .loop .table) (p9 .loop .at) (p9 .loop .count)
           (p9 .loop .inv .1) (p8 .loop-test .taken) (fills-tail (p12 .args .msg .now) (p9 .loop .at) (p5 .decode-frame .ensures))
           (c .before .n .given .1),
     )
@@ -74,7 +79,7 @@ loop-less c =
     let p12 = p9 .before .before .before in
     omega (
       arith,
-      next-in (p12 .args .msg .now) (p12 .args .table .now) (p9 .loop .table) (p9 .loop .at) (p9 .loop .count)
+      next-in _ refuses frame-in (p12 .args .msg .now) (p12 .args .table .now) (p9 .loop .table) (p9 .loop .at) (p9 .loop .count)
           (p9 .loop .inv .1) (p8 .loop-test .taken) (fills-tail (p12 .args .msg .now) (p9 .loop .at) (p5 .decode-frame .ensures))
           (c .before .n .given .1),
     )
@@ -87,11 +92,11 @@ loop-again c =
     let p12 = p9 .before .before .before in (
       omega (
         arith,
-        next-in (p12 .args .msg .now) (p12 .args .table .now) (p9 .loop .table) (p9 .loop .at) (p9 .loop .count)
+        next-in _ refuses frame-in (p12 .args .msg .now) (p12 .args .table .now) (p9 .loop .table) (p9 .loop .at) (p9 .loop .count)
             (p9 .loop .inv .1) (p8 .loop-test .taken) (fills-tail (p12 .args .msg .now) (p9 .loop .at) (p5 .decode-frame .ensures))
             (c .before .n .given .1),
       ),
-      listing-on (p12 .args .msg .now) (p12 .args .table .now) (p9 .loop .table) (p9 .loop .at) (p9 .loop .count)
+      listing-on _ refuses frame-in (p12 .args .msg .now) (p12 .args .table .now) (p9 .loop .table) (p9 .loop .at) (p9 .loop .count)
           (p9 .loop .inv .1) (p8 .loop-test .taken) (fills-tail (p12 .args .msg .now) (p9 .loop .at) (p5 .decode-frame .ensures))
           (c .before .n .given .1),
     )
@@ -109,7 +114,7 @@ returns-2 : tie.Need-returns-2 Inv-loop μ-loop
 returns-2 c =
     let p4 = c .before .before .before .before in
     listing-end (p4 .args .msg .now) (p4 .args .table .now) (c .before .loop .table) (c .before .loop .at) (c .before .loop .count)
-    (c .before .loop .inv .1) (search needs)
+    (c .before .loop .inv .1) (none-left (p4 .args .msg .now) (c .before .loop .at) (search needs))
 
 pub decode-frames-spec : {M : Type 1} → statement M
 decode-frames-spec =

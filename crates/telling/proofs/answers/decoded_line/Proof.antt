@@ -23,6 +23,12 @@ returns-3 c =
     let a = p2 .before .before .args in
     by-case (decodedAs (a .packets) (a .bytes)) (p2 .answer2 .given .1) (c .refused-line .ensures)
 
+returns-4 : tie.Need-returns-4
+returns-4 c =
+    let p2 = c .before .before in
+    let a = p2 .before .before .args in
+    by-case (decodedAs (a .packets) (a .bytes)) (p2 .answer3 .given .1) (c .stopped-line .ensures)
+
 pub decoded-line-spec : {M : Type 1} → statement M
 decoded-line-spec =
     tie.close
@@ -33,6 +39,9 @@ decoded-line-spec =
     (λ c κs. search needs)
     (λ c. search needs)
     (λ c κs. search needs)
+    (λ c. search needs)
+    (λ c κs. search needs)
     returns
     returns-2
-    returns-3)
+    returns-3
+    returns-4)

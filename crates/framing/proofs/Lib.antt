@@ -1,0 +1,3 @@
+pub mod FrameKnot
+pub mod FrameStarts
+pub mod Lists
