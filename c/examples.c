@@ -129,6 +129,40 @@ static void stops(const char *name, const char *hex, unsigned refusal, uint32_t 
     stops_beside(name, hex, 8, 64, refusal, frame, 0, table_hex);
 }
 
+/* What a step over a stream answers, in its parts, all that it says beside it, and its whole table, with room for some records. */
+static void steps_beside(const char *name, const char *hex, size_t records, uint64_t depth, unsigned refusal, uint32_t used,
+                         uint64_t beside, const char *table_hex) {
+    uint8_t bytes[256], due[256];
+    size_t n = bytes_of(hex, bytes), m = bytes_of(table_hex, due), room = OSC_RECORD * records;
+    uint8_t *msg = copy(bytes, n), *table = blank(room);
+    uint64_t more = 0xAAAAAAAAAAAAAAAAu, answer = osc_read_portion(msg, n, table, room, depth, &more);
+    same(name, osc_refusal(answer), refusal);
+    same(name, osc_count(answer), m / OSC_RECORD);
+    same(name, osc_used(answer), used);
+    same(name, more, beside);
+    same(name, osc_ended(more), beside >> 48);
+    same(name, osc_field(more), beside >> 32 & 0xFFFFu);
+    same(name, osc_dirty(more), beside & 0xFFFFFFFFu);
+    holds(name, table, room, due, m);
+    free(msg);
+    free(table);
+}
+
+/* A step that reads on. */
+static void steps(const char *name, const char *hex, uint32_t used, const char *table_hex) {
+    steps_beside(name, hex, 8, 64, 0, used, 0, table_hex);
+}
+
+/* A step after which the frame is refused that ends the stream. */
+static void ends(const char *name, const char *hex, unsigned ended, uint32_t used, const char *table_hex) {
+    steps_beside(name, hex, 8, 64, 0, used, (uint64_t)ended << 48, table_hex);
+}
+
+/* A step that is refused: no byte is used, nothing is said beside it, and the table is as it was. */
+static void steps_not(const char *name, const char *hex, size_t records, uint64_t depth, unsigned refusal) {
+    steps_beside(name, hex, records, depth, refusal, 0, 0, "");
+}
+
 /* The encoders of packets: 0, or the edition of a stream. */
 static uint64_t encode(int edition, const uint8_t *table, size_t n, uint64_t count, const uint8_t *source, size_t len, uint8_t *out,
                        size_t room) {
@@ -488,6 +522,62 @@ static void lists2(void) {
     free(table);
 }
 
+/* A stream of three frames in two portions, as a recorder reads it: both steps have the records of the three packets, none twice. */
+static void recorder(size_t cut) {
+    uint8_t bytes[256], buffer[256], table[8 * OSC_RECORD];
+    size_t n = bytes_of("0000000C" FIVE BUNDLE_FRAME PLAIN_FRAME, bytes), from, got, kept = 0, count = 0;
+    uint64_t more, answer;
+    for (from = 0; from < n; from += got) {
+        got = from < cut ? cut : n - from;
+        memcpy(buffer + kept, bytes + from, got);
+        answer = osc_read_portion(buffer, kept + got, table, sizeof table, 64, &more);
+        same("a recorder", osc_refusal(answer) + more, 0);
+        count += osc_count(answer);
+        same("a recorder", osc_used(answer) <= kept + got, 1);
+        if (osc_used(answer) > kept + got) return;
+        kept = kept + got - osc_used(answer);
+        memmove(buffer, buffer + osc_used(answer), kept);
+    }
+    same("a recorder", count, 4);
+    same("a recorder", kept, 0);
+}
+
+/* Steps over a stream of edition 2 that comes in portions. */
+static void portions(void) {
+    uint8_t *msg = blank(65536), *table = blank(2 * OSC_RECORD);
+    uint64_t more = 0xAAAAAAAAAAAAAAAAu;
+    size_t cut;
+    steps("no bytes of a stream", "", 0, "");
+    steps("three bytes of a stream", "000000", 0, "");
+    steps("a stream cut in its second frame", "0000000C" FIVE "00000010 2362", 16, FRAMED_TABLE);
+    steps("the kept bytes and what came after", BUNDLE_FRAME PLAIN_FRAME, 32,
+          BUNDLE_FRAME_TABLE "2F000000 00000002 00000018 00000002 00000018");
+    steps("a whole frame and a prefix", PLAIN_FRAME "00000008", 12, PLAIN_FRAME_TABLE);
+    steps_beside("dirt before an unfinished frame", "00000008 2F610001 2C000000 00000008 2F610001", 8, 64, 0, 12, 1, PLAIN_FRAME_TABLE);
+    ends("a stream ends at its first frame", "00000000", OSC_EMPTY, 0, "");
+    ends("a stream ends at a length of 65,532", PLAIN_FRAME "0000FFFC", OSC_TOO_LONG, 12, PLAIN_FRAME_TABLE);
+    ends("a refused frame before a good one", PLAIN_FRAME "00000008 2F610000 2C780000" PLAIN_FRAME, OSC_UNKNOWN_TAG, 12,
+         PLAIN_FRAME_TABLE);
+    steps_beside("9 ends a stream", PLAIN_FRAME BUNDLE_FRAME, 8, 0, 0, 12, (uint64_t)OSC_TOO_DEEP << 48, PLAIN_FRAME_TABLE);
+    steps_beside("all numbers of a step at once", "00000008 2F610001 2C000001 00000004 2F616263", 8, 64, 0, 12,
+                 (uint64_t)OSC_SHORT_ADDRESS << 48 | (uint64_t)16 << 32 | 2, PLAIN_FRAME_TABLE);
+    steps_not("a step without room", PLAIN_FRAME BUNDLE_FRAME, 1, 64, OSC_TABLE_FULL);
+    steps_not("the same before a refused frame", PLAIN_FRAME "00000000", 0, 64, OSC_TABLE_FULL);
+    steps_not("a step and 65 levels", PLAIN_FRAME, 8, 65, OSC_DEPTH_LIMIT);
+    steps_not("a step and 2^32 levels", "", 8, 0x100000000u, OSC_DEPTH_LIMIT);
+    same("a step over 65,536 bytes", osc_read_portion(msg, 65536, table, 2 * OSC_RECORD, 64, &more), (uint64_t)OSC_TOO_LONG << 56);
+    same("a step over 65,536 bytes", more, 0);
+    holds("a step over 65,536 bytes", table, 2 * OSC_RECORD, msg, 0);
+    memset(msg, 0, 65536);
+    memcpy(msg, "\0\0\xFF\xF8/a\0\0,b\0\0\0\0\xFF\xEC", 16);
+    same("the longest frame but for a byte", osc_read_portion(msg, 65531, table, 2 * OSC_RECORD, 64, &more), 0);
+    same("the longest frame", osc_read_portion(msg, 65532, table, 2 * OSC_RECORD, 64, &more), (uint64_t)2 << 32 | 65532);
+    same("the longest frame", more, 0);
+    for (cut = 1; cut < 48; cut++) recorder(cut);
+    free(msg);
+    free(table);
+}
+
 static void encoders(void) {
     encodes("five", 0, FIVE_TABLE, 2, "/a", 12, 0, FIVE);
     encodes("five, with room", 0, FIVE_TABLE, 2, "/a", 15, 0, FIVE);
@@ -539,6 +629,7 @@ int main(void) {
     streams();
     frames2();
     lists2();
+    portions();
     encoders();
     leaves();
     printf("%d passed, %d failed\n", passed, failed);

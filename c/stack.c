@@ -19,15 +19,15 @@ static const uint8_t source[] = "/\303\251";
 
 /* ---- a call, on a stack of its own */
 
-enum call { UDP, TCP, TCP_VEC, TCP2, TCP_VEC2, ENCODE, ENCODE_TCP, ENCODE_TCP2, STRING, LOOK, START, PAD };
+enum call { UDP, TCP, TCP_VEC, TCP2, TCP_VEC2, PORTION, ENCODE, ENCODE_TCP, ENCODE_TCP2, STRING, LOOK, START, PAD };
 
-static const char *const names[] = {"udp",        "tcp",         "tcp_vec", "tcp2", "tcp_vec2", "encode",
-                                    "encode_tcp", "encode_tcp2", "string",  "look", "start",    "pad"};
+static const char *const names[] = {"udp",    "tcp",        "tcp_vec",     "tcp2",   "tcp_vec2", "portion",
+                                    "encode", "encode_tcp", "encode_tcp2", "string", "look",     "start", "pad"};
 
 /* The call that the thread makes: n is the length of its input, or its number. */
 static struct {
     enum call call;
-    uint64_t n, answer;
+    uint64_t n, answer, more;
     double us;
 } asked;
 
@@ -37,13 +37,14 @@ static const char *most_name;
 static unsigned wrong;
 
 static uint64_t once(enum call call, uint64_t n) {
-    uint64_t more;
+    uint64_t *more = &asked.more;
     switch (call) {
-    case UDP: return osc_decode_udp(msg, n, table, sizeof table, 64, &more);
-    case TCP: return osc_decode_tcp(msg, n, table, sizeof table, 64, &more);
-    case TCP_VEC: return osc_decode_tcp_vec(msg, n, table, sizeof table, 64, &more);
-    case TCP2: return osc_decode_tcp2(msg, n, table, sizeof table, 64, &more);
-    case TCP_VEC2: return osc_decode_tcp_vec2(msg, n, table, sizeof table, 64, &more);
+    case UDP: return osc_decode_udp(msg, n, table, sizeof table, 64, more);
+    case TCP: return osc_decode_tcp(msg, n, table, sizeof table, 64, more);
+    case TCP_VEC: return osc_decode_tcp_vec(msg, n, table, sizeof table, 64, more);
+    case TCP2: return osc_decode_tcp2(msg, n, table, sizeof table, 64, more);
+    case TCP_VEC2: return osc_decode_tcp_vec2(msg, n, table, sizeof table, 64, more);
+    case PORTION: return osc_read_portion(msg, n, table, sizeof table, 64, more);
     case ENCODE: return osc_encode(table, sizeof table, n, source, 3, out, sizeof out);
     case ENCODE_TCP: return osc_encode_tcp(table, sizeof table, n, source, 3, out, sizeof out);
     case ENCODE_TCP2: return osc_encode_tcp2(table, sizeof table, n, source, 3, out, sizeof out);
@@ -61,7 +62,7 @@ static void *work(void *unused) {
     return unused;
 }
 
-/* Makes a call on the stack; its refusal is to be `due`. */
+/* Makes a call on the stack; its refusal, or that of the frame that ends its stream, is to be `due`. */
 static void run(const char *name, enum call call, uint64_t n, unsigned due) {
     pthread_attr_t attributes;
     pthread_t thread;
@@ -77,7 +78,8 @@ static void run(const char *name, enum call call, uint64_t n, unsigned due) {
         most_name = name;
     }
     unsigned refusal = call == PAD ? 0 : osc_refusal(asked.answer);
-    printf("%-34s %-11s %5llu: refusal %2u, count %5u, left or written %5u, stack %6zu, %8.0f us%s\n", name, names[call],
+    if (call == PORTION && !refusal) refusal = osc_ended(asked.more);
+    printf("%-34s %-11s %5llu: refusal %2u, count %5u, left, used or written %5u, stack %6zu, %8.0f us%s\n", name, names[call],
            (unsigned long long)n, refusal, osc_count(asked.answer), osc_left(asked.answer), size - left, asked.us,
            refusal == due ? "" : ": NOT WHAT IS DUE");
     wrong += refusal != due;
@@ -150,7 +152,7 @@ static size_t frames(uint32_t last) {
 
 /* A call on one packet, which has its length before it where it is of edition 2; in edition 1 that cuts nothing, so it is 0. */
 static void packet(const char *name, enum call call, size_t n, unsigned due) {
-    if (call != UDP) put_u32(0, call == TCP2 || call == TCP_VEC2 ? (uint32_t)n - 4 : 0);
+    if (call != UDP) put_u32(0, call >= TCP2 ? (uint32_t)n - 4 : 0);
     run(name, call, n, due);
 }
 
@@ -184,9 +186,12 @@ static void decode(enum call call) {
 static void lists(void) {
     run("frames end to end", TCP_VEC, frames(8), 0);
     run("frames end to end", TCP_VEC2, frames(8), 0);
+    run("frames end to end", PORTION, frames(8), 0);
+    run("the last of them unfinished", PORTION, frames(12), 0);
     run("the last of them of an odd length", TCP_VEC, frames(6), 0);
     run("the last of them of an odd length", TCP_VEC2, frames(6), OSC_ODD_LENGTH);
     run("the last of them too long", TCP_VEC2, frames(0xFFFFFFFC), OSC_TOO_LONG);
+    run("the last of them too long", PORTION, frames(0xFFFFFFFC), OSC_TOO_LONG);
 }
 
 /* ---- tables of encoders, in `table` */
@@ -256,7 +261,7 @@ int main(int argc, char **argv) {
     uint8_t *room = (uint8_t *)mmap(NULL, GUARD + size, PROT_READ | PROT_WRITE, MAP_PRIVATE | MAP_ANONYMOUS, -1, 0);
     if (room == MAP_FAILED || mprotect(room, GUARD, PROT_NONE)) return 2;
     stack = room + GUARD;
-    for (int call = UDP; call <= TCP_VEC2; call++) decode((enum call)call);
+    for (int call = UDP; call <= PORTION; call++) decode((enum call)call);
     lists();
     for (int call = ENCODE; call <= ENCODE_TCP2; call++) encode((enum call)call);
     others();

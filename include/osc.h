@@ -12,7 +12,7 @@
 #define SENNORBAI_OSC_H
 
 /* The version of the library and of this header. */
-#define SENNORBAI_VERSION "0.10.0"
+#define SENNORBAI_VERSION "0.11.0"
 
 #include <stddef.h>
 #include <stdint.h>
@@ -85,6 +85,26 @@ uint64_t osc_decode_tcp2(const uint8_t *msg, size_t len, uint8_t *table, size_t 
  * OSC_TOO_LONG of an input and OSC_TABLE_FULL refuse the call. No bytes are no packets and nothing left. */
 uint64_t osc_decode_tcp_vec2(const uint8_t *msg, size_t len, uint8_t *table, size_t table_len, uint64_t depth, uint64_t *more);
 
+/* A step over a TCP stream in edition 2 that comes in portions. The `bytes_len` bytes at `bytes` are what was kept of it and what came
+ * after that. The packets of every whole frame are read, as osc_decode_tcp_vec2 reads them, and the frame that is not all there is kept.
+ * Bits 56 to 63 of the answer are the number of the call's refusal, OSC_DEPTH_LIMIT, OSC_TOO_LONG of an input or OSC_TABLE_FULL, and 0
+ * where there is an answer; bits 32 to 55 the count of records; bits 0 to 31 the bytes used, which are the first ones. Those after them
+ * are to be kept: what comes next stands after them.
+ * A frame that is refused ends the stream: it stands after the bytes used, and what follows it cannot be read. Bits 48 to 63 of `*more`
+ * are the number of its refusal then, and 0 otherwise; bits 32 to 47 and 0 to 31 are what they are for a decoder. `*more` is written by
+ * every call, and is 0 where the call is refused. `more` must not be NULL and must not overlap the slices.
+ * A recorder, with a buffer of OSC_LONGEST bytes, which has room for every frame with its prefix, and `kept` 0 at first:
+ *
+ *     while ((got = recv(socket, buffer + kept, sizeof buffer - kept, 0)) > 0) {
+ *         answer = osc_read_portion(buffer, kept + got, table, sizeof table, OSC_DEEPEST, &more);
+ *         if (osc_refusal(answer)) break;              // no byte was used, and the table is as it was
+ *         record(buffer, table, osc_count(answer));    // offsets in the table are into the buffer: before it is moved
+ *         if (osc_ended(more)) break;                  // the next frame is refused
+ *         kept = kept + got - osc_used(answer);
+ *         memmove(buffer, buffer + osc_used(answer), kept);
+ *     } */
+uint64_t osc_read_portion(const uint8_t *bytes, size_t bytes_len, uint8_t *table, size_t table_len, uint64_t depth, uint64_t *more);
+
 /* Encoders. They write the packet of `count` records over the first bytes of `out`; ranges lie in `source`.
  * A tree is at most OSC_DEEPEST deep, as for a decoder.
  * Bits 56 to 63 of the answer are the refusal's number; bits 0 to 31 the bytes written. */
@@ -119,24 +139,33 @@ uint64_t osc_start(const uint8_t *table, size_t table_len, uint64_t index);
 /* The refusal's number, of the call or of a frame (osc_stopped); 0 where there is an answer. */
 static inline unsigned osc_refusal(uint64_t answer) { return (unsigned)(answer >> 56); }
 
-/* The count of records that a decoder wrote. */
+/* The count of records that a decoder or osc_read_portion wrote. */
 static inline uint32_t osc_count(uint64_t answer) { return (uint32_t)(answer >> 32) & 0xFFFFFFu; }
 
 /* The input bytes that a decoder left over. */
 static inline uint32_t osc_left(uint64_t answer) { return (uint32_t)answer; }
 
+/* The bytes that osc_read_portion used: those after them are to be kept. */
+static inline uint32_t osc_used(uint64_t answer) { return (uint32_t)answer; }
+
 /* Whether a list of edition 2 stopped at a frame that is refused: 1, with the packets before it in the table. 0 for every other answer,
  * and where the call is refused. */
 static inline int osc_stopped(uint64_t answer) { return osc_refusal(answer) != 0 && osc_left(answer) != 0; }
 
-/* Where the field began that was short, of what a decoder wrote to `*more`; 0 where the refusal is not one of 17 to 21. */
+/* Where the field began that was short, of what a decoder or osc_read_portion wrote to `*more`; 0 where the refusal is not one of 17
+ * to 21. */
 static inline uint32_t osc_field(uint64_t more) { return (uint32_t)(more >> 32) & 0xFFFFu; }
 
-/* The padding bytes that were not zero, of what a decoder wrote to `*more`; 0 where the call is refused and for Waiting. */
+/* The padding bytes that were not zero, of what a decoder or osc_read_portion wrote to `*more`; 0 where the call is refused and for
+ * Waiting. */
 static inline uint32_t osc_dirty(uint64_t more) { return (uint32_t)more; }
 
 /* Where the prefix began of the frame at which a list stopped, of what a decoder wrote to `*more`; 0 where none did. */
 static inline uint32_t osc_frame(uint64_t more) { return (uint32_t)(more >> 48); }
+
+/* The number of the refusal of the frame that ends a stream, of what osc_read_portion wrote to `*more`; 0 where the stream goes on, and
+ * where the call is refused. */
+static inline unsigned osc_ended(uint64_t more) { return (unsigned)(more >> 48); }
 
 /* The bytes that an encoder wrote. */
 static inline uint32_t osc_written(uint64_t answer) { return (uint32_t)answer; }

@@ -6,6 +6,7 @@
 --     Tables      a tree that continues another, on the table
 --     Dirt        the dirty padding of a packet, with bytes appended
 --     MoreBytes   the theorem of packets, for each of the two calls
+--     Settled     a frame of edition 2 that does not wait, with bytes appended
 --     Stay        the theorem of packets in edition 2, for one frame and for a list
 --     Faults      the theorem of refusals, for each of the two calls
 --     Examples    calls that meet the hypotheses, and lists for which the second theorem is false
@@ -15,6 +16,7 @@ pub mod Wholes
 pub mod Tables
 pub mod Dirt
 pub mod MoreBytes
+pub mod Settled
 pub mod Stay
 pub mod Faults
 pub mod Examples

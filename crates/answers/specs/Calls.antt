@@ -5,6 +5,7 @@ use mathlib.Core.Bool.{Bool, true, false}
 use mathlib.Core.List.{List, [], _∷_}
 use Prim.Native.Nat.{ℕ}
 use Rattle.edition.specs.declared.Edition.{Edition}
+use Rattle.edition.specs.declared.Edition.the-variants.{Standard}
 use Rattle.refusal.specs.Refusal.{numberOf}
 use Rattle.refusal.specs.declared.Refusal.{Refusal}
 use Rattle.wire.specs.Pad.{padOf}
@@ -19,9 +20,13 @@ use Rattle.values.specs.declared.look.Started.{Started}
 use Rattle.values.specs.declared.look.Started.the-variants as started
 use Rattle.framing.specs.Framing.{ruleOf}
 use Rattle.framing.specs.declared.Framing.{Framing}
+use Rattle.framing.specs.declared.Framing.the-variants.{TcpVec}
 use Rattle.answering.specs.Limits.{orderOf, stopsBy, waitsBy, Decodes}
 use Rattle.answering.specs.declared.Decoded.{Decoded}
 use Rattle.answering.specs.declared.Decoded.the-variants as decodes
+use Rattle.portions.specs.Portions.{Steps}
+use Rattle.portions.specs.declared.Portion.{Portion}
+use Rattle.portions.specs.declared.Portion.the-variants as portion
 use Rattle.encoder.specs.Outcome.{encodeOrder, stringOrder, Encodes, unframed, framedBy, EncodesString}
 use Rattle.encoder.specs.declared.Encoded.{Encoded}
 use Rattle.encoder.specs.declared.Encoded.the-variants as encodes
@@ -29,6 +34,7 @@ use Rattle.encoder.specs.declared.Encoded.the-variants as encodes
 -- a call of a public entry point and what it is handed: any bytes, any table, any limits; the decoders by their framing
 pub data Call : Type 0 where
   decode : (framing : Framing) (msg table : List ℕ) (depth : ℕ) → Call
+  read-portion : (bytes table : List ℕ) (depth : ℕ) → Call
   encode : (table : List ℕ) (count : ℕ) (source out : List ℕ) → Call
   encode-tcp : (edition : Edition) (table : List ℕ) (count : ℕ) (source out : List ℕ) → Call
   encode-string : (text out : List ℕ) → Call
@@ -40,6 +46,7 @@ pub data Call : Type 0 where
 -- the type of its answer
 abbrev pub Answer : Call → Type 0
 Answer (decode framing msg table depth) = Decoded
+Answer (read-portion bytes table depth) = Portion
 Answer (encode table count source out) = Encoded
 Answer (encode-tcp edition table count source out) = Encoded
 Answer (encode-string text out) = Encoded
@@ -51,6 +58,7 @@ Answer (text-of value packet label) = List ℕ
 -- the bytes that it is lent by `&mut`: at most one buffer; what is lent by `&` cannot change
 abbrev pub Lent : Call → Type 0
 Lent (decode framing msg table depth) = List ℕ
+Lent (read-portion bytes table depth) = List ℕ
 Lent (encode table count source out) = List ℕ
 Lent (encode-tcp edition table count source out) = List ℕ
 Lent (encode-string text out) = List ℕ
@@ -62,6 +70,7 @@ Lent (text-of value packet label) = Unit {0}
 -- those bytes before the call
 abbrev pub lentTo : (c : Call) → Lent c
 lentTo (decode framing msg table depth) = table
+lentTo (read-portion bytes table depth) = table
 lentTo (encode table count source out) = out
 lentTo (encode-tcp edition table count source out) = out
 lentTo (encode-string text out) = out
@@ -78,6 +87,7 @@ pub record Ending (c : Call) : Type 0 where
 -- the contract of the entry point
 abbrev pub Meets : (c : Call) → Ending c → Type 0
 Meets (decode framing msg table depth) e = Decodes (ruleOf framing depth) msg table depth (e .answer) (e .lent)
+Meets (read-portion bytes table depth) e = Steps bytes table depth (e .answer) (e .lent)
 Meets (encode table count source out) e = Encodes unframed table count source out (record { answer = e .answer; out = e .lent })
 Meets (encode-tcp edition table count source out) e =
     Encodes (framedBy edition) table count source out (record { answer = e .answer; out = e .lent })
@@ -102,6 +112,12 @@ byDecoded decodes.Waiting = waits
 byDecoded (decodes.Refused r) = refuses r
 byDecoded (decodes.Stopped count left dirty r at) = stops r
 
+-- of a step over a stream (Ticket 14)
+abbrev pub byPortion : Portion → Given
+byPortion (portion.Read count used dirty) = result
+byPortion (portion.Ended count used dirty r) = stops r
+byPortion (portion.Refused r) = refuses r
+
 -- of an encoder
 abbrev pub byEncoded : Encoded → Given
 byEncoded (encodes.Written n) = result
@@ -125,6 +141,7 @@ byStarted (started.Refused r) = refuses r
 -- of any call
 abbrev pub given : (c : Call) → Answer c → Given
 given (decode framing msg table depth) r = byDecoded r
+given (read-portion bytes table depth) r = byPortion r
 given (encode table count source out) r = byEncoded r
 given (encode-tcp edition table count source out) r = byEncoded r
 given (encode-string text out) r = byEncoded r
@@ -136,6 +153,7 @@ given (text-of value packet label) r = result
 -- the refusals that documents 01 and 02 have for a call, by their numbers
 abbrev pub numbersOf : Call → List ℕ
 numbersOf (decode framing msg table depth) = orderOf framing
+numbersOf (read-portion bytes table depth) = orderOf (TcpVec Standard)
 numbersOf (encode table count source out) = encodeOrder
 numbersOf (encode-tcp edition table count source out) = encodeOrder
 numbersOf (encode-string text out) = stringOrder
@@ -147,6 +165,7 @@ numbersOf (text-of value packet label) = []
 -- whether a call may answer Waiting
 abbrev pub mayWait : Call → Bool
 mayWait (decode framing msg table depth) = waitsBy framing
+mayWait (read-portion bytes table depth) = false
 mayWait (encode table count source out) = false
 mayWait (encode-tcp edition table count source out) = false
 mayWait (encode-string text out) = false
@@ -158,6 +177,7 @@ mayWait (text-of value packet label) = false
 -- the refusals of a frame at which a call may stop
 abbrev pub mayStop : Call → List ℕ
 mayStop (decode framing msg table depth) = stopsBy framing
+mayStop (read-portion bytes table depth) = stopsBy (TcpVec Standard)
 mayStop (encode table count source out) = []
 mayStop (encode-tcp edition table count source out) = []
 mayStop (encode-string text out) = []

@@ -4,12 +4,13 @@
 use decoder::Decoded;
 use edition::Edition;
 use encoder::Encoded;
+use portions::Portion;
 use values::look::Looked;
 use values::look::Started;
 use values::value::OscType;
 use wire::Padded;
 ghost use Rattle.framing.specs.declared.Framing.the-variants.{Udp, Tcp, TcpVec};
-ghost use Rattle.answers.specs.Calls.{Meets, decode, encode, encode-tcp, encode-string, pad, look, start-of, text-of};
+ghost use Rattle.answers.specs.Calls.{Meets, decode, read-portion, encode, encode-tcp, encode-string, pad, look, start-of, text-of};
 
 fn decode_udp(msg: &[u8], table: &mut [u8], depth: usize) -> Decoded
     ensures { λ r. ⌜ Meets (decode Udp (now (msg .entry)) (now (table .entry)) depth) (record { answer = r; lent = now (table .exit) }) ⌝ }
@@ -29,6 +30,13 @@ fn decode_tcp_vec(edition: Edition, msg: &[u8], table: &mut [u8], depth: usize) 
         (record { answer = r; lent = now (table .exit) }) ⌝ }
 {
     decoder::decode_tcp_vec(edition, msg, table, depth)
+}
+
+fn read_portion(bytes: &[u8], table: &mut [u8], depth: usize) -> Portion
+    ensures { λ r. ⌜ Meets (read-portion (now (bytes .entry)) (now (table .entry)) depth)
+        (record { answer = r; lent = now (table .exit) }) ⌝ }
+{
+    portions::read_portion(bytes, table, depth)
 }
 
 fn encode(table: &[u8], count: usize, source: &[u8], out: &mut [u8]) -> Encoded

@@ -1,16 +1,19 @@
--- An answer is taken apart as include/osc.h does it: the three parts of a decoder's number with the three beside it, and the two of an
--- encoder's, are what was put into it. So an encoder's number tells one answer, and so does a decoder's (Once.antt): count 0 with the
--- whole input left is Waiting where `decode_tcp` tells it, and no packets where `decode_tcp_vec` does.
+-- An answer is taken apart as include/osc.h does it: the three parts of a decoder's or a step's number with the three beside it, and the
+-- two of an encoder's, are what was put into it. So an encoder's number tells one answer, and so does a decoder's (Once.antt): count 0
+-- with the whole input left is Waiting where `decode_tcp` tells it, and no packets where `decode_tcp_vec` does.
 use mathlib.Core.Path.{sym, subst}
 use mathlib.Core.List.{List}
 use Prim.Native.Nat.{ℕ}
 use native.Mathlib.Omega.{arith}
 use Rattle.answering.specs.declared.Decoded.{Decoded}
 use Rattle.answering.specs.declared.Decoded.the-variants as decodes
+use Rattle.portions.specs.declared.Portion.{Portion}
+use Rattle.portions.specs.declared.Portion.the-variants as portion
 use Rattle.encoder.specs.Outcome.{Encodes, EncodesString}
 use Rattle.encoder.specs.declared.Encoded.{Encoded}
 use Rattle.encoder.specs.declared.Encoded.the-variants as encodes
 use Rattle.osc.specs.Answers.{decodedNumber, moreNumber, Fits, encodedNumber, Tells, Parts, EncodedParts}
+use Rattle.osc.specs.Answers.{portionNumber, portionMore, PortionFits, PortionParts}
 use Rattle.osc.proofs.Ended.{Ended, encodes-ended, string-ended}
 
 -- the parts of a decoder's number, and those beside it, are what was put into them
@@ -20,6 +23,12 @@ decoded-apart n decodes.Waiting h = (omega arith, omega arith, omega arith, omeg
 decoded-apart n (decodes.Refused r) h = (omega arith, omega arith, omega arith, omega arith, omega arith, omega arith)
 decoded-apart n (decodes.Stopped count left dirty r frame) h =
     (omega arith, omega arith, omega arith, omega arith, omega arith, omega arith)
+
+-- so are those of a step's number, and those beside it
+pub portion-apart : (answer : Portion) → PortionFits answer → PortionParts answer (portionNumber answer) (portionMore answer)
+portion-apart (portion.Read count used dirty) h = (omega arith, omega arith, omega arith, omega arith, omega arith, omega arith)
+portion-apart (portion.Ended count used dirty r) h = (omega arith, omega arith, omega arith, omega arith, omega arith, omega arith)
+portion-apart (portion.Refused r) h = (omega arith, omega arith, omega arith, omega arith, omega arith, omega arith)
 
 -- ---- an encoder's number
 

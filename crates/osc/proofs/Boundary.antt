@@ -1,5 +1,5 @@
 -- Demand 1 at the C boundary, and which answers a decoder gives there.
-use mathlib.Core.Path.{_≡_, refl, sym, subst}
+use mathlib.Core.Path.{_≡_, refl, sym, ap, subst, _∙_}
 use mathlib.Core.Bool.{true, false, _&&_, false≢true}
 use mathlib.Core.List.{List, []}
 use mathlib.Core.Logic.{⊎-elim}
@@ -30,22 +30,24 @@ use Rattle.values.specs.declared.value.OscType.the-variants as value
 use Rattle.values.specs.declared.look.Looked.{Looked}
 use Rattle.values.specs.declared.look.Started.{Started}
 use Rattle.edition.specs.declared.Edition.the-variants.{Rosc, Standard}
-use Rattle.framing.specs.Framing.{ruleOf}
-use Rattle.answering.specs.Limits.{orderOf, stopsBy, forestOf, tabled}
+use Rattle.framing.specs.Framing.{ruleOf, tcpVec2}
+use Rattle.answering.specs.Limits.{orderOf, stopsBy, decoded, forestOf, tabled}
 use Rattle.framing.specs.declared.Framing.{Framing}
 use Rattle.framing.specs.declared.Framing.the-variants.{Udp, Tcp, TcpVec}
 use Rattle.answering.specs.declared.Decoded.{Decoded}
 use Rattle.answering.specs.declared.Decoded.the-variants as decodes
+use Rattle.portions.specs.Portions.{portionOf}
+use Rattle.portions.specs.declared.Portion.the-variants as portion
 use Rattle.encoder.specs.declared.Encoded.{Encoded}
 use Rattle.encoder.specs.declared.Encoded.the-variants as encodes
 use Rattle.osc.specs.Answers.{decodedNumber, moreNumber, Fits, encodedNumber, paddedNumber, kindOf, lookedNumber, startedNumber}
-use Rattle.osc.specs.Answers.{refusalIn}
-use Rattle.osc.specs.Boundary.{CCall, osc-decode, osc-encode, osc-encode-string, osc-pad, osc-look, osc-start, cLent, cRefusals}
-use Rattle.osc.specs.Boundary.{cRefused, CAnswered, Beside, StopTold, CEnds, told-answer, told-refusal}
-use Rattle.osc.specs.Boundary.{told-stop, EndsListed, ToldApart, StopsApart, Answerable}
-use Rattle.osc.proofs.Apart.{decoded-apart}
+use Rattle.osc.specs.Answers.{portionNumber, portionMore, PortionFits, refusalIn, frameIn}
+use Rattle.osc.specs.Boundary.{CCall, osc-decode, osc-read-portion, osc-encode, osc-encode-string, osc-pad, osc-look, osc-start}
+use Rattle.osc.specs.Boundary.{cLent, cRefusals, cRefused, CAnswered, Beside, StopTold, EndTold, CEnds, told-answer, told-refusal}
+use Rattle.osc.specs.Boundary.{told-stop, EndsListed, ToldApart, StopsApart, EndsApart, Answerable}
+use Rattle.osc.proofs.Apart.{decoded-apart, portion-apart}
 use Rattle.osc.proofs.Ended.{Ended, encodes-ended, string-ended}
-use Rattle.osc.proofs.Fits.{fits}
+use Rattle.osc.proofs.Fits.{fits, portion-fits}
 use Rattle.osc.proofs.Once.{answerable}
 
 -- what is told and bytes that are left, by what they are
@@ -110,6 +112,32 @@ module _ (framing : Framing) (msg table : List ℕ) (limit : ℕ) where
   decoding-ends (decodes.Refused r) h a = told-refusal (numberOf r) a refl (beside-of r h) refl
   decoding-ends (decodes.Stopped count left dirty r frame) h a = told-stop (stop-told count left dirty r frame h a)
 
+-- ---- the step
+
+-- how a step is told that a refused frame ends
+end-told : (n count used dirty : ℕ) (r : Refusal) → PortionFits (portion.Ended count used dirty r)
+    → among (numberOf r) (stopsBy (TcpVec Standard)) ≡ true → used + 4 ≤ n
+    → EndTold n (portionNumber (portion.Ended count used dirty r)) (portionMore (portion.Ended count used dirty r))
+end-told n count used dirty r h a k =
+    let p = portion-apart (portion.Ended count used dirty r) h in
+    record {
+      listed = subst (λ (m : ℕ). among m (stopsBy (TcpVec Standard)) ≡ true) (sym (p .5)) a;
+      accepted = omega arith;
+      used = omega (arith, p .2, k);
+      field = λ l. omega (arith, p .3, beside-of r (h .3) .1 (omega (arith, l, p .5)));
+    }
+
+module _ (bytes table : List ℕ) (limit : ℕ) where
+  -- how a step ends where this is the list's answer
+  step-ends : (d : Decoded) → PortionFits (portionOf (length bytes) d) → Answerable (TcpVec Standard) (length bytes) d
+      → CEnds (osc-read-portion bytes table limit) (portionNumber (portionOf (length bytes) d)) (portionMore (portionOf (length bytes) d))
+      (tabled d (forestOf (tcpVec2 limit bytes)) table)
+  step-ends (decodes.Packets count left dirty) h a = told-answer (omega arith, omega arith) (omega arith)
+  step-ends decodes.Waiting h a = absurd a
+  step-ends (decodes.Refused r) h a = told-refusal (numberOf r) a refl (alone (numberOf r)) refl
+  step-ends (decodes.Stopped count left dirty r frame) h a =
+      told-stop (end-told (length bytes) count frame dirty r h (a .0) (omega (arith, a .1, a .2)))
+
 -- ---- encoders
 
 encoded-ends : (c : CCall) → ((n : ℕ) → n ≤ longest → CAnswered c n) → ((n : ℕ) → n * 0x100_0000_0000_0000 ≡ cRefused c n)
@@ -168,6 +196,11 @@ ends-listed (osc-decode framing msg table limit) told more after t =
     ends-as (t .number) (t .beside) (t .decodes .left)
     (decoding-ends framing msg table limit (t .answer) (fits (capacity table) limit framing msg e)
     (subst (Answerable framing (length msg)) (sym e) (answerable framing (capacity table) limit msg)))
+ends-listed (osc-read-portion bytes table limit) told more after t =
+    let e = t .steps .answers in
+    ends-as (t .number ∙ ap portionNumber e) (t .beside ∙ ap portionMore e) (t .steps .leaves)
+    (step-ends bytes table limit (decoded (tcpVec2 limit) (capacity table) limit bytes) (portion-fits limit bytes table refl)
+    (answerable (TcpVec Standard) (capacity table) limit bytes))
 ends-listed (osc-encode frame table count source out) told more after t =
     ends-as (t .0 .number) (t .1) refl
     (encoded-ends (osc-encode frame table count source out) (λ n h. h) (λ n. refl) (t .0 .answer) after
@@ -191,6 +224,8 @@ none-zero (TcpVec Standard) = (false≢true, false≢true)
 pub refusals-apart : ToldApart
 refusals-apart (osc-decode framing msg table limit) zero e h = none-zero framing .0 e
 refusals-apart (osc-decode framing msg table limit) (suc n) e h = omega arith
+refusals-apart (osc-read-portion bytes table limit) zero e h = none-zero (TcpVec Standard) .0 e
+refusals-apart (osc-read-portion bytes table limit) (suc n) e h = omega (arith, h .0)
 refusals-apart (osc-encode frame table count source out) zero e h = absurd (false≢true e)
 refusals-apart (osc-encode frame table count source out) (suc n) e h = omega arith
 refusals-apart (osc-encode-string text out) zero e h = absurd (false≢true e)
@@ -203,13 +238,17 @@ refusals-apart (osc-start table bytes index) (suc n) e h = omega arith
 
 -- a list that stops is told as no answer, which has no refusal's number, and as no refusal, with which no bytes are left
 pub stops-apart : StopsApart
-stops-apart (osc-decode framing msg table limit) told more w = (
+stops-apart framing msg table limit told more w = (
   (λ h. let z : refusalIn told ≡ 0 = omega arith in
       none-zero framing .1 (subst (λ (n : ℕ). among n (stopsBy framing) ≡ true) z (w .listed))),
   (λ n e. omega (arith, w .left, e)),
 )
-stops-apart (osc-encode frame table count source out) told more w = absurd w
-stops-apart (osc-encode-string text out) told more w = absurd w
-stops-apart (osc-pad pos) told more w = absurd w
-stops-apart (osc-look table index) told more w = absurd w
-stops-apart (osc-start table bytes index) told more w = absurd w
+
+-- a step that a refused frame ends is told as no answer, beside which there is no refusal's number, and as no refusal, whose number it does
+-- not have
+pub ends-apart : EndsApart
+ends-apart bytes table limit told more w = (
+  (λ k. let z : frameIn more ≡ 0 = omega arith in
+      none-zero (TcpVec Standard) .1 (subst (λ (n : ℕ). among n (stopsBy (TcpVec Standard)) ≡ true) z (w .listed))),
+  (λ n h e. omega (arith, w .accepted, h, e)),
+)

@@ -2,7 +2,7 @@
 -- crates/table/proofs/Examples.antt.
 use mathlib.Core.Path.{_≡_, refl}
 use mathlib.Core.List.{List, [], _∷_, _++_}
-use Prim.Native.Nat.{ℕ, _<_}
+use Prim.Native.Nat.{ℕ, _≤_, _<_}
 use native.Mathlib.Omega.{arith}
 use lib.ListN.{getD, replicate}
 use Rattle.refusal.specs.declared.Fault.the-variants.{NotUtf8}
@@ -27,6 +27,7 @@ use Rattle.answering.specs.Limits.{decoded}
 use Rattle.edition.specs.declared.Edition.the-variants.{Rosc, Standard}
 use Rattle.framing.specs.declared.Framing.the-variants.{Udp, Tcp, TcpVec}
 use Rattle.answering.specs.declared.Decoded.the-variants as decodes
+use Rattle.portions.specs.declared.Portion.the-variants as portion
 use Rattle.strings.specs.Atomic.{oscString, oscBlob}
 use Rattle.writers.specs.Osc as osc
 use Rattle.encoder.specs.Outcome.{unframed, framedBy, prefixed, bytesOutcome, treeOutcome, malformed, formed, stringOutcome}
@@ -34,12 +35,13 @@ use Rattle.encoder.specs.declared.Encoded.{Encoded}
 use Rattle.encoder.specs.declared.Encoded.the-variants as encodes
 use Rattle.decoder.proofs.Only.{decodes-met}
 use Rattle.table.proofs.Examples as p3
-use Rattle.osc.specs.Answers.{Fits, Parts, EncodedParts}
-use Rattle.osc.specs.Boundary.{osc-decode, osc-encode, osc-encode-string, osc-pad, osc-look, osc-start, CMeets, cRefused, CAnswered}
-use Rattle.osc.specs.Boundary.{CStopped, CEnds, ReadBack}
-use Rattle.osc.proofs.Apart.{decoded-apart, told-apart, string-told-apart}
-use Rattle.osc.proofs.Boundary.{ends-listed, refusals-apart, stops-apart}
+use Rattle.osc.specs.Answers.{Fits, Parts, EncodedParts, PortionFits, PortionParts}
+use Rattle.osc.specs.Boundary.{osc-decode, osc-read-portion, osc-encode, osc-encode-string, osc-pad, osc-look, osc-start, CMeets}
+use Rattle.osc.specs.Boundary.{cRefused, CAnswered, CStopped, CEnds, ReadBack, StepBack}
+use Rattle.osc.proofs.Apart.{decoded-apart, portion-apart, told-apart, string-told-apart}
+use Rattle.osc.proofs.Boundary.{ends-listed, refusals-apart, stops-apart, ends-apart}
 use Rattle.osc.proofs.Once.{decoded-once, decoded-alone, refusal-told, WaitingTold, tcp-none-waits, encoded-once, pad-once}
+use Rattle.osc.proofs.Once.{step-told, step-once}
 use Rattle.osc.proofs.Only.{c-settled}
 
 -- a lent buffer of n bytes
@@ -162,7 +164,7 @@ stopped : CStopped (osc-decode (TcpVec Standard) stopping (nines 21) 64) 0x100_0
 stopped = record { listed = refl; left = omega arith; from = refl; field = λ _. refl }
 
 no-refusal : (n : ℕ) → 0x100_0001_0000_0004 ≡ cRefused (osc-decode (TcpVec Standard) stopping (nines 21) 64) n → ⊥
-no-refusal = stops-apart (osc-decode (TcpVec Standard) stopping (nines 21) 64) 0x100_0001_0000_0004 0xC_0000_0000_0000 stopped .1
+no-refusal = stops-apart (TcpVec Standard) stopping (nines 21) 64 0x100_0001_0000_0004 0xC_0000_0000_0000 stopped .1
 
 once2 : (t : CMeets (osc-decode (TcpVec Standard) stopping (nines 21) 64) 0x100_0001_0000_0004 0xC_0000_0000_0000 one-record)
     → t .answer ≡ decodes.Stopped 1 4 0 TooLong 12
@@ -189,6 +191,72 @@ read-stop = refusal-told (TcpVec Standard) stopping (nines 21) 64 0x100_0001_000
 
 read-refusal : ReadBack (full .answer) 0xA00_0000_0000_0000 0
 read-refusal = refusal-told (TcpVec Standard) stopping [] 64 0xA00_0000_0000_0000 0 [] (omega arith) full
+
+-- ---- the step over a stream
+
+-- a message of one record, and the first bytes of what comes next
+abbrev unfinished : List ℕ
+unfinished = 0 ∷ 0 ∷ 0 ∷ 8 ∷ 0x2F ∷ 0x61 ∷ 0 ∷ 0 ∷ 0x2C ∷ 0 ∷ 0 ∷ 0 ∷ 0 ∷ 0 ∷ 0 ∷ []
+
+-- 1 record, and 12 bytes used: three are to be kept
+reads : CMeets (osc-read-portion unfinished (nines 21) 64) 0x1_0000_000C 0 one-record
+unfolding size depth number bytes readText readTags startOf lengthOf readMessage packetBy packetAt readPacket cutFrame tcpVec2 framesAt
+    decoded stored recordsOf recordOf keptPadding packetsPadding
+reads = record { answer = _; steps = record { answers = refl; leaves = refl }; number = refl; beside = refl }
+
+-- the same before the length of a frame that is too long, which ends the stream: 1 stands beside it
+ends-stream : CMeets (osc-read-portion stopping (nines 21) 64) 0x1_0000_000C 0x1_0000_0000_0000 one-record
+unfolding size depth number bytes readText readTags startOf lengthOf readMessage packetBy packetAt readPacket cutFrame tcpVec2 framesAt
+    decoded stored recordsOf recordOf keptPadding packetsPadding
+ends-stream = record { answer = _; steps = record { answers = refl; leaves = refl }; number = refl; beside = refl }
+
+-- every number at once: 1 record with 2 bytes of dirty padding, 12 bytes used, and 17 for the address at 16 of the frame after them
+ends-short : CMeets (osc-read-portion
+    (0 ∷ 0 ∷ 0 ∷ 8 ∷ 0x2F ∷ 0x61 ∷ 0 ∷ 1 ∷ 0x2C ∷ 0 ∷ 0 ∷ 1 ∷ 0 ∷ 0 ∷ 0 ∷ 4 ∷ 0x2F ∷ 0x61 ∷ 0x62 ∷ 0x63 ∷ []) (nines 21) 64)
+    0x1_0000_000C 0x11_0010_0000_0002 one-record
+unfolding size depth number bytes readText readTags startOf lengthOf readMessage packetBy packetAt readPacket cutFrame tcpVec2 framesAt
+    decoded stored recordsOf recordOf keptPadding packetsPadding
+ends-short = record { answer = _; steps = record { answers = refl; leaves = refl }; number = refl; beside = refl }
+
+-- without room for the record the call is refused, with 10
+no-room : CMeets (osc-read-portion stopping [] 64) 0xA00_0000_0000_0000 0 []
+unfolding size depth number bytes readText readTags startOf lengthOf readMessage packetBy packetAt readPacket cutFrame tcpVec2 framesAt
+    decoded keptPadding packetsPadding
+no-room = record { answer = _; steps = record { answers = refl; leaves = refl }; number = refl; beside = refl }
+
+-- the hypotheses of `ends-listed`, `ends-apart`, `step-told`, `step-once`, `portion-apart` and `c-settled` of steps
+ends3 : CEnds (osc-read-portion stopping (nines 21) 64) 0x1_0000_000C 0x1_0000_0000_0000 one-record
+ends3 = ends-listed _ _ _ _ ends-stream
+
+stopped3 : CStopped (osc-read-portion stopping (nines 21) 64) 0x1_0000_000C 0x1_0000_0000_0000
+stopped3 = record { listed = refl; accepted = omega arith; used = omega arith; field = λ _. refl }
+
+no-refusal3 : (n : ℕ) → 1 ≤ n → 0x1_0000_000C ≡ cRefused (osc-read-portion stopping (nines 21) 64) n → ⊥
+no-refusal3 = ends-apart stopping (nines 21) 64 0x1_0000_000C 0x1_0000_0000_0000 stopped3 .1
+
+read-step : StepBack (reads .answer) 0x1_0000_000C 0
+read-step = step-told unfinished (nines 21) 64 0x1_0000_000C 0 one-record reads
+
+read-end : StepBack (ends-stream .answer) 0x1_0000_000C 0x1_0000_0000_0000
+read-end = step-told stopping (nines 21) 64 0x1_0000_000C 0x1_0000_0000_0000 one-record ends-stream
+
+read-no-room : StepBack (no-room .answer) 0xA00_0000_0000_0000 0
+read-no-room = step-told stopping [] 64 0xA00_0000_0000_0000 0 [] no-room
+
+once3 : (t : CMeets (osc-read-portion stopping (nines 21) 64) 0x1_0000_000C 0x1_0000_0000_0000 one-record)
+    → t .answer ≡ portion.Ended 1 12 0 TooLong
+unfolding ends-stream
+once3 t =
+    step-once stopping stopping (nines 21) (nines 21) 64 64 0x1_0000_000C 0x1_0000_0000_0000 one-record one-record t ends-stream
+
+apart3 : PortionParts (portion.Ended 1 12 0 TooLong) 0x1_0000_000C 0x1_0000_0000_0000
+apart3 =
+    let f : PortionFits (portion.Ended 1 12 0 TooLong) = (omega arith, omega arith, omega arith, omega arith) in
+    portion-apart (portion.Ended 1 12 0 TooLong) f
+
+reads-only : (told more : ℕ) (after : List ℕ) → CMeets (osc-read-portion unfinished (nines 21) 64) told more after
+    → (told ≡ 0x1_0000_000C) × (more ≡ 0) × (after ≡ one-record)
+reads-only told more after m = c-settled (osc-read-portion unfinished (nines 21) 64) told 0x1_0000_000C more 0 after _ m reads
 
 -- ---- encoders
 

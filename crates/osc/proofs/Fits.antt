@@ -1,5 +1,6 @@
 -- What a decoder answers fits the bits that it has at the boundary, since a tree takes at least as many bytes as it has nodes, a node has
--- at most 6 bytes of padding, a field that was short begins in the input or right after it, and a frame at which a list stops in it.
+-- at most 6 bytes of padding, a field that was short begins in the input or right after it, and a frame at which a list stops in it. So
+-- does what a step answers, whose used bytes are of the input.
 use mathlib.Core.Path.{_≡_, sym, subst}
 use mathlib.Core.List.{List}
 use Prim.Native.Nat.{ℕ, _≤_}
@@ -9,15 +10,20 @@ use Rattle.wire.specs.Limits.{longest}
 use Rattle.argument.proofs.Pads.{dirty-few}
 use Rattle.argument.specs.Dirt.{dirtyIn}
 use Rattle.node.specs.Forest.{size}
+use Rattle.node.specs.Records.{capacity}
+use Rattle.edition.specs.declared.Edition.the-variants.{Standard}
 use Rattle.framing.specs.Framing.{Whole, trees, waiting, refusal, stopped, ruleOf}
 use Rattle.framing.specs.declared.Framing.{Framing}
+use Rattle.framing.specs.declared.Framing.the-variants.{TcpVec}
 use Rattle.answering.specs.Limits.{limited, decoded}
 use Rattle.answering.specs.declared.Decoded.{Decoded}
-use Rattle.answering.specs.declared.Decoded.the-variants.{Stopped}
+use Rattle.answering.specs.declared.Decoded.the-variants.{Packets, Waiting, Refused, Stopped}
 use Rattle.decoder.proofs.Chosen.{by-decoded, by-trees, by-bounded}
 use Rattle.decoder.proofs.Sizes.{WholeIn, whole-in}
 use Rattle.decoder.proofs.Offsets.{WholeLow, whole-low}
-use Rattle.osc.specs.Answers.{Fits}
+use Rattle.portions.specs.Portions.{portionOf, stepOf}
+use Rattle.portions.specs.declared.Portion.{Portion}
+use Rattle.osc.specs.Answers.{Fits, PortionFits}
 
 module _ (capacity limit : ℕ) where
   limited-fits : (n : ℕ) (msg : List ℕ) (w : Whole) → n ≤ longest → WholeIn n w → WholeLow n w → Fits n (limited capacity limit msg w)
@@ -37,3 +43,21 @@ module _ (capacity limit : ℕ) where
       subst (Fits (length msg)) (sym e)
       (by-decoded (Fits (length msg)) (ruleOf framing limit) capacity limit msg (λ g. omega arith) (λ g. omega arith)
       (λ g k. limited-fits (length msg) msg (ruleOf framing limit msg) k (whole-in framing limit msg) (whole-low framing limit msg)))
+
+-- what a step says of a decoder's answer that fits
+step-fits : (n : ℕ) (d : Decoded) → n ≤ longest → Fits n d → PortionFits (portionOf n d)
+step-fits n (Packets count left dirty) h f = (f .0, omega arith, f .2)
+step-fits n Waiting h f = (omega arith, omega arith, omega arith)
+step-fits n (Refused r) h f = tt
+step-fits n (Stopped count left dirty r frame) h f = (f .0, f .4, f .2, f .3)
+
+-- what a step answers fits
+pub portion-fits : (limit : ℕ) (bytes table : List ℕ) {p : Portion} → p ≡ stepOf limit bytes table → PortionFits p
+portion-fits limit bytes table e =
+    let n = length bytes in
+    let rule = ruleOf (TcpVec Standard) limit in
+    subst PortionFits (sym e)
+    (by-decoded (λ (d : Decoded). PortionFits (portionOf n d)) rule (capacity table) limit bytes (λ g. tt) (λ g. tt)
+    (λ g k. step-fits n (limited (capacity table) limit bytes (rule bytes)) k
+    (limited-fits (capacity table) limit n bytes (rule bytes) k (whole-in (TcpVec Standard) limit bytes)
+    (whole-low (TcpVec Standard) limit bytes))))

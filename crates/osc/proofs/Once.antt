@@ -1,12 +1,14 @@
 -- A number that is told tells one answer, with what is told beside it: dirty padding, the offset of a field that was short, and that of a
 -- frame at which a list stopped. `decode_udp` and `decode_tcp` give no answer of 0 records and `decode_tcp` alone waits, so that count 0
 -- with the whole input left is Waiting there, and no packets where `decode_tcp_vec` tells it. A refusal's number is a frame's where bytes
--- are left, and the call's where none are.
+-- are left, and the call's where none are. Of a step the call's refusal stands in the number, and the frame's beside it.
 use mathlib.Core.Path.{_≡_, refl, ap, sym, subst, _∙_}
 use mathlib.Core.Bool.{true, false≢true}
 use mathlib.Core.List.{List}
+use mathlib.Core.Logic.{⊎-elim}
 use Prim.Native.Nat.{ℕ, _≤_, _<_}
 use native.Mathlib.Omega.{arith}
+use borrow.Author.Tests.{ne-eqb}
 use lib.ListN.{length}
 use Rattle.refusal.specs.Refusal.{fieldNumber, numberOf, offsetOf, faultNumber}
 use Rattle.refusal.specs.declared.Field.{Field}
@@ -20,7 +22,7 @@ use Rattle.refusal.proofs.Only.{number-tells, number-alone}
 use Rattle.wire.specs.Pad.{padded, padOf}
 use Rattle.wire.specs.declared.Padded.{Padded}
 use Rattle.wire.specs.declared.Padded.the-variants as padding
-use Rattle.wire.proofs.Choices.{by-le}
+use Rattle.wire.proofs.Choices.{by-le, is-or}
 use Rattle.node.specs.Forest.{Forest, size, depth}
 use Rattle.node.specs.Records.{capacity}
 use Rattle.node.specs.Tags.{among}
@@ -36,14 +38,17 @@ use Rattle.answering.specs.declared.Decoded.{Decoded}
 use Rattle.answering.specs.declared.Decoded.the-variants as decodes
 use Rattle.decoder.proofs.Chosen.{by-decoded, by-trees, by-bounded}
 use Rattle.decoder.proofs.Offsets.{WholeLow, whole-low}
+use Rattle.portions.specs.Portions.{portionOf}
+use Rattle.portions.specs.declared.Portion.{Portion}
+use Rattle.portions.specs.declared.Portion.the-variants as portion
 use Rattle.encoder.specs.declared.Encoded.{Encoded}
 use Rattle.encoder.specs.declared.Encoded.the-variants as encodes
 use Rattle.osc.specs.Answers.{decodedNumber, moreNumber, TellsDecoded, paddedNumber, refusalIn, countIn, lowIn, offsetIn, frameIn}
-use Rattle.osc.specs.Answers.{Parts, EncodedParts}
+use Rattle.osc.specs.Answers.{Parts, EncodedParts, portionMore, TellsPortion, PortionParts}
 use Rattle.osc.specs.Boundary.{fewest, Waits, Answerable, ToldOnce, ToldAlone, ReadBack, of-call, of-frame}
-use Rattle.osc.specs.Boundary.{RefusalTold}
-use Rattle.osc.proofs.Apart.{decoded-apart}
-use Rattle.osc.proofs.Fits.{fits}
+use Rattle.osc.specs.Boundary.{RefusalTold, StepBack, reads-on, ended-by, refused-by, StepTold, StepOnce}
+use Rattle.osc.proofs.Apart.{decoded-apart, portion-apart}
+use Rattle.osc.proofs.Fits.{fits, portion-fits}
 use Rattle.osc.proofs.Shapes.{Shallow, Shaped, shaped}
 
 -- ---- which answers a decoder gives
@@ -222,6 +227,77 @@ pub refusal-told : RefusalTold
 refusal-told framing msg table limit told more after h t =
     let x = told-parts framing msg table limit told more after t in
     read-back framing (length msg) told more (t .answer) (x .0) (x .1) h
+
+-- ---- a step
+
+-- what a step tells: its answer has the parts of the number and of what is told beside it
+step-parts : (bytes table : List ℕ) (limit told more : ℕ) (after : List ℕ) → (t : TellsPortion bytes table limit told more after)
+    → PortionParts (t .answer) told more
+step-parts bytes table limit told more after t =
+    subst (λ (m : ℕ). PortionParts (t .answer) told m) (sym (t .beside))
+    (subst (λ (x : ℕ). PortionParts (t .answer) x (portionMore (t .answer))) (sym (t .number))
+    (portion-apart (t .answer) (portion-fits limit bytes table (t .steps .answers))))
+
+step-back : (x m : ℕ) (p : Portion) → PortionParts p x m → StepBack p x m
+step-back x m (portion.Read c u y) h = reads-on (h .0) (h .5) (rw (h .1, h .2, h .4))
+step-back x m (portion.Ended c u y r) h =
+    ended-by r (h .0) (omega (arith, h .5, number-some r)) (sym (h .5)) (sym (h .3)) (rw (h .1, h .2, h .4))
+step-back x m (portion.Refused r) h = refused-by r (omega (arith, h .0, number-some r)) (h .5) (sym (h .0)) refl
+
+-- a step that reads on, one that a refused frame ends and a refused call are told apart, and every part of the answer is told
+pub step-told : StepTold
+step-told bytes table limit told more after t = step-back told more (t .answer) (step-parts bytes table limit told more after t)
+
+-- a refusal of the call is told without an offset
+abbrev CallRefused : Portion → Type 0
+CallRefused (portion.Read count used dirty) = Unit {0}
+CallRefused (portion.Ended count used dirty r) = Unit {0}
+CallRefused (portion.Refused r) = numberOf r ≤ 16
+
+-- a list of edition 2 refuses a call with 13, 1 or 10 alone
+few-refusals : (n : ℕ) → among n (orderOf (TcpVec Standard)) ≡ true → n ≤ 16
+few-refusals n e =
+    ⊎-elim (λ p. omega arith)
+    (λ p. ⊎-elim (λ q. omega arith)
+    (λ q. ⊎-elim (λ s. omega arith) (λ s. absurd (false≢true (rw (ne-eqb n 13 p, ne-eqb n 1 q, ne-eqb n 10 s) at e))) (is-or n 10))
+    (is-or n 1))
+    (is-or n 13)
+
+call-refused : (n : ℕ) (d : Decoded) → Answerable (TcpVec Standard) n d → CallRefused (portionOf n d)
+call-refused n (decodes.Packets count left dirty) a = tt
+call-refused n decodes.Waiting a = tt
+call-refused n (decodes.Refused r) a = few-refusals (numberOf r) a
+call-refused n (decodes.Stopped count left dirty r frame) a = tt
+
+steps-once : (x m : ℕ) (p q : Portion) → CallRefused p → PortionParts p x m → PortionParts q x m → p ≡ q
+steps-once x m (portion.Read c u y) (portion.Read c′ u′ y′) k h l =
+    let ec : c ≡ c′ = omega arith in
+    let eu : u ≡ u′ = omega arith in
+    let ey : y ≡ y′ = omega arith in
+    rw (ec, eu, ey)
+steps-once x m (portion.Read c u y) (portion.Ended c′ u′ y′ r) k h l = absurd (omega (arith, number-some r))
+steps-once x m (portion.Read c u y) (portion.Refused r) k h l = absurd (omega (arith, number-some r))
+steps-once x m (portion.Ended c u y r) (portion.Read c′ u′ y′) k h l = absurd (omega (arith, number-some r))
+steps-once x m (portion.Ended c u y r) (portion.Ended c′ u′ y′ r′) k h l =
+    let ec : c ≡ c′ = omega arith in
+    let eu : u ≡ u′ = omega arith in
+    let ey : y ≡ y′ = omega arith in
+    let er : r ≡ r′ = number-tells r r′ (sym (h .5) ∙ l .5) (sym (h .3) ∙ l .3) in
+    rw (ec, eu, ey, er)
+steps-once x m (portion.Ended c u y r) (portion.Refused r′) k h l = absurd (omega (arith, number-some r′))
+steps-once x m (portion.Refused r) (portion.Read c u y) k h l = absurd (omega (arith, number-some r))
+steps-once x m (portion.Refused r) (portion.Ended c u y r′) k h l = absurd (omega (arith, number-some r))
+steps-once x m (portion.Refused r) (portion.Refused r′) k h l =
+    ap (λ (i : Refusal). portion.Refused i) (number-alone r r′ (sym (h .0) ∙ l .0) k)
+
+-- a step does not tell two answers by one number and what is told beside it
+pub step-once : StepOnce
+step-once bytes bytes′ table table′ limit limit′ told more after after′ t u =
+    steps-once told more (t .answer) (u .answer)
+    (subst CallRefused (sym (t .steps .answers))
+    (call-refused (length bytes) (decoded (ruleOf (TcpVec Standard) limit) (capacity table) limit bytes)
+    (answerable (TcpVec Standard) (capacity table) limit bytes)))
+    (step-parts bytes table limit told more after t) (step-parts bytes′ table′ limit′ told more after′ u)
 
 -- ---- Waiting
 

@@ -8,8 +8,8 @@ use Rattle.wire.proofs.Only.{one-outcome}
 use Rattle.decoder.proofs.Only.{decodes-only}
 use Rattle.encoder.specs.Outcome.{Outcome}
 use Rattle.encoder.proofs.Only.{encodes-only}
-use Rattle.osc.specs.Answers.{decodedNumber, moreNumber, encodedNumber, Tells}
-use Rattle.osc.specs.Boundary.{osc-decode, osc-encode, osc-encode-string, osc-pad, osc-look, osc-start, CSettled}
+use Rattle.osc.specs.Answers.{decodedNumber, moreNumber, portionNumber, portionMore, encodedNumber, Tells}
+use Rattle.osc.specs.Boundary.{osc-decode, osc-read-portion, osc-encode, osc-encode-string, osc-pad, osc-look, osc-start, CSettled}
 
 -- one outcome of an encoder gives one number and one output
 tells-only : (Outcomes : Outcome → Type 0) → ((o p : Outcome) → Outcomes o → Outcomes p → o ≡ p) → (r s : ℕ) (out out′ : List ℕ)
@@ -23,13 +23,19 @@ parts-only : {x r s m n : ℕ} {after after′ : List ℕ} → (r ≡ x) × (m �
     → (r ≡ s) × (m ≡ n) × (after ≡ after′)
 parts-only t u = (one-outcome (t .0) (u .0), one-outcome (t .1) (u .1), one-outcome (t .2) (u .2))
 
--- no second number, nothing else beside it and no other lent bytes meet the contract of one of the twelve functions
+-- no second number, nothing else beside it and no other lent bytes meet the contract of one of the thirteen functions
 pub c-settled : CSettled
 c-settled (osc-decode framing msg table limit) r s m n after after′ t u =
     let e = decodes-only (t .decodes) (u .decodes) in (
       t .number ∙ ap (decodedNumber (length msg)) (e .0) ∙ sym (u .number),
       t .beside ∙ ap moreNumber (e .0) ∙ sym (u .beside),
       e .1,
+    )
+c-settled (osc-read-portion bytes table limit) r s m n after after′ t u =
+    let e = one-outcome (t .steps .answers) (u .steps .answers) in (
+      t .number ∙ ap portionNumber e ∙ sym (u .number),
+      t .beside ∙ ap portionMore e ∙ sym (u .beside),
+      one-outcome (t .steps .leaves) (u .steps .leaves),
     )
 c-settled (osc-encode frame table count source out) r s m n after after′ t u =
     let e = tells-only _ (encodes-only frame table count source out) r s after after′ (t .0) (u .0) in

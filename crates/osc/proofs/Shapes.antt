@@ -15,7 +15,6 @@ use Rattle.framing.specs.Framing.{first}
 use Rattle.framing.specs.Framing.{tcp, tcp2, ruleOf}
 use Rattle.framing.specs.declared.Framing.{Framing}
 use Rattle.framing.specs.declared.Framing.the-variants.{Udp, Tcp, TcpVec}
-use Rattle.edition.specs.declared.Edition.{Edition}
 use Rattle.edition.specs.declared.Edition.the-variants.{Rosc, Standard}
 use Rattle.answering.specs.Limits.{orderOf, stopsBy, waitsBy, forestOf}
 use Rattle.decoder.proofs.Numbers.{Among, rule-among}

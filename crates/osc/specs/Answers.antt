@@ -22,6 +22,9 @@ use Rattle.framing.specs.Framing.{Whole}
 use Rattle.answering.specs.Limits.{Decodes}
 use Rattle.answering.specs.declared.Decoded.{Decoded}
 use Rattle.answering.specs.declared.Decoded.the-variants as decodes
+use Rattle.portions.specs.Portions.{Steps}
+use Rattle.portions.specs.declared.Portion.{Portion}
+use Rattle.portions.specs.declared.Portion.the-variants as portion
 use Rattle.encoder.specs.Outcome.{Outcome}
 use Rattle.encoder.specs.declared.Encoded.{Encoded}
 use Rattle.encoder.specs.declared.Encoded.the-variants as encodes
@@ -61,6 +64,34 @@ pub record TellsDecoded (rule : List ℕ → Whole) (msg table : List ℕ) (dept
   pub decodes : Decodes rule msg table depth answer after
   pub number : told ≡ decodedNumber (length msg) answer
   pub beside : more ≡ moreNumber answer
+
+-- a step's answer (Ticket 14): the count in bits 32 to 55, the bytes used in bits 0 to 31, also where a refused frame ends the stream after
+-- them
+abbrev pub portionNumber : Portion → ℕ
+portionNumber (portion.Read count used dirty) = count * 0x1_0000_0000 + used
+portionNumber (portion.Ended count used dirty r) = count * 0x1_0000_0000 + used
+portionNumber (portion.Refused r) = refusalNumber r
+
+-- what is told beside it: dirty padding in bits 0 to 31, and of a refused frame the field's offset in bits 32 to 47 and its refusal's
+-- number in bits 48 to 63; the refusals of the call have no offset
+abbrev pub portionMore : Portion → ℕ
+portionMore (portion.Read count used dirty) = dirty
+portionMore (portion.Ended count used dirty r) = dirty + offsetOf r * 0x1_0000_0000 + numberOf r * 0x1_0000_0000_0000
+portionMore (portion.Refused r) = 0
+
+-- what a step's answer holds has room in those bits
+abbrev pub PortionFits : Portion → Type 0
+PortionFits (portion.Read count used dirty) = (count ≤ longest) × (used ≤ longest) × (dirty ≤ 6 * longest)
+PortionFits (portion.Ended count used dirty r) = (count ≤ longest) × (used ≤ longest) × (dirty ≤ 6 * longest) × (offsetOf r ≤ longest)
+PortionFits (portion.Refused r) = Unit {0}
+
+-- the call of `osc_read_portion`: it has an answer and leaves a table by the step's contract, and what is told, also in `more`, is that
+-- answer
+pub record TellsPortion (bytes table : List ℕ) (depth told more : ℕ) (after : List ℕ) : Type 0 where
+  pub answer : Portion
+  pub steps : Steps bytes table depth answer after
+  pub number : told ≡ portionNumber answer
+  pub beside : more ≡ portionMore answer
 
 -- an encoder's answer: the bytes written in bits 0 to 31
 abbrev pub encodedNumber : Encoded → ℕ
@@ -129,7 +160,7 @@ refusalIn x = x / 0x100_0000_0000_0000
 abbrev pub countIn : ℕ → ℕ
 countIn x = x / 0x1_0000_0000 % 0x100_0000
 
--- `osc_left`, `osc_written`, `osc_began`: bits 0 to 31
+-- `osc_left`, `osc_used`, `osc_written`, `osc_began`: bits 0 to 31
 abbrev pub lowIn : ℕ → ℕ
 lowIn x = x % 0x1_0000_0000
 
@@ -137,7 +168,7 @@ lowIn x = x % 0x1_0000_0000
 abbrev pub offsetIn : ℕ → ℕ
 offsetIn more = more / 0x1_0000_0000 % 0x1_0000
 
--- `osc_frame`, of what is told beside the number: bits 48 to 63
+-- `osc_frame`, and of a step `osc_ended`, of what is told beside the number: bits 48 to 63
 abbrev pub frameIn : ℕ → ℕ
 frameIn more = more / 0x1_0000_0000_0000
 
@@ -154,6 +185,12 @@ Parts n (decodes.Packets count left dirty) x more = HasParts x more 0 count left
 Parts n decodes.Waiting x more = HasParts x more 0 0 n 0 0 0
 Parts n (decodes.Refused r) x more = HasParts x more (numberOf r) 0 0 (offsetOf r) 0 0
 Parts n (decodes.Stopped count left dirty r frame) x more = HasParts x more (numberOf r) count left (offsetOf r) dirty frame
+
+-- what the same parts say of a step's answer: the bytes used stand for those left, and the number of a frame's refusal for its offset
+abbrev pub PortionParts : Portion → ℕ → ℕ → Type 0
+PortionParts (portion.Read count used dirty) x more = HasParts x more 0 count used 0 dirty 0
+PortionParts (portion.Ended count used dirty r) x more = HasParts x more 0 count used (offsetOf r) dirty (numberOf r)
+PortionParts (portion.Refused r) x more = HasParts x more (numberOf r) 0 0 0 0 0
 
 -- what the parts of an encoder's number say of its answer
 abbrev pub EncodedParts : Encoded → ℕ → Type 0

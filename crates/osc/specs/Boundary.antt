@@ -1,4 +1,4 @@
--- Demand 1 at the C boundary: what the twelve functions of include/osc.h tell, and what they leave of the bytes that they are lent.
+-- Demand 1 at the C boundary: what the thirteen functions of include/osc.h tell, and what they leave of the bytes that they are lent.
 use mathlib.Core.Path.{_≡_}
 use mathlib.Core.Bool.{true}
 use mathlib.Core.List.{List, [], _∷_}
@@ -10,19 +10,22 @@ use Rattle.wire.specs.Limits.{longest}
 use Rattle.node.specs.Tags.{among}
 use Rattle.framing.specs.Framing.{ruleOf}
 use Rattle.answering.specs.Limits.{orderOf, stopsBy}
-use Rattle.edition.specs.declared.Edition.the-variants.{Rosc, Standard}
+use Rattle.edition.specs.declared.Edition.the-variants.{Standard}
 use Rattle.framing.specs.declared.Framing.{Framing}
 use Rattle.framing.specs.declared.Framing.the-variants.{Udp, Tcp, TcpVec}
 use Rattle.answering.specs.declared.Decoded.{Decoded}
 use Rattle.answering.specs.declared.Decoded.the-variants as decodes
+use Rattle.portions.specs.declared.Portion.{Portion}
+use Rattle.portions.specs.declared.Portion.the-variants as portion
 use Rattle.encoder.specs.Outcome.{encodeOrder, stringOrder, Encodes, EncodesString}
-use Rattle.osc.specs.Answers.{TellsDecoded, Tells, TellsPadded, TellsLooked, TellsStarted, refusalIn, countIn, lowIn, offsetIn}
-use Rattle.osc.specs.Answers.{frameIn}
+use Rattle.osc.specs.Answers.{TellsDecoded, TellsPortion, Tells, TellsPadded, TellsLooked, TellsStarted, refusalIn, countIn, lowIn}
+use Rattle.osc.specs.Answers.{offsetIn, frameIn}
 
--- a call from C and what it is handed: the five decoders by their framing, the three encoders of packets by their frame; `osc_start`
--- tells four bytes as they stand, so that they are bytes is said
+-- a call from C and what it is handed: the five decoders by their framing, the step over a stream of edition 2, the three encoders of
+-- packets by their frame; `osc_start` tells four bytes as they stand, so that they are bytes is said
 pub data CCall : Type 0 where
   osc-decode : (framing : Framing) (msg table : List ℕ) (depth : ℕ) → CCall
+  osc-read-portion : (bytes table : List ℕ) (depth : ℕ) → CCall
   osc-encode : (frame : ℕ → List ℕ → List ℕ) (table : List ℕ) (count : ℕ) (source out : List ℕ) → CCall
   osc-encode-string : (text out : List ℕ) → CCall
   osc-pad : (pos : ℕ) → CCall
@@ -32,6 +35,7 @@ pub data CCall : Type 0 where
 -- the bytes that it is lent by `&mut`, before the call; `osc_pad`, `osc_look` and `osc_start` are lent none
 abbrev pub cLent : CCall → List ℕ
 cLent (osc-decode framing msg table depth) = table
+cLent (osc-read-portion bytes table depth) = table
 cLent (osc-encode frame table count source out) = out
 cLent (osc-encode-string text out) = out
 cLent (osc-pad pos) = []
@@ -42,6 +46,7 @@ cLent (osc-start table bytes index) = []
 -- function without `more` tells 0 there
 abbrev pub CMeets : CCall → ℕ → ℕ → List ℕ → Type 0
 CMeets (osc-decode framing msg table depth) told more after = TellsDecoded (ruleOf framing depth) msg table depth told more after
+CMeets (osc-read-portion bytes table depth) told more after = TellsPortion bytes table depth told more after
 CMeets (osc-encode frame table count source out) told more after = Tells (Encodes frame table count source out) told after × (more ≡ 0)
 CMeets (osc-encode-string text out) told more after = Tells (EncodesString text out) told after × (more ≡ 0)
 CMeets (osc-pad pos) told more after = TellsPadded pos told × (more ≡ 0) × (after ≡ [])
@@ -51,6 +56,7 @@ CMeets (osc-start table bytes index) told more after = TellsStarted table index 
 -- the refusals that documents 01 and 02 have for the call, in the order in which they are given
 abbrev pub cRefusals : CCall → List ℕ
 cRefusals (osc-decode framing msg table depth) = orderOf framing
+cRefusals (osc-read-portion bytes table depth) = orderOf (TcpVec Standard)
 cRefusals (osc-encode frame table count source out) = encodeOrder
 cRefusals (osc-encode-string text out) = stringOrder
 cRefusals (osc-pad pos) = 14 ∷ []
@@ -60,16 +66,18 @@ cRefusals (osc-start table bytes index) = 11 ∷ []
 -- how the refusal with number n is told: in bits 56 to 63, and nothing below; by `osc_pad` as it is, since a position may have those bits
 abbrev pub cRefused : CCall → ℕ → ℕ
 cRefused (osc-decode framing msg table depth) n = n * 0x100_0000_0000_0000
+cRefused (osc-read-portion bytes table depth) n = n * 0x100_0000_0000_0000
 cRefused (osc-encode frame table count source out) n = n * 0x100_0000_0000_0000
 cRefused (osc-encode-string text out) n = n * 0x100_0000_0000_0000
 cRefused (osc-pad pos) n = n
 cRefused (osc-look table index) n = n * 0x100_0000_0000_0000
 cRefused (osc-start table bytes index) n = n * 0x100_0000_0000_0000
 
--- how an answer is told: below bit 56; by an encoder up to 65,535; by `osc_pad` as a multiple of 4; by `osc_look` in the low byte; by
--- `osc_start` below bit 32
+-- how an answer is told: below bit 56; by a step with no more bytes used than it was given; by an encoder up to 65,535; by `osc_pad` as a
+-- multiple of 4; by `osc_look` in the low byte; by `osc_start` below bit 32
 abbrev pub CAnswered : CCall → ℕ → Type 0
 CAnswered (osc-decode framing msg table depth) told = told < 0x100_0000_0000_0000
+CAnswered (osc-read-portion bytes table depth) told = (told < 0x100_0000_0000_0000) × (lowIn told ≤ length bytes)
 CAnswered (osc-encode frame table count source out) told = told ≤ longest
 CAnswered (osc-encode-string text out) told = told ≤ longest
 CAnswered (osc-pad pos) told = told % 4 ≡ 0
@@ -88,9 +96,18 @@ pub record StopTold (framing : Framing) (n told more : ℕ) : Type 0 where
   pub from : frameIn more + lowIn told ≡ n
   pub field : refusalIn told ≤ 16 → offsetIn more ≡ 0
 
+-- how a step over n bytes is told that a refused frame ends: the number of the frame's refusal stands beside it, and none of the call's in
+-- it; the frame's prefix is there after the bytes used; a field's offset stands only beside 17 to 21
+pub record EndTold (n told more : ℕ) : Type 0 where
+  pub listed : among (frameIn more) (stopsBy (TcpVec Standard)) ≡ true
+  pub accepted : told < 0x100_0000_0000_0000
+  pub used : lowIn told + 4 ≤ n
+  pub field : frameIn more ≤ 16 → offsetIn more ≡ 0
+
 -- how a call is told that stops: no encoder does, nor `osc_pad`, `osc_look` and `osc_start`
 abbrev pub CStopped : CCall → ℕ → ℕ → Type 0
 CStopped (osc-decode framing msg table depth) told more = StopTold framing (length msg) told more
+CStopped (osc-read-portion bytes table depth) told more = EndTold (length bytes) told more
 CStopped (osc-encode frame table count source out) told more = ⊥
 CStopped (osc-encode-string text out) told more = ⊥
 CStopped (osc-pad pos) told more = ⊥
@@ -98,7 +115,7 @@ CStopped (osc-look table index) told more = ⊥
 CStopped (osc-start table bytes index) told more = ⊥
 
 -- how a call ends: an answer is told, and beside it nothing but dirty padding, in bits 0 to 31; or a refusal that the documents list for
--- the call, and every lent byte is as before; or a list stops at a refused frame
+-- the call, and every lent byte is as before; or a list or a step stops at a refused frame
 pub data CEnds (c : CCall) (told more : ℕ) (after : List ℕ) : Type 0 where
   told-answer : CAnswered c told → more ≡ lowIn more → CEnds c told more after
   told-refusal : (n : ℕ) → among n (cRefusals c) ≡ true → told ≡ cRefused c n → Beside n more → after ≡ cLent c → CEnds c told more after
@@ -110,7 +127,7 @@ CSettled =
     (c : CCall) (told told′ more more′ : ℕ) (after after′ : List ℕ) → CMeets c told more after → CMeets c told′ more′ after′
     → (told ≡ told′) × (more ≡ more′) × (after ≡ after′)
 
--- demand 1 for the twelve functions: whatever meets the contract ends so
+-- demand 1 for the thirteen functions: whatever meets the contract ends so
 abbrev pub EndsListed : Type 0
 EndsListed = (c : CCall) (told more : ℕ) (after : List ℕ) → CMeets c told more after → CEnds c told more after
 
@@ -118,9 +135,17 @@ EndsListed = (c : CCall) (told more : ℕ) (after : List ℕ) → CMeets c told 
 abbrev pub ToldApart : Type 0
 ToldApart = (c : CCall) (n : ℕ) → among n (cRefusals c) ≡ true → CAnswered c (cRefused c n) → ⊥
 
--- nor is a list that stops told as an answer or as a refusal is
+-- nor is a list that stops told as an answer or as a refusal is; no other decoder does
 abbrev pub StopsApart : Type 0
-StopsApart = (c : CCall) (told more : ℕ) → CStopped c told more → (CAnswered c told → ⊥) × ((n : ℕ) → told ≡ cRefused c n → ⊥)
+StopsApart =
+    (framing : Framing) (msg table : List ℕ) (depth told more : ℕ) → CStopped (osc-decode framing msg table depth) told more
+    → (CAnswered (osc-decode framing msg table depth) told → ⊥) × ((n : ℕ) → told ≡ cRefused (osc-decode framing msg table depth) n → ⊥)
+
+-- nor is a step that a refused frame ends: beside an answer stands no number of a refusal, and none of the call's stands in it
+abbrev pub EndsApart : Type 0
+EndsApart =
+    (bytes table : List ℕ) (depth told more : ℕ) → CStopped (osc-read-portion bytes table depth) told more
+    → (more ≡ lowIn more → ⊥) × ((n : ℕ) → 1 ≤ n → told ≡ cRefused (osc-read-portion bytes table depth) n → ⊥)
 
 -- ---- which answer a decoder's number tells
 
@@ -181,3 +206,28 @@ abbrev pub RefusalTold : Type 0
 RefusalTold =
     (framing : Framing) (msg table : List ℕ) (depth told more : ℕ) (after : List ℕ) → 1 ≤ refusalIn told
     → (t : TellsDecoded (ruleOf framing depth) msg table depth told more after) → ReadBack (t .answer) told more
+
+-- ---- which answer a step tells: one that reads on, one that a refused frame ends and a refused call are told apart
+
+-- a step's answer, read back from both numbers: `osc_refusal` is not 0 exactly if the call is refused, and `osc_ended` is not 0 exactly if
+-- a frame is
+pub data StepBack (answer : Portion) (told more : ℕ) : Type 0 where
+  reads-on : refusalIn told ≡ 0 → frameIn more ≡ 0 → answer ≡ portion.Read (countIn told) (lowIn told) (lowIn more)
+      → StepBack answer told more
+  ended-by : (r : Refusal) → refusalIn told ≡ 0 → 1 ≤ frameIn more → numberOf r ≡ frameIn more → offsetOf r ≡ offsetIn more
+      → answer ≡ portion.Ended (countIn told) (lowIn told) (lowIn more) r → StepBack answer told more
+  refused-by : (r : Refusal) → 1 ≤ refusalIn told → frameIn more ≡ 0 → numberOf r ≡ refusalIn told → answer ≡ portion.Refused r
+      → StepBack answer told more
+
+-- so is every answer of a step
+abbrev pub StepTold : Type 0
+StepTold =
+    (bytes table : List ℕ) (depth told more : ℕ) (after : List ℕ) → (t : TellsPortion bytes table depth told more after)
+    → StepBack (t .answer) told more
+
+-- and a step does not tell two answers by one number and what is told beside it
+abbrev pub StepOnce : Type 0
+StepOnce =
+    (bytes bytes′ table table′ : List ℕ) (depth depth′ told more : ℕ) (after after′ : List ℕ)
+    → (t : TellsPortion bytes table depth told more after) → (t′ : TellsPortion bytes′ table′ depth′ told more after′)
+    → t .answer ≡ t′ .answer

@@ -4,6 +4,7 @@ use decoder::Edition;
 use decoder::Framing;
 use encoder::Encoded;
 use node::record;
+use portions::Portion;
 use refusal::Refusal;
 use values::look::Looked;
 use values::look::Started;
@@ -14,6 +15,7 @@ ghost use Rattle.framing.specs.Framing.{udp, tcp, tcpVec, tcp2, tcpVec2, ruleOf
 ghost use Rattle.encoder.specs.Outcome.{unframed, prefixed, framedBy, Encodes, EncodesString};
 ghost use Rattle.osc.specs.Answers.{refusalNumber, decodedNumber, moreNumber, Fits, TellsDecoded, encodedNumber, Tells};
 ghost use Rattle.osc.specs.Answers.{TellsPadded, TellsLooked, TellsStarted};
+ghost use Rattle.osc.specs.Answers.{portionNumber, portionMore, PortionFits, TellsPortion};
 
 // A refusal's number, in bits 56 to 63.
 fn refusal_number(refusal: Refusal) -> u64
@@ -155,6 +157,73 @@ pub extern "C" fn osc_decode_tcp_vec2(
         ⌜ TellsDecoded (tcpVec2 depth) (now (msg .entry)) (now (table .entry)) depth r (now (more .exit)) (now (table .exit)) ⌝ }
 {
     decode(Framing::TcpVec(Edition::Standard), msg, table, depth, more)
+}
+
+// The answer of a step over a stream.
+fn portion_number(portion: Portion) -> u64
+    requires { ⌜ PortionFits portion ⌝ }
+    ensures { λ r. ⌜ r ≡ portionNumber portion ⌝ }
+{
+    match portion {
+        Portion::Read {
+            count,
+            used,
+            dirty: _,
+        } => count as u64 * 0x1_0000_0000 + used as u64,
+        Portion::Ended {
+            count,
+            used,
+            dirty: _,
+            refusal: _,
+        } => count as u64 * 0x1_0000_0000 + used as u64,
+        Portion::Refused(refusal) => refusal_number(refusal),
+    }
+}
+
+// What a step tells beside it: dirty padding in bits 0 to 31; of a frame that is refused the offset of a field that was short in bits 32 to
+// 47, and the refusal's number in bits 48 to 63.
+fn portion_more(portion: Portion) -> u64
+    requires { ⌜ PortionFits portion ⌝ }
+    ensures { λ r. ⌜ r ≡ portionMore portion ⌝ }
+{
+    match portion {
+        Portion::Read {
+            count: _,
+            used: _,
+            dirty,
+        } => dirty as u64,
+        Portion::Ended {
+            count: _,
+            used: _,
+            dirty,
+            refusal,
+        } => {
+            let field = refusal::offset_of(refusal) as u64;
+            let number = refusal::number_of(refusal) as u64;
+            dirty as u64 + field * 0x1_0000_0000 + number * 0x1_0000_0000_0000
+        }
+        Portion::Refused(_) => 0,
+    }
+}
+
+// A step over a stream of edition 2 that comes in portions: `bytes` are what was kept of it and what came after that. The count in bits 32
+// to 55, and in bits 0 to 31 the bytes that were used: those from there on are to be kept; or the number of the call's refusal in bits
+// 56 to 63. `more` has the dirty padding, and where the frame after the used bytes is refused, which ends the stream, the field's offset in
+// bits 32 to 47 and the refusal's number in bits 48 to 63.
+//
+// Ruled out: the bytes of a frame that is not all there told as used; a frame's refusal told as the call's.
+#[no_mangle]
+pub extern "C" fn osc_read_portion(
+    bytes: &[u8],
+    table: &mut [u8],
+    depth: u64,
+    more: &mut u64,
+) -> u64
+    ensures { λ r. ⌜ TellsPortion (now (bytes .entry)) (now (table .entry)) depth r (now (more .exit)) (now (table .exit)) ⌝ }
+{
+    let portion = portions::read_portion(bytes, table, depth as usize);
+    *more = portion_more(portion);
+    portion_number(portion)
 }
 
 // `encode`: the bytes written in bits 0 to 31, or the refusal's number in bits 56 to 63.

@@ -19,7 +19,9 @@ use Rattle.osc10.proofs.Parts.{atom-even, AtomRead, atom-read}
 use Rattle.osc10.proofs.Tags.{classIs, atom-sort}
 
 -- ---- one forest after another
-unfoldable join : Forest → Forest → Forest
+
+-- trees side by side: the nodes of the first forest, and then those of the second
+unfoldable pub join : Forest → Forest → Forest
 join nil g = g
 join (node item f rest) g = node item f (join rest g)
 
@@ -28,7 +30,8 @@ unfolding join snoc
 join-snoc nil g item i = refl
 join-snoc (node item' i' r) g item i = ap (node item' i') (join-snoc r g item i)
 
-join-end : (f : Forest) → join f nil ≡ f
+-- no trees after others change nothing
+pub join-end : (f : Forest) → join f nil ≡ f
 unfolding join
 join-end nil = refl
 join-end (node item i r) = ap (node item i) (join-end r)

@@ -10,6 +10,9 @@
 //! bytes left over from its prefix on, at least 4, and as more the padding bytes of those packets, where a field began and, in bits
 //! 48 to 63, the offset of the frame's prefix. Of a call that is refused count and bytes left are 0, and that tells the two apart.
 //!
+//! A step over a stream has in bits 0 to 31 of its answer the bytes that were used, and in bits 56 to 63 only a refusal of the call. As
+//! more it has the number of a refused frame's refusal in bits 48 to 63: that frame stands right after the used bytes.
+//!
 //! The functions of the crate's root take these answers apart and are what a program should call.
 #![allow(unsafe_code)]
 
@@ -54,6 +57,14 @@ mod c {
         ) -> u64;
         pub fn osc_decode_tcp_vec2(
             msg: *const u8,
+            len: usize,
+            table: *mut u8,
+            table_len: usize,
+            depth: u64,
+            more: *mut u64,
+        ) -> u64;
+        pub fn osc_read_portion(
+            bytes: *const u8,
             len: usize,
             table: *mut u8,
             table_len: usize,
@@ -126,6 +137,11 @@ pub fn decode_tcp_vec2(msg: &[u8], table: &mut [u8], depth: u64, more: &mut u64)
     unsafe { c::osc_decode_tcp_vec2(msg.as_ptr(), msg.len(), table.as_mut_ptr(), table.len(), depth, more) }
 }
 
+/// `osc_read_portion`: the packets of the whole frames among `bytes`, which were kept of a TCP stream and came after that, by edition 2.
+pub fn read_portion(bytes: &[u8], table: &mut [u8], depth: u64, more: &mut u64) -> u64 {
+    unsafe { c::osc_read_portion(bytes.as_ptr(), bytes.len(), table.as_mut_ptr(), table.len(), depth, more) }
+}
+
 /// `osc_encode`: the packet of `count` records.
 pub fn encode(table: &[u8], count: u64, source: &[u8], out: &mut [u8]) -> u64 {
     unsafe { c::osc_encode(table.as_ptr(), table.len(), count, source.as_ptr(), source.len(), out.as_mut_ptr(), out.len()) }
@@ -190,7 +206,7 @@ pub(crate) struct Stop {
 
 /// The records of well-formed trees, one after another, and the bytes that their ranges lie in.
 ///
-/// The two constructors are the only ones: each asks the library, and its contract is what `value` rests on. Nothing can write
+/// The three constructors are the only ones: each asks the library, and its contract is what `value` rests on. Nothing can write
 /// to the slices while this value lives.
 #[derive(Clone, Copy)]
 pub(crate) struct Nodes<'a> {
@@ -219,6 +235,19 @@ impl<'a> Nodes<'a> {
         };
         let nodes = Nodes { records: &table.as_chunks().0[..count], source: msg };
         Ok(Given { nodes, left, dirty: more as u32 as usize, stopped })
+    }
+
+    /// What a step over a stream gives.
+    pub fn portion(bytes: &'a [u8], table: &'a mut [u8], depth: u64) -> Result<Given<'a>, Refusal> {
+        let mut more = 0;
+        let answer = Refusal::settle(read_portion(bytes, table, depth, &mut more), 0)?;
+        let (count, used) = ((answer >> 32) as usize, answer as u32 as usize);
+        let stopped = match (more >> 48) as u8 {
+            0 => None,
+            number => Some(Stop { refusal: Refusal::of(number, (more >> 32) as u16 as u32), frame: used }),
+        };
+        let nodes = Nodes { records: &table.as_chunks().0[..count], source: bytes };
+        Ok(Given { nodes, left: bytes.len() - used, dirty: more as u32 as usize, stopped })
     }
 
     /// A table from anywhere, if it is well formed. The encoder's first test is that, and 11 is given for nothing else; with no

@@ -1,14 +1,16 @@
 //! Open Sound Control for the recorder: safe Rust over the proved static library.
 //!
 //! A packet is read into a table that the caller lends, and a table is written back into bytes that the caller lends. Nothing
-//! is allocated, and nothing is kept from one call to the next. Every call ends in an answer or in one of document 01's
-//! numbered [`Refusal`]s, which changes no lent byte.
+//! is allocated, and only a [`StreamReader`] keeps anything from one call to the next. Every call ends in an answer or in one of
+//! document 01's numbered [`Refusal`]s, which changes no lent byte.
 //!
 //! - [`decode_udp`], [`decode_tcp`] and [`decode_tcp_vec`] read. They give a [`Packet`] or [`Packets`], whose [`Record`]s
 //!   are read as typed [`Value`]s: texts are `&str` and blobs `&[u8]`, both parts of the input. [`Record::start`] and
 //!   [`Record::data`] say where in the input each stood, and [`Packet::dirty`] how many bytes of padding were not zero.
 //! - [`Edition`] says how a TCP stream is cut: take [`Edition::Standard`], in which the length cuts the packet, unless the other end
 //!   or the program itself is one over rosc.
+//! - [`StreamReader`] reads a TCP stream that comes in portions, cut anywhere: it gives the packets of the whole frames, and keeps the
+//!   rest until more has come.
 //! - [`Builder`] makes a [`Table`] from values. [`Table::check`] reads a table from anywhere.
 //! - [`encode`], [`encode_tcp`] and [`encode_string`] write.
 //! - `rosc_compat` (feature `std`, which is on by default) has the types and signatures of the crate rosc 0.11.4.
@@ -47,6 +49,7 @@ mod limits;
 mod refusal;
 #[cfg(feature = "std")]
 pub mod rosc_compat;
+mod stream;
 mod table;
 mod value;
 
@@ -56,5 +59,6 @@ pub use edition::Edition;
 pub use encode::{encode, encode_string, encode_tcp, pad};
 pub use limits::{DEEPEST, LONGEST, MOST, RECORD};
 pub use refusal::{Field, Refusal};
+pub use stream::{Ended, Portion, StreamReader};
 pub use table::{look, start_of, Packet, Packets, Record, Records, Siblings, Table};
 pub use value::{Color, Midi, Time, Value};

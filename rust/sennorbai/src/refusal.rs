@@ -3,7 +3,8 @@
 use core::fmt;
 
 /// A refusal of document 01 and its tickets. It changes no byte of what was lent. That of a frame which ends a list of edition 2
-/// stands beside the packets before the frame, in [`DecodedList::Stopped`](crate::DecodedList::Stopped).
+/// stands beside the packets before the frame, in [`DecodedList::Stopped`](crate::DecodedList::Stopped) or, of a stream that is read in
+/// portions, in [`Ended`](crate::Ended).
 ///
 /// Where a field was short, it says which and where that field began. There is no refusal 3: 17 to 21 stand in its place.
 ///
@@ -190,22 +191,26 @@ impl Refusal {
         }
     }
 
-    /// The refusal of a number that the library gives.
-    fn of(number: u8, at: u32) -> Refusal {
+    /// The refusal of a number that the library gives; `at` is where a field began that was short.
+    pub(crate) fn of(number: u8, at: u32) -> Refusal {
         match Refusal::ALL.into_iter().find(|refusal| refusal.number() == number) {
             Some(Refusal::Short { field, .. }) => Refusal::Short { field, at },
             Some(refusal) => refusal,
             None => unreachable!("the library gives no refusal {number}"),
         }
     }
+
+    /// Writes its number and what was short, with the offset of that field.
+    pub(crate) fn write_at(self, f: &mut fmt::Formatter<'_>, at: u64) -> fmt::Result {
+        write!(f, "{}: {} that begins at byte {at} is not all there", self.number(), self.words())
+    }
 }
 
 impl fmt::Display for Refusal {
     fn fmt(&self, f: &mut fmt::Formatter<'_>) -> fmt::Result {
-        let (number, words) = (self.number(), self.words());
         match self.offset() {
-            Some(at) => write!(f, "{number}: {words} that begins at byte {at} is not all there"),
-            None => write!(f, "{number}: {words}"),
+            Some(at) => self.write_at(f, at as u64),
+            None => write!(f, "{}: {}", self.number(), self.words()),
         }
     }
 }

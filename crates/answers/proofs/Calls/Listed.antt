@@ -17,16 +17,20 @@ use Rattle.values.specs.declared.look.Looked.{Looked}
 use Rattle.values.specs.declared.look.Started.{Started}
 use Rattle.wire.specs.declared.Padded.{Padded}
 use Rattle.argument.specs.Dirt.{dirtyIn}
-use Rattle.framing.specs.Framing.{Whole, trees, waiting, refusal, stopped, ruleOf}
+use Rattle.edition.specs.declared.Edition.the-variants.{Standard}
+use Rattle.framing.specs.Framing.{Whole, trees, waiting, refusal, stopped, tcpVec2, ruleOf}
 use Rattle.framing.specs.declared.Framing.{Framing}
+use Rattle.framing.specs.declared.Framing.the-variants.{TcpVec}
 use Rattle.answering.specs.Limits.{orderOf, stopsBy, limited, decoded, forestOf}
 use Rattle.answering.specs.declared.Decoded.{Decoded}
-use Rattle.answering.specs.declared.Decoded.the-variants.{Packets, Stopped}
+use Rattle.answering.specs.declared.Decoded.the-variants.{Packets, Waiting, Refused, Stopped}
+use Rattle.portions.specs.Portions.{portionOf}
+use Rattle.portions.specs.declared.Portion.{Portion}
 use Rattle.strings.specs.Atomic.{oscString}
 use Rattle.writers.specs.Osc.{writePacket}
 use Rattle.encoder.specs.Outcome.{encodeOrder, Outcome, bytesOutcome, treeOutcome, Encodes, malformed, formed, stringOutcome}
-use Rattle.answers.specs.Calls.{decode, encode, encode-tcp, encode-string, pad, look, start-of, text-of, byDecoded, byEncoded}
-use Rattle.answers.specs.Calls.{byPadded, byLooked, byStarted, numbersOf, mayWait, Listed, AnswersListed}
+use Rattle.answers.specs.Calls.{decode, read-portion, encode, encode-tcp, encode-string, pad, look, start-of, text-of, byDecoded}
+use Rattle.answers.specs.Calls.{byPortion, byEncoded, byPadded, byLooked, byStarted, numbersOf, mayWait, Listed, AnswersListed}
 use Rattle.wire.proofs.Choices.{by-test, by-le}
 use Rattle.decoder.proofs.Chosen.{by-decoded, by-bounded}
 use Rattle.decoder.proofs.Numbers.{Among, rule-among, nine, limits}
@@ -55,6 +59,18 @@ decoded-listed framing capacity limit msg table e =
     (by-decoded (Decoding b framing) (ruleOf framing limit) capacity limit msg (λ g. limits framing .0) (λ g. limits framing .1)
     (λ g k. limited-listed b framing capacity limit msg (ruleOf framing limit msg) (rule-among framing limit msg)
     (nine framing limit msg)))
+
+-- ---- a step over a stream
+
+-- a step's answer
+abbrev Stepping : Portion → Type 0
+Stepping r = Listed (orderOf (TcpVec Standard)) false (stopsBy (TcpVec Standard)) (byPortion r)
+
+portion-listed : (r : Decoded) (n : ℕ) → Decoding false (TcpVec Standard) r → Stepping (portionOf n r)
+portion-listed (Packets count left dirty) n h = tt
+portion-listed (Stopped count left dirty k at) n h = h
+portion-listed Waiting n h = tt
+portion-listed (Refused k) n h = h
 
 -- ---- encoders
 
@@ -112,6 +128,10 @@ start-listed t i = by-test (Starting t i) (ltb i (capacity t)) (λ h. tt) (λ h.
 -- packets before a refused frame, whose refusal they list
 pub listed : AnswersListed
 listed (decode framing msg table limit) e m = decoded-listed framing _ limit msg table (m .answered)
+listed (read-portion bytes table limit) e m =
+    let r = decoded (tcpVec2 limit) (capacity table) limit bytes in
+    subst Stepping (sym (m .answers))
+    (portion-listed r (length bytes) (decoded-listed (TcpVec Standard) (capacity table) limit bytes table refl))
 listed (encode table count source out) e m = encodes-listed m
 listed (encode-tcp edition table count source out) e m = encodes-listed m
 listed (encode-string text out) e m = subst (Encoding (numbersOf (encode-string text out))) (sym m) (string-listed text out)

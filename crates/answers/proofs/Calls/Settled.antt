@@ -8,16 +8,18 @@ use Rattle.wire.specs.Pad.{padOf}
 use Rattle.values.specs.Look.{lookAt, startedAt, textNamed}
 use Rattle.wire.specs.Limits.{longest, deepest}
 use Rattle.node.specs.Forest.{Forest, nil, node, depth}
-use Rattle.framing.specs.Framing.{ruleOf}
+use Rattle.framing.specs.Framing.{tcpVec2, ruleOf}
 use Rattle.answering.specs.Limits.{forestOf, tabled}
 use Rattle.answering.specs.declared.Decoded.{Decoded}
 use Rattle.answering.specs.declared.Decoded.the-variants.{Packets, Waiting, Refused, Stopped}
+use Rattle.portions.specs.Portions.{portionOf, stepOf, tableBy}
+use Rattle.portions.specs.declared.Portion.{Portion}
 use Rattle.writers.specs.Osc.{writePacket}
 use Rattle.encoder.specs.Outcome.{Outcome, bytesOutcome, treeOutcome, Encodes, malformed, formed, unframed, framedBy}
 use Rattle.encoder.specs.Outcome.{stringOutcome}
 use Rattle.strings.specs.Atomic.{oscString}
-use Rattle.answers.specs.Calls.{Call, decode, encode, encode-tcp, encode-string, pad, look, start-of, text-of, Ending, Answer, Lent}
-use Rattle.answers.specs.Calls.{byDecoded, byEncoded, Fruitless, Settled, Met, NothingChanged}
+use Rattle.answers.specs.Calls.{Call, decode, read-portion, encode, encode-tcp, encode-string, pad, look, start-of, text-of, Ending}
+use Rattle.answers.specs.Calls.{Answer, Lent, byDecoded, byPortion, byEncoded, Fruitless, Settled, Met, NothingChanged}
 use Rattle.answers.specs.Demands.{answerTo, tableAfter}
 use Rattle.wire.proofs.Choices.{by-test, by-le}
 use Rattle.table.proofs.Theorem.{formed-tree}
@@ -36,6 +38,7 @@ outcome-one e = (ap (λ (o : Outcome). o .answer) e, ap (λ (o : Outcome). o .ou
 -- no two endings of a call meet its contract
 pub settled : Settled
 settled (decode framing msg table limit) e e' m m' = let x = decodes-only m m' in ending (x .0) (x .1)
+settled (read-portion bytes table limit) e e' m m' = ending (m .answers ∙ sym (m' .answers)) (m .leaves ∙ sym (m' .leaves))
 settled (encode table count source out) e e' m m' =
     let x = outcome-one (encodes-only unframed _ _ _ _ _ _ m m') in ending (x .0) (x .1)
 settled (encode-tcp edition table count source out) e e' m m' =
@@ -58,6 +61,8 @@ pub met : Met
 met (decode framing msg table limit) n =
     n (record { answer = answerTo (ruleOf framing limit) limit msg table; lent = tableAfter (ruleOf framing limit) limit msg table })
     decodes-met
+met (read-portion bytes table limit) n =
+    n (record { answer = stepOf limit bytes table; lent = tableBy limit bytes table }) (record { answers = refl; leaves = refl })
 met (encode table count source out) n =
     encodes-met unframed table count source out (λ r m. n (record { answer = r .answer; lent = r .out }) m)
 met (encode-tcp edition table count source out) n =
@@ -75,6 +80,13 @@ decoded-same (Packets count left dirty) f table n = absurd n
 decoded-same (Stopped count left dirty k at) f table n = absurd n
 decoded-same Waiting f table n = refl
 decoded-same (Refused k) f table n = refl
+
+-- a step that gives no packets leaves the table as it was
+portion-same : (r : Decoded) (m : ℕ) (f : Forest) (table : List ℕ) → Fruitless (byPortion (portionOf m r)) → tabled r f table ≡ table
+portion-same (Packets count left dirty) m f table n = absurd n
+portion-same (Stopped count left dirty k at) m f table n = absurd n
+portion-same Waiting m f table n = absurd n
+portion-same (Refused k) m f table n = refl
 
 -- an outcome of an encoder that gives no result leaves the output as it was
 abbrev Same : List ℕ → Outcome → Type 0
@@ -103,6 +115,9 @@ string-same text out = by-test (Same out) (utf8 text) (λ h. write-same (oscStri
 -- an ending without a result leaves every lent byte as it was
 pub nothing-changed : NothingChanged
 nothing-changed (decode framing msg table limit) e m n = m .left ∙ decoded-same (e .answer) (forestOf (ruleOf framing limit msg)) table n
+nothing-changed (read-portion bytes table limit) e m n =
+    m .leaves ∙ portion-same (answerTo (tcpVec2 limit) limit bytes table) (length bytes) (forestOf (tcpVec2 limit bytes)) table
+    (subst (λ (r : Portion). Fruitless (byPortion r)) (m .answers) n)
 nothing-changed (encode table count source out) e m n = encodes-same m n
 nothing-changed (encode-tcp edition table count source out) e m n = encodes-same m n
 nothing-changed (encode-string text out) e m n = subst (Same out) (sym m) (string-same text out) n

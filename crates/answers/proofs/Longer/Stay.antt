@@ -1,49 +1,41 @@
 -- Demand 3 in edition 2: bytes appended and limits no lower leave every packet that was given at its place (Ticket 1).
 use mathlib.Core.Path.{_≡_, refl, ap, sym, subst, _∙_}
-use mathlib.Core.Bool.{cond}
 use mathlib.Core.Logic.{⊎-elim}
-use mathlib.Core.List.{List, [], _∷_, _++_}
-use Prim.Native.Nat.{ℕ, zero, suc, _+_, _-_, _*_, _%_, _≤_, _<_}
+use mathlib.Core.List.{List, _++_}
+use Prim.Native.Nat.{ℕ, zero, suc, _+_, _*_, _≤_, _<_}
 use native.Mathlib.Omega.{arith}
 use borrow.Author.Tests.{le-leb, eq-eqb}
-use lib.Dec.{eqb, leb}
 use lib.ListN.{length, take, drop, length-append, length-drop}
-use lib.Seq.{take-at, take-append-le, drop-append-le}
+use lib.Seq.{take-at, drop-append-le}
 use Rattle.edition.specs.declared.Edition.the-variants.{Standard}
-use Rattle.refusal.specs.declared.Refusal.{Refusal}
-use Rattle.wire.specs.Limits.{longestFramed}
-use Rattle.wire.specs.Number.{number}
-use Rattle.wire.proofs.Choices.{by-eq, by-le, by-test, lt-or-le}
+use Rattle.wire.proofs.Choices.{by-eq, by-le, lt-or-le}
 use Rattle.argument.specs.Dirt.{dirtyIn}
 use Rattle.node.specs.Forest.{Forest, nil, node, size, depth}
 use Rattle.node.specs.Records.{recordSize, recordsOf, capacity}
-use Rattle.node.specs.declared.record.Item.{Item}
 use Rattle.node.proofs.Recorded.{length-records}
-use Rattle.heads.specs.Heads.{lengthIn, lengthOf}
+use Rattle.heads.specs.Heads.{lengthOf}
 use Rattle.heads.specs.declared.Length.{Length}
 use Rattle.heads.specs.declared.Length.the-variants as cut
-use Rattle.heads.proofs.Heads.{CutIn, LengthIn, length-within, length-in, length-known, length-cuts}
 use Rattle.packet.specs.Packet.{Out, fault, one, after, readPacket}
 use Rattle.framing.specs.Framing.{Whole, trees, waiting, refusal, stopped, Frame, wait, read, refused, wholly, cutWith, cutFrame, first}
 use Rattle.framing.specs.Framing.{tcp2}
-use Rattle.framing.specs.Framing.{afterFrame, listed, stops, tcpVec2, ruleOf}
+use Rattle.framing.specs.Framing.{afterFrame, listed, stops, ruleOf}
 use Rattle.framing.specs.declared.Framing.{Framing}
 use Rattle.framing.specs.declared.Framing.the-variants.{Tcp, TcpVec}
 use Rattle.framing.proofs.FrameKnot.{FrameIn, cut-in}
 use Rattle.framing.proofs.Lists as lists
 use Rattle.answering.specs.Limits.{limited, decoded, forestOf}
-use Rattle.answering.specs.declared.Decoded.{Decoded}
 use Rattle.answering.specs.declared.Decoded.the-variants.{Packets, Stopped}
 use Rattle.decoder.proofs.Chosen.{by-decoded, by-bounded}
 use Rattle.decoder.specs.CodeFrames.{Accepted}
-use Rattle.decoder.proofs.Cuts.{restOf, rest-forest}
+use Rattle.decoder.proofs.Cuts.{restOf, rest-by, rest-forest}
 use Rattle.decoder.proofs.Sizes.{vec2-accepted, vec2-shallow}
 use Rattle.streams.proofs.Cuts.{Shallow, cut-shallow}
 use Rattle.totals.proofs.Totals.{one-tree}
 use Rattle.answers.specs.Words.{BeginsSame, none, also, Gives, Allowed}
-use Rattle.answers.specs.Demands.{answerTo, tableAfter, Stay, PacketsStay, StandardStays}
+use Rattle.answers.specs.Demands.{answerTo, Stay, PacketsStay, StandardStays}
 use Rattle.answers.proofs.Answered.{held, given-is, given-records}
-use Rattle.answers.proofs.Longer.Arguments.{number-longer}
+use Rattle.answers.proofs.Longer.Settled.{SameFrame, cut-same}
 use Rattle.answers.proofs.Longer.Tables.{begins-records}
 
 -- ---- a frame
@@ -55,30 +47,17 @@ Kept (read (fault k)) y = Unit {0}
 Kept (read (one item f u)) y = y ≡ read (one item f u)
 Kept (refused k) y = Unit {0}
 
--- a length that cuts is the prefix's number
-abbrev IsNumber : List ℕ → Length → Type 0
-IsNumber l (cut.Cuts n) = n ≡ number 4 l
-IsNumber l cut.Waiting = Unit {0}
-IsNumber l cut.Over = Unit {0}
-IsNumber l cut.Odd = Unit {0}
-
-length-number : (l : List ℕ) → IsNumber l (lengthOf l)
-unfolding lengthOf
-length-number l =
-    by-test (IsNumber l) (leb 4 (length l))
-    (λ _. by-test (IsNumber l) (leb (number 4 l) longestFramed)
-    (λ _. by-test (IsNumber l) (eqb (number 4 l % 4) 0)
-    (λ _. by-test (IsNumber l) (leb (number 4 l) (length l - 4)) (λ _. refl) (λ _. tt)) (λ _. tt))
-    (λ _. tt))
-    (λ _. tt)
+kept-same : (x y z : Frame) → Kept x y → SameFrame y z → Kept x z
+kept-same wait y z k s = tt
+kept-same (read (fault j)) y z k s = tt
+kept-same (read (one item f u)) y z k s = subst (λ (w : Frame). SameFrame w z) k s
+kept-same (refused j) y z k s = tt
 
 -- where a frame gives no tree, its list has none
 none-of : {x : Frame} (limit base : ℕ) (l : List ℕ) → 0 < length l → cutFrame limit base l ≡ x
     → forestOf (afterFrame stops (λ b m. listed (λ c k. cutFrame limit c k) stops b m) base l x) ≡ nil
     → forestOf (restOf limit base l) ≡ nil
-none-of limit base l s e h =
-    ap forestOf (lists.remaining-list (λ b m. cutFrame limit b m) stops base l s
-    ∙ lists.list-by (λ b m. cutFrame limit b m) stops (cut-in limit) base l e) ∙ h
+none-of limit base l s e h = ap forestOf (rest-by limit base l s e) ∙ h
 
 module _ {limit limit' : ℕ} (d : limit ≤ limit') where
   whole-kept : (n : ℕ) (o : Out) → Kept (wholly limit n o) (wholly limit' n o)
@@ -90,29 +69,21 @@ module _ {limit limit' : ℕ} (d : limit ≤ limit') where
       (λ h. rw (eq-eqb u n e, le-leb deep limit' (omega arith))) (λ h. tt))
       (λ e. tt)
 
-  -- the length counts the same bytes
-  length-longer : {n : ℕ} (l more : List ℕ) → cut.Cuts n ≡ lengthOf l → cut.Cuts n ≡ lengthOf (l ++ more)
-  length-longer {n} l more e =
-      let w = length-in l e in
-      let is : n ≡ number 4 l = subst (IsNumber l) (sym e) (length-number l) in
-      length-known (l ++ more) (omega (arith, w .fits, length-append l more))
-      (is ∙ sym (number-longer more 4 l (omega (arith, w .fits))))
-      (length-cuts (length (l ++ more) - 4) (w .short) (w .fours) (omega (arith, w .fits, length-append l more)))
+  -- a limit that is no lower keeps a frame
+  limit-kept : (base : ℕ) (l : List ℕ) → Kept (cutFrame limit base l) (cutFrame limit' base l)
+  unfolding cutFrame
+  limit-kept base l = by-length (lengthOf l)
+    where
+      by-length : (x : Length) → Kept (cutWith limit base l x) (cutWith limit' base l x)
+      by-length (cut.Cuts n) = whole-kept (4 + n) (after 4 (readPacket base (take n (drop 4 l)) 4))
+      by-length cut.Waiting = tt
+      by-length cut.Over = tt
+      by-length cut.Odd = tt
 
   cut-kept : (base : ℕ) (l more : List ℕ) → Kept (cutFrame limit base l) (cutFrame limit' base (l ++ more))
-  unfolding cutFrame
-  cut-kept base l more = by-length (lengthOf l) refl
-    where
-      by-length : (x : Length) → x ≡ lengthOf l → Kept (cutWith limit base l x) (cutWith limit' base (l ++ more) (lengthOf (l ++ more)))
-      by-length (cut.Cuts n) e =
-          let w = length-in l e in
-          let same : take n (drop 4 (l ++ more)) ≡ take n (drop 4 l)
-          = ap (take n) (drop-append-le 4 l more (omega (arith, w .fits)))
-          ∙ take-append-le n (drop 4 l) more (omega (arith, w .fits, length-drop 4 l)) in
-          rw (← length-longer l more e, same) (whole-kept (4 + n) (after 4 (readPacket base (take n (drop 4 l)) 4)))
-      by-length cut.Waiting e = tt
-      by-length cut.Over e = tt
-      by-length cut.Odd e = tt
+  cut-kept base l more =
+      kept-same (cutFrame limit base l) (cutFrame limit' base l) (cutFrame limit' base (l ++ more)) (limit-kept base l)
+      (cut-same limit' base l more)
 
   -- ---- a list
 

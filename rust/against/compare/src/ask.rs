@@ -17,14 +17,16 @@ pub enum Call {
     Tcp2 = 9,
     TcpVec2 = 10,
     EncodeTcp2 = 11,
+    /// The step over a stream; there are no recorded answers of it.
+    Portion = 12,
 }
 
 // Each call has a name in the counts.
-const _: () = assert!(Call::EncodeTcp2 as usize + 1 == CALLS.len());
+const _: () = assert!(Call::Portion as usize + 1 == CALLS.len());
 
 /// The decoders that the crate has too.
 pub const DECODERS: [Call; 3] = [Call::Udp, Call::Tcp, Call::TcpVec];
-/// The decoders of edition 2.
+/// The decoders of edition 2 in one call.
 pub const STANDARD: [Call; 2] = [Call::Tcp2, Call::TcpVec2];
 
 impl Call {
@@ -33,7 +35,7 @@ impl Call {
     }
     /// Whether it is a decoder of edition 2.
     pub fn is_standard(self) -> bool {
-        STANDARD.contains(&self)
+        STANDARD.contains(&self) || self == Call::Portion
     }
     pub fn encodes(self) -> bool {
         matches!(self, Call::Encode | Call::EncodeTcp | Call::EncodeTcp2)
@@ -102,9 +104,12 @@ impl Due {
         self.wrote.clear();
     }
 
-    /// Whether a refused frame ended a list: only then are bytes left beside a refusal.
+    /// Whether a refused frame ended a list: only then are bytes left beside a refusal. Of a step its number stands beside the answer.
     pub fn stopped(&self, call: Call) -> bool {
-        call.decodes() && self.refusal(call) > 0 && self.answer as u32 > 0
+        match call {
+            Call::Portion => self.more >> 48 > 0,
+            _ => call.decodes() && self.refusal(call) > 0 && self.answer as u32 > 0,
+        }
     }
 
     /// The refusal's number, 0 where there is an answer. A padded position is none, save 14, which is no multiple of 4.
@@ -112,6 +117,7 @@ impl Due {
         match call {
             Call::Pad if self.answer == 14 => 14,
             Call::Pad => 0,
+            Call::Portion if self.stopped(call) => (self.more >> 48) as u8,
             _ => (self.answer >> 56) as u8,
         }
     }

@@ -4,11 +4,17 @@ use crate::ask::{Asked, Call, Due, DECODERS};
 use crate::judge::{self, Found};
 use crate::met::{Met, Rule, Seen};
 use crate::peers::Peers;
+use crate::portions::{self, Step};
 use crate::random::Random;
 use crate::short::Stage;
+use crate::standard::Stream;
+use crate::streams::Writers;
 use crate::table::RECORD;
 use crate::{edges, inputs, short, soiled, spoil, standard, streams};
 use rosc::{OscMessage, OscPacket, OscType};
+
+/// Of the streams in portions, one in so many is long.
+const LONG: usize = 50;
 
 /// One case, in memory that the next one uses again.
 pub struct Case {
@@ -28,7 +34,7 @@ impl Case {
         let Some(call) = short::make(stages, n, &mut self.asked) else { return false };
         let (asked, due, seen) = (&self.asked, &mut self.due, &mut self.seen);
         match call {
-            Call::Udp | Call::Tcp | Call::TcpVec | Call::Tcp2 | Call::TcpVec2 => self.roomy_due(),
+            Call::Udp | Call::Tcp | Call::TcpVec | Call::Tcp2 | Call::TcpVec2 | Call::Portion => self.roomy_due(),
             Call::Encode | Call::EncodeTcp | Call::EncodeTcp2 => judge::encode(asked, due, seen),
             Call::EncodeString => judge::encode_string(asked, due, seen),
             Call::Pad => judge::pad(asked, due, seen),
@@ -107,6 +113,23 @@ impl Case {
             0 => self.encode_standard(r),
             _ => self.decode_standard(r, peers),
         }
+    }
+
+    /// A random stream of edition 2 for one step; and where that is not refused, the steps over it in portions.
+    pub fn portions(&mut self, r: &mut Random, peers: &Peers) -> Vec<Step> {
+        self.seen = Seen::default();
+        self.asked.begin(Call::Portion);
+        let mut by = Writers::default();
+        match r.below(LONG) {
+            0 => streams::long(r, &mut self.asked.first),
+            _ => by = streams::input(r, peers, &mut self.asked.first),
+        }
+        let marks = self.stream(r, by).marks();
+        if self.due.answer >> 56 > 0 {
+            return Vec::new();
+        }
+        let places = portions::places(r, self.asked.first.len(), &marks);
+        portions::steps(&self.asked, &self.due, &marks, &places, &mut self.seen)
     }
 
     fn find(&mut self) -> Found {
@@ -194,10 +217,14 @@ impl Case {
         self.seen.note_if(Rule::OscpackRead, read && self.seen.has(Rule::OscpackWhole));
     }
 
-    /// A stream, under limits on either side of what one of its frames needs.
     fn decode_standard(&mut self, r: &mut Random, peers: &Peers) {
         self.asked.begin(r.pick(&[Call::Tcp2, Call::TcpVec2, Call::TcpVec2]));
         let by = streams::input(r, peers, &mut self.asked.first);
+        self.stream(r, by);
+    }
+
+    /// What is due for a stream, in which some have written, under limits on either side of what one of its frames needs.
+    fn stream(&mut self, r: &mut Random, by: Writers) -> Stream {
         let stream = standard::find(self.asked.call, &self.asked.first, &mut self.due.wrote);
         let (depth, records) = stream.any(r);
         self.asked.number = match r.below(12) {
@@ -216,9 +243,11 @@ impl Case {
             _ => needed + r.below(200),
         };
         standard::decode(&self.asked, &stream, &mut self.due, &mut self.seen);
-        let read = self.due.refusal(self.asked.call) == 0 && self.due.answer as u32 == 0;
+        let all = if self.asked.call == Call::Portion { self.asked.first.len() } else { 0 };
+        let read = self.due.refusal(self.asked.call) == 0 && self.due.answer as u32 as usize == all;
         self.seen.note_if(Rule::StdLiblo, read && by.liblo);
         self.seen.note_if(Rule::StdOscpack, read && by.oscpack);
+        stream
     }
 
     fn encode(&mut self, r: &mut Random) {

@@ -1,7 +1,7 @@
 //! Feeds rosc and the port the same inputs and compares every result: accept or refuse and the class of refusal, tree, bytes
 //! left, bytes written and bytes not written. Which field was short, where it began and how many bytes of padding are not zero is
 //! judged by a reader of its own; the padding is counted over rosc's packets too. Edition 2 of TCP framing, which rosc does not have, is
-//! judged by a model of its own that hands rosc each frame alone.
+//! judged by a model of its own that hands rosc each frame alone; streams in portions by what that model makes of the whole stream.
 //!
 //!     cargo run --release --offline -p compare -- --cases N --seed S
 //!
@@ -24,6 +24,7 @@ mod oracle;
 mod padding;
 mod peers;
 mod port;
+mod portions;
 mod random;
 mod reached;
 mod record;

@@ -213,6 +213,19 @@ rules! {
     StdBundle 1 "edition 2, encode: a bundle after its length",
     StdBundle65532 10 "edition 2, encode: a bundle and its length, 65,532 bytes",
     StdBundle65536 10 "edition 2, encode: a bundle and its length, 65,536 bytes",
+    CutBetween 1 "in portions: cut between frames",
+    CutLength 1 "in portions: cut in a length",
+    CutPacket 1 "in portions: cut in a packet",
+    CutNothing 1 "in portions: one of no bytes",
+    CutThrice 1 "in portions: a frame in three and more",
+    CutSeveral 1 "in portions: packets in several",
+    CutDirty 1 "in portions: dirty padding in several",
+    CutFar 10 "in portions: packets after 32,768 bytes consumed",
+    CutLeft 1 "in portions: bytes kept at the end",
+    CutEnded 1 "in portions: ended after packets of an earlier one",
+    CutField 1 "in portions: ended by a short field, after bytes consumed",
+    CutLate 1 "in portions: ended by a frame that came in several",
+    CutAgain 1 "in portions: ended, and more bytes come",
     LibloWhole 1 "liblo: as written",
     LibloRead 1 "liblo: as written, all of it read",
     LibloDamaged 1 "liblo: damaged",
@@ -259,7 +272,7 @@ impl Seen {
 pub const KINDS: &[u8] = b"/#sbifhdtcrmTFNI[";
 
 /// The calls by name, in the order of their numbers.
-pub const CALLS: [&str; 12] = [
+pub const CALLS: [&str; 13] = [
     "udp",
     "tcp",
     "tcp_vec",
@@ -272,6 +285,7 @@ pub const CALLS: [&str; 12] = [
     "tcp2",
     "tcp_vec2",
     "encode_tcp2",
+    "read_portion",
 ];
 
 /// How many of the calls `rosc_compat` has: the first.
@@ -285,6 +299,7 @@ const NONE_GIVES: usize = 3;
 /// frame that ended it. There is no 20: a frame ends at a multiple of 4, so that no padding in it is short.
 const TCP2: (usize, &[usize]) = (9, &[1, 2, 4, 5, 6, 7, 8, 9, 10, 13, 15, 16, 17, 18, 19, 21]);
 const TCP_VEC2: (usize, &[usize]) = (10, &[1, 10, 13]);
+const READ_PORTION: (usize, &[usize]) = (12, &[1, 10, 13]);
 const STOPS: &[usize] = &[1, 2, 4, 5, 6, 7, 8, 9, 15, 16, 17, 18, 19, 21];
 
 /// How often each call gave each number.
@@ -293,7 +308,7 @@ type Answers = [[u64; REFUSALS]; CALLS.len()];
 /// The counts of all cases.
 pub struct Met {
     answers: Answers,
-    stops: [u64; REFUSALS],
+    stops: Answers,
     decoded: [u64; 256],
     encoded: [u64; 256],
     rules: [u64; RULES.len()],
@@ -303,14 +318,13 @@ pub struct Met {
 impl Met {
     pub fn new() -> Met {
         let answers = [[0; REFUSALS]; CALLS.len()];
-        let stops = [0; REFUSALS];
-        Met { answers, stops, decoded: [0; 256], encoded: [0; 256], rules: [0; RULES.len()], compat: answers }
+        Met { answers, stops: answers, decoded: [0; 256], encoded: [0; 256], rules: [0; RULES.len()], compat: answers }
     }
 
     /// Counts a case of the boundary: the call, its refusal or 0, whether that is of a frame that ended a list, and what it has shown.
     pub fn count(&mut self, call: usize, refusal: u8, stopped: bool, seen: Seen) {
-        let counts = if stopped { &mut self.stops } else { &mut self.answers[call] };
-        counts[refusal as usize] += 1;
+        let counts = if stopped { &mut self.stops } else { &mut self.answers };
+        counts[call][refusal as usize] += 1;
         seen.rules().for_each(|rule| self.rules[rule] += 1);
     }
 
@@ -332,7 +346,7 @@ impl Met {
     pub fn add(&mut self, other: &Met) {
         let both = |mine: &mut [u64], its: &[u64]| mine.iter_mut().zip(its).for_each(|(m, i)| *m += i);
         self.answers.iter_mut().zip(&other.answers).for_each(|(m, i)| both(m, i));
-        both(&mut self.stops, &other.stops);
+        self.stops.iter_mut().zip(&other.stops).for_each(|(m, i)| both(m, i));
         both(&mut self.decoded, &other.decoded);
         both(&mut self.encoded, &other.encoded);
         both(&mut self.rules, &other.rules);
@@ -343,7 +357,7 @@ impl Met {
     fn lines(&self) -> Vec<(String, u64, u64)> {
         let mut lines = Vec::new();
         for refusal in (1..REFUSALS).filter(|refusal| *refusal != NONE_GIVES) {
-            let times = self.answers.iter().chain([&self.stops]).map(|call| call[refusal]).sum();
+            let times = self.answers.iter().chain(&self.stops).map(|call| call[refusal]).sum();
             lines.push((format!("refusal {refusal}"), 1, times));
         }
         for (call, answers) in self.answers.iter().enumerate() {
@@ -362,10 +376,17 @@ impl Met {
 
     /// The refusals of the decoders of edition 2, each by itself.
     fn standard_lines(&self) -> Vec<(String, u64, u64)> {
-        let refused = [TCP2, TCP_VEC2].into_iter().flat_map(|(call, numbers)| {
-            numbers.iter().map(move |number| (format!("{}: refusal {number}", CALLS[call]), 1, self.answers[call][*number]))
+        let refused = [TCP2, TCP_VEC2, READ_PORTION].into_iter().flat_map(|(call, numbers)| {
+            // An input that is too long is rare among the steps.
+            let seldom = move |number: usize| if (call, number) == (READ_PORTION.0, 1) { 10 } else { 1 };
+            let line = move |number: usize| {
+                (format!("{}: refusal {number}", CALLS[call]), seldom(number), self.answers[call][number])
+            };
+            numbers.iter().copied().map(line)
         });
-        let stopped = STOPS.iter().map(|number| (format!("tcp_vec2: stopped by {number}"), 1, self.stops[*number]));
+        let stopped = [(TCP_VEC2.0, "stopped"), (READ_PORTION.0, "ended")].into_iter().flat_map(|(call, word)| {
+            STOPS.iter().map(move |number| (format!("{}: {word} by {number}", CALLS[call]), 1, self.stops[call][*number]))
+        });
         refused.chain(stopped).collect()
     }
 

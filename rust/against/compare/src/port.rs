@@ -64,6 +64,7 @@ impl Bench {
             Call::Tcp2 => boundary::decode_tcp2(first, room, asked.number, &mut more),
             Call::TcpVec2 => boundary::decode_tcp_vec2(first, room, asked.number, &mut more),
             Call::EncodeTcp2 => boundary::encode_tcp2(first, asked.number, second, room),
+            Call::Portion => boundary::read_portion(first, room, asked.number, &mut more),
         };
         (answer, more)
     }

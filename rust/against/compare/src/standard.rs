@@ -38,6 +38,14 @@ struct Refused {
     after: Option<usize>,
 }
 
+/// The end of a frame whose packet is read, with the records and the dirty padding of all packets up to it.
+#[derive(Clone, Copy, Debug, Default)]
+pub struct Mark {
+    pub at: usize,
+    pub records: usize,
+    pub dirty: usize,
+}
+
 /// The frames of a stream up to the first that is refused or not all there, which stands at `at`; and the rules that were at work.
 #[derive(Debug, Default)]
 pub struct Stream {
@@ -52,7 +60,7 @@ pub struct Stream {
 pub fn find(call: Call, input: &[u8], table: &mut Vec<u8>) -> Stream {
     table.clear();
     let mut stream = Stream::default();
-    while input.len() <= LONGEST && stream.next(input, table) && call == Call::TcpVec2 {}
+    while input.len() <= LONGEST && stream.next(input, table) && call != Call::Tcp2 {}
     stream.look_after(input);
     note_kept(&mut stream, input, table);
     stream
@@ -126,6 +134,13 @@ impl Stream {
     }
     fn dirty(&self) -> usize {
         self.frames.last().map_or(0, |frame| frame.dirty)
+    }
+
+    /// The ends of the frames.
+    pub fn marks(&self) -> Vec<Mark> {
+        let ends = self.frames.iter().skip(1).map(|frame| frame.at).chain([self.at]);
+        let marks = self.frames.iter().zip(ends);
+        marks.map(|(frame, at)| Mark { at, records: frame.records, dirty: frame.dirty }).collect()
     }
 
     /// The depth of any frame that is read, and the records up to it; 0 where there is none.
@@ -234,13 +249,20 @@ pub fn decode(asked: &Asked, stream: &Stream, due: &mut Due, seen: &mut Seen) {
             stop(asked, stream, stopped, due, seen);
         }
         None => {
-            let left = asked.first.len() - stream.at;
             note_left(asked, stream, seen);
-            due.answer = (stream.records() as u64) << 32 | left as u64;
+            due.answer = (stream.records() as u64) << 32 | low(asked, stream.at);
             due.more = stream.dirty() as u64;
         }
     }
     note_limits(stream, limit, room, seen);
+}
+
+/// The lowest bits of an answer: the bytes from a place on, which are left, or of a step those before it, which are used.
+fn low(asked: &Asked, at: usize) -> u64 {
+    match asked.call {
+        Call::Portion => at as u64,
+        _ => (asked.first.len() - at) as u64,
+    }
 }
 
 /// A refused frame: of one frame that is the answer, and of a list the packets before it come with it.
@@ -255,8 +277,14 @@ fn stop(asked: &Asked, stream: &Stream, at: Stop, due: &mut Due, seen: &mut Seen
         None => (0, 0),
     };
     due.wrote.truncate(RECORD * records);
-    due.answer = (at.number as u64) << 56 | (records as u64) << 32 | (asked.first.len() - at.at) as u64;
-    due.more = (at.at as u64) << 48 | (at.field as u64) << 32 | dirty as u64;
+    due.answer = (records as u64) << 32 | low(asked, at.at);
+    due.more = (at.field as u64) << 32 | dirty as u64;
+    if asked.call == Call::Portion {
+        due.more |= (at.number as u64) << 48;
+    } else {
+        due.answer |= (at.number as u64) << 56;
+        due.more |= (at.at as u64) << 48;
+    }
     seen.note(if at.before == 0 { Rule::StdStopFirst } else { Rule::StdStopLater });
     seen.note_if(Rule::StdStopField, at.before > 0 && at.field > 0);
     seen.note_if(Rule::StdStopFar, at.at >= 256);
@@ -308,7 +336,7 @@ fn note_left(asked: &Asked, stream: &Stream, seen: &mut Seen) {
         Call::Tcp2 => seen.note(one),
         _ => seen.note(list),
     }
-    let listed = asked.call == Call::TcpVec2;
+    let listed = asked.call != Call::Tcp2;
     seen.note_if(Rule::StdWaitsLast, missing == 1);
     seen.note_if(Rule::StdListNone, listed && frames == 0 && !rest.is_empty());
     seen.note_if(Rule::StdListSeveral, listed && frames > 1 && rest.is_empty());

@@ -142,6 +142,13 @@ fn push_highest(r: &mut Random, to: &mut Vec<u8>) {
     }
 }
 
+/// A long input of good frames, the last of which may be cut.
+pub fn long(r: &mut Random, to: &mut Vec<u8>) {
+    let bytes = LONGEST / 2 + r.below(LONGEST / 2);
+    push_many(r, to, bytes);
+    to.truncate(bytes);
+}
+
 /// An input; whose packets are in it is answered.
 pub fn input(r: &mut Random, peers: &Peers, to: &mut Vec<u8>) -> Writers {
     let mut by = Writers::default();

@@ -1,0 +1,100 @@
+-- Examples, computed, that meet the hypotheses of `every-cut` and `any-portions`: a stream of three frames that is cut inside the second,
+-- and one whose second frame is refused.
+use mathlib.Core.Path.{_≡_, refl}
+use mathlib.Core.List.{List, [], _∷_, _++_}
+use Prim.Native.Nat.{ℕ}
+use native.Mathlib.Omega.{arith}
+use Rattle.refusal.specs.declared.Fault.the-variants.{Short}
+use Rattle.refusal.specs.declared.Field.the-variants.{Address}
+use Rattle.refusal.specs.declared.Refusal.the-variants.{Unreadable}
+use Rattle.wire.specs.Number.{number}
+use Rattle.node.specs.Forest.{size, depth, snoc}
+use Rattle.node.specs.Tags.{classOf, sortOf}
+use Rattle.text.specs.Text.{readText}
+use Rattle.argument.specs.Argument.{readArg}
+use Rattle.argument.specs.Dirt.{keptPadding, packetsPadding}
+use Rattle.arguments.specs.Arguments.{readTags}
+use Rattle.heads.specs.Heads.{lengthOf}
+use Rattle.packet.specs.FirstText.{startOf}
+use Rattle.packet.specs.Packet.{readMessage, packetBy, packetAt, readPacket}
+use Rattle.framing.specs.Framing.{cutFrame, framesAt, tcpVec2}
+use Rattle.answering.specs.Limits.{decoded}
+use Rattle.answering.specs.declared.Decoded.the-variants.{Packets, Stopped}
+use Rattle.table.proofs.Examples.{small-bytes}
+use Rattle.answers.specs.Words.{Gives}
+use Rattle.answers.proofs.Answered.{packets-give}
+use Rattle.answers.proofs.Room.Examples.{blank}
+use Rattle.cutting.specs.Cutting.{listAnswer, listTable, YieldsRest, CutChangesNothing, joinedBytes, Recorded}
+use Rattle.cutting.proofs.Calls.{every-cut}
+use Rattle.cutting.proofs.AnyPortions.{any-portions}
+
+-- the frame of a message with the number 7, 16 bytes: 0000000C 2F610000 2C690000 00000007
+abbrev whole-number : List ℕ
+whole-number = 0 ∷ 0 ∷ 0 ∷ 12 ∷ 0x2F ∷ 0x61 ∷ 0 ∷ 0 ∷ 0x2C ∷ 0x69 ∷ 0 ∷ 0 ∷ 0 ∷ 0 ∷ 0 ∷ 7 ∷ []
+
+-- the first ten bytes of the frame of a message with a text, and the rest of it: 0000000C 2F620001 2C73 and 0000 68690000; a byte of the
+-- address's padding is not zero
+abbrev text-front : List ℕ
+text-front = 0 ∷ 0 ∷ 0 ∷ 12 ∷ 0x2F ∷ 0x62 ∷ 0 ∷ 1 ∷ 0x2C ∷ 0x73 ∷ []
+
+abbrev text-rest : List ℕ
+text-rest = 0 ∷ 0 ∷ 0x68 ∷ 0x69 ∷ 0 ∷ 0 ∷ []
+
+-- a frame whose address has no end: 00000004 2F616263
+abbrev short : List ℕ
+short = 0 ∷ 0 ∷ 0 ∷ 4 ∷ 0x2F ∷ 0x61 ∷ 0x62 ∷ 0x63 ∷ []
+
+-- ---- three frames, cut inside the second
+
+abbrev front : List ℕ
+front = whole-number ++ text-front
+
+abbrev back : List ℕ
+back = text-rest ++ whole-number
+
+three : listAnswer 64 (front ++ back) (blank 6) ≡ Packets 6 0 1
+unfolding number size depth snoc classOf sortOf readText readArg readTags startOf readMessage packetBy packetAt readPacket lengthOf cutFrame
+    framesAt tcpVec2 decoded keptPadding packetsPadding
+three = refl
+
+front-answer : listAnswer 64 front (blank 6) ≡ Packets 2 10 0
+unfolding number size depth snoc classOf sortOf readText readArg readTags startOf readMessage packetBy packetAt readPacket lengthOf cutFrame
+    framesAt tcpVec2 decoded keptPadding packetsPadding
+front-answer = refl
+
+three-cut : CutChangesNothing 64 front back (blank 6) (blank 6) (blank 6) 6
+three-cut =
+    every-cut 64 front back (blank 6) (blank 6) (blank 6) 6 1 (small-bytes (front ++ back) tt) (packets-give three) (omega arith)
+    (omega arith)
+
+-- the last four records of the stream are those of the remainder and the later bytes, 16 bytes further on
+three-rest : YieldsRest 64 front back (blank 6) (blank 6) 2 0 16
+three-rest = three-cut .yields-rest 2 10 0 front-answer
+
+-- ---- the same stream in portions, one of them empty
+
+three-portions : Recorded 64 6 (listTable 64 (front ++ back) (blank 6)) 0 0 0 []
+    (whole-number ∷ [] ∷ text-front ∷ text-rest ∷ whole-number ∷ []) (Packets 6 0 1)
+unfolding joinedBytes number size depth snoc classOf sortOf readText readArg readTags startOf readMessage packetBy packetAt readPacket
+    lengthOf cutFrame framesAt tcpVec2 decoded keptPadding packetsPadding
+three-portions =
+    any-portions 64 (whole-number ∷ [] ∷ text-front ∷ text-rest ∷ whole-number ∷ []) (blank 6) 6 1 (small-bytes (front ++ back) tt)
+    (packets-give three)
+
+-- ---- a frame that is refused, and what comes after it
+
+refused-answer : listAnswer 64 (whole-number ++ short) (blank 4) ≡ Stopped 2 8 0 (Unreadable (Short Address 20)) 16
+unfolding number size depth snoc classOf sortOf readText readArg readTags startOf readMessage packetBy packetAt readPacket lengthOf cutFrame
+    framesAt tcpVec2 decoded keptPadding packetsPadding
+refused-answer = refl
+
+refused-still : Gives (listAnswer 64 ((whole-number ++ short) ++ whole-number) (blank 4)) 2 0
+unfolding number size depth snoc classOf sortOf readText readArg readTags startOf readMessage packetBy packetAt readPacket lengthOf cutFrame
+    framesAt tcpVec2 decoded keptPadding packetsPadding
+refused-still = (refl, refl)
+
+refused-again : listAnswer 64 ((whole-number ++ short) ++ whole-number) (blank 4) ≡ Stopped 2 24 0 (Unreadable (Short Address 20)) 16
+refused-again =
+    every-cut 64 (whole-number ++ short) whole-number (blank 4) (blank 4) (blank 4) 2 0
+    (small-bytes ((whole-number ++ short) ++ whole-number) tt) refused-still (omega arith) (omega arith)
+    .refused-again 2 8 0 _ 16 refused-answer
