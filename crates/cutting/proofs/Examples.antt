@@ -29,19 +29,19 @@ use Rattle.cutting.proofs.Calls.{every-cut}
 use Rattle.cutting.proofs.AnyPortions.{any-portions}
 
 -- the frame of a message with the number 7, 16 bytes: 0000000C 2F610000 2C690000 00000007
-abbrev whole-number : List ℕ
+abbrev pub whole-number : List ℕ
 whole-number = 0 ∷ 0 ∷ 0 ∷ 12 ∷ 0x2F ∷ 0x61 ∷ 0 ∷ 0 ∷ 0x2C ∷ 0x69 ∷ 0 ∷ 0 ∷ 0 ∷ 0 ∷ 0 ∷ 7 ∷ []
 
 -- the first ten bytes of the frame of a message with a text, and the rest of it: 0000000C 2F620001 2C73 and 0000 68690000; a byte of the
 -- address's padding is not zero
-abbrev text-front : List ℕ
+abbrev pub text-front : List ℕ
 text-front = 0 ∷ 0 ∷ 0 ∷ 12 ∷ 0x2F ∷ 0x62 ∷ 0 ∷ 1 ∷ 0x2C ∷ 0x73 ∷ []
 
-abbrev text-rest : List ℕ
+abbrev pub text-rest : List ℕ
 text-rest = 0 ∷ 0 ∷ 0x68 ∷ 0x69 ∷ 0 ∷ 0 ∷ []
 
 -- a frame whose address has no end: 00000004 2F616263
-abbrev short : List ℕ
+abbrev pub short : List ℕ
 short = 0 ∷ 0 ∷ 0 ∷ 4 ∷ 0x2F ∷ 0x61 ∷ 0x62 ∷ 0x63 ∷ []
 
 -- ---- three frames, cut inside the second

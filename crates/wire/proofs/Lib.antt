@@ -6,3 +6,4 @@ pub mod Numbers
 pub mod Writers
 pub mod Copies
 pub mod Gaps
+pub mod Same

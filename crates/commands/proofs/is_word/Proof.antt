@@ -1,7 +1,7 @@
 -- `commands::is_word` meets its contract, by what `same` says.
 use mathlib.Core.Path.{_≡_}
 use borrow.Author.Needs.{needs}
-use Rattle.commands.proofs.Tests.{is-same}
+use Rattle.wire.proofs.Same.{is-same}
 use Rattle.commands.proofs.is_word.Statement.{statement}
 use Rattle.commands.proofs.is_word.Tie as tie
 

@@ -1,0 +1,259 @@
+-- A check of an index, record by record: what it says, and that a check in parts says the same.
+use mathlib.Core.Path.{_≡_, refl, sym, subst, ap, ap₂, _∙_}
+use mathlib.Core.Bool.{Bool, true, false, false≢true}
+use mathlib.Core.List.{List, [], _∷_, _++_, append-cancel-left}
+use Prim.Native.Nat.{ℕ, zero, suc, _+_, _*_, _-_, _<_, _≤_, max}
+use native.Mathlib.Omega.{arith}
+use borrow.Author.Tests.{eqb-true, eqb-false, eq-eqb, ne-eqb}
+use lib.Dec.{eqb}
+use lib.ListN.{length, take, drop, length-append, length-drop, take-append-drop}
+use lib.Seq.{take-add, take-append-le, drop-append-le, drop-drop}
+use Rattle.wire.specs.Same.{sameBytes}
+use Rattle.cues.specs.Cues.{entrySize}
+use Rattle.cues.specs.Checks.{comparedAt, compared, InRecords, FitsExactly, FirstAt, DiffersFirst, later, continued, CheckInParts}
+use Rattle.cues.specs.declared.checked.Checked.{Checked}
+use Rattle.cues.specs.declared.checked.Checked.the-variants.{Fits, Differs}
+use Rattle.wire.proofs.Same.{same-one, is-same}
+
+-- ---- one record
+
+-- two indexes with no byte are one
+none-same : (f g : List ℕ) → length f + length g ≡ 0 → f ≡ g
+none-same [] [] e = refl
+none-same [] (y ∷ g) e = absurd (omega arith)
+none-same (x ∷ f) g e = absurd (omega arith)
+
+-- two whose first records differ have a byte
+some-byte : (f g : List ℕ) → (take entrySize f ≡ take entrySize g → ⊥) → 0 < length f + length g
+some-byte [] [] d = absurd (d refl)
+some-byte [] (y ∷ g) d = omega arith
+some-byte (x ∷ f) g d = omega arith
+
+-- two words that are one are found the same
+one-same : {a b : List ℕ} → a ≡ b → sameBytes a b ≡ true
+one-same {a} {b} e = sym (is-same true a b (λ t. e, λ t. refl))
+
+-- two that are not are found different
+two-differ : (a b : List ℕ) → (a ≡ b → ⊥) → sameBytes a b ≡ false
+two-differ a b h = sym (is-same false a b (λ t. absurd (false≢true t), λ t. absurd (h t)))
+
+-- where no record may be compared, so many fit
+none-more : (k : ℕ) (f g : List ℕ) → comparedAt zero k f g ≡ Fits k
+unfolding comparedAt
+none-more k f g = refl
+
+-- where no byte is left, so many records fit
+pub ends : (n k : ℕ) (f g : List ℕ) → length f + length g ≡ 0 → comparedAt n k f g ≡ Fits k
+unfolding comparedAt
+ends zero k f g e = none-more k f g
+ends (suc n) k f g e = rw (eq-eqb (length f + length g) 0 e)
+
+-- a record that is the same is passed
+pub passes : (n k : ℕ) (f g : List ℕ) → 0 < length f + length g → take entrySize f ≡ take entrySize g
+    → comparedAt (suc n) k f g ≡ comparedAt n (k + 1) (drop entrySize f) (drop entrySize g)
+unfolding comparedAt
+passes n k f g h e = rw (ne-eqb (length f + length g) 0 (λ z. omega arith), one-same e)
+
+-- one that differs is told
+pub stops : (n k : ℕ) (f g : List ℕ) → (take entrySize f ≡ take entrySize g → ⊥) → comparedAt (suc n) k f g ≡ Differs k
+unfolding comparedAt
+stops n k f g h =
+    rw (ne-eqb (length f + length g) 0 (λ z. omega (arith, some-byte f g h)), two-differ (take entrySize f) (take entrySize g) h)
+
+-- no byte is left, or the first record is the same, or it differs
+by-front : {P : Type 0} (f g : List ℕ) → (length f + length g ≡ 0 → P)
+    → (0 < length f + length g → take entrySize f ≡ take entrySize g → P) → ((take entrySize f ≡ take entrySize g → ⊥) → P) → P
+by-front {P} f g none same differs = go (eqb (length f + length g) 0) refl (sameBytes (take entrySize f) (take entrySize g)) refl
+  where
+    go : (t : Bool) → eqb (length f + length g) 0 ≡ t → (s : Bool) → sameBytes (take entrySize f) (take entrySize g) ≡ s → P
+    go true e s d = none (eqb-true _ _ e)
+    go false e true d = same (omega (arith, eqb-false (length f + length g) 0 e)) (same-one _ _ d)
+    go false e false d = differs (λ z. false≢true (sym d ∙ one-same z))
+
+-- ---- all records
+
+-- the number that bounds the records does not count, where it is no less than the bytes
+any-bound : (n m k : ℕ) (f g : List ℕ) → length f + length g ≤ n → length f + length g ≤ m → comparedAt n k f g ≡ comparedAt m k f g
+any-bound zero m k f g h i = ends zero k f g (omega arith) ∙ sym (ends m k f g (omega arith))
+any-bound (suc n) zero k f g h i = ends (suc n) k f g (omega arith) ∙ sym (ends zero k f g (omega arith))
+any-bound (suc n) (suc m) k f g h i =
+    by-front f g (λ z. ends (suc n) k f g z ∙ sym (ends (suc m) k f g z))
+    (λ p e. passes n k f g p e
+    ∙ any-bound n m (k + 1) (drop entrySize f) (drop entrySize g)
+    (omega (arith, length-drop entrySize f, length-drop entrySize g)) (omega (arith, length-drop entrySize f, length-drop entrySize g))
+    ∙ sym (passes m k f g p e))
+    (λ d. stops n k f g d ∙ sym (stops m k f g d))
+
+-- an answer after m records and n more
+pub later-later : (m n : ℕ) (r : Checked) → later m (later n r) ≡ later (m + n) r
+later-later m n (Fits k) = ap Fits (omega arith)
+later-later m n (Differs k) = ap Differs (omega arith)
+
+-- the number of the first record is added
+counted-from : (n k : ℕ) (f g : List ℕ) → comparedAt n k f g ≡ later k (comparedAt n 0 f g)
+counted-from zero k f g = none-more k f g ∙ ap Fits (omega arith) ∙ sym (ap (later k) (none-more 0 f g))
+counted-from (suc n) k f g =
+    by-front f g (λ z. ends (suc n) k f g z ∙ ap Fits (omega arith) ∙ sym (ap (later k) (ends (suc n) 0 f g z)))
+    (λ p e. passes n k f g p e ∙ counted-from n (k + 1) _ _
+    ∙ sym (later-later k 1 (comparedAt n 0 (drop entrySize f) (drop entrySize g)))
+    ∙ sym (ap (later k) (passes n 0 f g p e ∙ counted-from n 1 _ _)))
+    (λ d. stops n k f g d ∙ ap Differs (omega arith) ∙ sym (ap (later k) (stops n 0 f g d)))
+
+-- where a byte is there, a record may be compared
+one-more : (f g : List ℕ) → 0 < length f + length g → compared f g ≡ comparedAt (suc (length f + length g - 1)) 0 f g
+one-more f g h = ap (λ (n : ℕ). comparedAt n 0 f g) (omega arith)
+
+-- a first record that is the same, and what follows it
+pub compared-more : (f g : List ℕ) → 0 < length f + length g → take entrySize f ≡ take entrySize g
+    → compared f g ≡ later 1 (compared (drop entrySize f) (drop entrySize g))
+compared-more f g h e =
+    one-more f g h ∙ passes (length f + length g - 1) 0 f g h e ∙ counted-from (length f + length g - 1) 1 _ _
+    ∙ ap (later 1)
+    (any-bound (length f + length g - 1) (length (drop entrySize f) + length (drop entrySize g)) 0 (drop entrySize f) (drop entrySize g)
+    (omega (arith, length-drop entrySize f, length-drop entrySize g)) (omega arith))
+
+-- a first record that differs
+pub compared-stops : (f g : List ℕ) → (take entrySize f ≡ take entrySize g → ⊥) → compared f g ≡ Differs 0
+compared-stops f g d = one-more f g (some-byte f g d) ∙ stops (length f + length g - 1) 0 f g d
+
+-- ---- the walk over both
+
+-- the answer is that of what is left after k records
+abbrev pub Compares : List ℕ → List ℕ → ℕ → Type 0
+Compares f g k = compared f g ≡ comparedAt (length f + length g - k) k (drop (entrySize * k) f) (drop (entrySize * k) g)
+
+-- at the start that is all
+pub none-passed : (f g : List ℕ) → Compares f g 0
+none-passed f g = ap (λ (n : ℕ). comparedAt n 0 f g) (omega arith)
+
+module _ (f g : List ℕ) (k : ℕ) (e : Compares f g k) where
+  -- one record may be compared where a byte is left
+  next : entrySize * k < max (length f) (length g)
+      → compared f g ≡ comparedAt (suc (length f + length g - (k + 1))) k (drop (entrySize * k) f) (drop (entrySize * k) g)
+  next h = e ∙ ap (λ (n : ℕ). comparedAt n k (drop (entrySize * k) f) (drop (entrySize * k) g)) (omega arith)
+
+  -- the record after k that are the same differs
+  pub differs-at : entrySize * k < max (length f) (length g)
+      → (take entrySize (drop (entrySize * k) f) ≡ take entrySize (drop (entrySize * k) g) → ⊥) → Differs k ≡ compared f g
+  differs-at h d = sym (next h ∙ stops (length f + length g - (k + 1)) k _ _ d)
+
+  -- it is the same
+  pub passed-at : entrySize * k < max (length f) (length g)
+      → take entrySize (drop (entrySize * k) f) ≡ take entrySize (drop (entrySize * k) g) → Compares f g (k + 1)
+  passed-at h s =
+      next h
+      ∙ passes (length f + length g - (k + 1)) k (drop (entrySize * k) f) (drop (entrySize * k) g)
+      (omega (arith, length-drop (entrySize * k) f, length-drop (entrySize * k) g)) s
+      ∙ rw (drop-drop entrySize (entrySize * k) f, drop-drop entrySize (entrySize * k) g, num)
+    where
+      num : entrySize * k + entrySize ≡ entrySize * (k + 1)
+      num = omega arith
+
+  -- no byte is left
+  pub all-fit : max (length f) (length g) ≤ entrySize * k → Fits k ≡ compared f g
+  all-fit h = sym (e ∙ ends _ k _ _ (omega (arith, length-drop (entrySize * k) f, length-drop (entrySize * k) g)))
+
+-- ---- what a check says
+
+-- what an answer says of two indexes
+abbrev Says : List ℕ → List ℕ → Checked → Type 0
+Says f g (Fits n) = (f ≡ g) × InRecords (length f) n
+Says f g (Differs k) = FirstAt f g k
+
+-- so much and a record more is one record, and then so much of what follows
+front-and : (j : ℕ) (l : List ℕ) → take (entrySize * (1 + j)) l ≡ take entrySize l ++ take (entrySize * j) (drop entrySize l)
+front-and j l = let e : entrySize * (1 + j) ≡ entrySize + entrySize * j = omega arith in rw e (take-add entrySize (entrySize * j) l)
+
+-- what an answer says of what follows a record that is the same, it says of both indexes one record later
+says-later : (f g : List ℕ) (r : Checked) → 0 < length f + length g → take entrySize f ≡ take entrySize g
+    → Says (drop entrySize f) (drop entrySize g) r → Says f g (later 1 r)
+says-later f g (Fits n) h e s =
+    let one : f ≡ g
+    = sym (take-append-drop entrySize f)
+    ∙ ap (λ (x : List ℕ). x ++ drop entrySize f) e
+    ∙ ap (λ (x : List ℕ). take entrySize g ++ x) (s .0)
+    ∙ take-append-drop entrySize g in
+    (one, (omega (arith, length-drop entrySize f), omega (arith, length-drop entrySize f, ap length one)))
+says-later f g (Differs k) h e s =
+    record {
+      before = front-and k f ∙ ap₂ _++_ e (s .before) ∙ sym (front-and k g);
+      there =
+          λ z.
+          let n : 1 + k + 1 ≡ 1 + (k + 1) = omega arith in
+          s .there
+          (append-cancel-left (take entrySize g) _ _
+          (ap (λ (x : List ℕ). x ++ take (entrySize * (k + 1)) (drop entrySize f)) (sym e)
+          ∙ sym (front-and (k + 1) f)
+          ∙ (rw n at z)
+          ∙ front-and (k + 1) g));
+    }
+
+-- of two with no byte
+none-says : (f g : List ℕ) → length f + length g ≡ 0 → Says f g (compared f g)
+none-says f g z = subst (Says f g) (sym (ends (length f + length g) 0 f g z)) (none-same f g z, (omega arith, omega arith))
+
+-- every answer says so
+says : (n : ℕ) (f g : List ℕ) → length f + length g ≤ n → Says f g (compared f g)
+says zero f g h = none-says f g (omega arith)
+says (suc n) f g h =
+    by-front f g (none-says f g)
+    (λ p e. subst (Says f g) (sym (compared-more f g p e))
+    (says-later f g (compared (drop entrySize f) (drop entrySize g)) p e
+    (says n (drop entrySize f) (drop entrySize g) (omega (arith, length-drop entrySize f, length-drop entrySize g)))))
+    (λ d. subst (Says f g) (sym (compared-stops f g d)) (record { before = refl; there = d }))
+
+-- the same of an answer that is known
+answer-says : (f g : List ℕ) {r : Checked} → compared f g ≡ r → Says f g r
+answer-says f g e = subst (Says f g) e (says (length f + length g) f g (omega arith))
+
+-- a check accepts an index exactly where it is the one written afresh, and tells its records
+pub fits-exactly : (fresh given : List ℕ) → FitsExactly fresh given
+fits-exactly f g =
+    record {
+      accepts = λ e. accepted e (compared f g) refl;
+      only = λ n e. answer-says f g e .0;
+      counts = λ n e. answer-says f g e .1;
+    }
+  where
+    accepted : f ≡ g → (r : Checked) → compared f g ≡ r → (n : ℕ) × r ≡ Fits n
+    accepted e (Fits n) h = (n, refl)
+    accepted e (Differs k) h = absurd (answer-says f g h .there (ap (take (entrySize * (k + 1))) e))
+
+-- one that it does not accept is told by the first record that differs, is missing or is extra
+pub differs-first : (fresh given : List ℕ) → DiffersFirst fresh given
+differs-first f g k e = answer-says f g e
+
+-- ---- a check in parts
+
+-- nothing before
+later-none : (r : Checked) → later 0 r ≡ r
+later-none (Fits k) = ap Fits (omega arith)
+later-none (Differs k) = ap Differs (omega arith)
+
+-- one record more before both parts
+later-continued : (a r : Checked) → later 1 (continued a r) ≡ continued (later 1 a) r
+later-continued (Fits n) r = later-later 1 n r
+later-continued (Differs k) r = refl
+
+-- where the first parts are whole records of one number, an answer for all is theirs, and then that of what follows
+pub check-in-parts : CheckInParts
+check-in-parts zero [] f₂ [] g₂ a b =
+    sym (ap (λ (x : Checked). continued x (compared f₂ g₂)) (ends 0 0 [] [] refl) ∙ later-none (compared f₂ g₂))
+check-in-parts zero [] f₂ (y ∷ g) g₂ a b = absurd (omega arith)
+check-in-parts zero (x ∷ f) f₂ g g₂ a b = absurd (omega arith)
+check-in-parts (suc n) f f₂ g g₂ a b =
+    by-front f g (λ z. absurd (omega arith))
+    (λ p e. compared-more (f ++ f₂) (g ++ g₂) (omega (arith, length-append f f₂)) (fronts .0 ∙ e ∙ sym (fronts .1))
+    ∙ ap (later 1)
+    (rests ∙ check-in-parts n (drop entrySize f) f₂ (drop entrySize g) g₂ (omega (arith, length-drop entrySize f))
+    (omega (arith, length-drop entrySize g)))
+    ∙ later-continued (compared (drop entrySize f) (drop entrySize g)) (compared f₂ g₂)
+    ∙ sym (ap (λ (x : Checked). continued x (compared f₂ g₂)) (compared-more f g p e)))
+    (λ d. compared-stops (f ++ f₂) (g ++ g₂) (λ z. d (sym (fronts .0) ∙ z ∙ fronts .1))
+    ∙ sym (ap (λ (x : Checked). continued x (compared f₂ g₂)) (compared-stops f g d)))
+  where
+    fronts : (take entrySize (f ++ f₂) ≡ take entrySize f) × (take entrySize (g ++ g₂) ≡ take entrySize g)
+    fronts = (take-append-le entrySize f f₂ (omega arith), take-append-le entrySize g g₂ (omega arith))
+
+    rests : compared (drop entrySize (f ++ f₂)) (drop entrySize (g ++ g₂)) ≡ compared (drop entrySize f ++ f₂) (drop entrySize g ++ g₂)
+    rests = ap₂ compared (drop-append-le entrySize f f₂ (omega arith)) (drop-append-le entrySize g g₂ (omega arith))

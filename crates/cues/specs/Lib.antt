@@ -1,0 +1,3 @@
+pub mod Cues
+pub mod CodeCues
+pub mod Checks

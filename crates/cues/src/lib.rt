@@ -1,0 +1,12 @@
+// A cue index of a recording, frames of edition 2 end to end (Ticket 5): 16 bytes for each frame, up to the first that is not accepted.
+mod checked; // checked.rt: an index against another
+mod cue; // cue.rt: one frame, as it is judged for an index
+mod index; // index.rt: the frames of a buffer
+
+pub use checked::Checked;
+pub use checked::compare;
+pub use cue::Cue;
+pub use cue::cue_of;
+pub use index::End;
+pub use index::Indexed;
+pub use index::index_step;

@@ -1,0 +1,76 @@
+-- Examples, computed: a recording of three frames in four portions, one of them empty, which is cut inside the second frame; and one whose
+-- second frame is refused.
+use mathlib.Core.Path.{_≡_, refl}
+use mathlib.Core.List.{List, [], _∷_, _++_}
+use Prim.Native.Nat.{ℕ}
+use native.Mathlib.Omega.{arith}
+use Rattle.refusal.specs.declared.Fault.the-variants.{Short}
+use Rattle.refusal.specs.declared.Field.the-variants.{Address}
+use Rattle.refusal.specs.declared.Refusal.the-variants.{Unreadable}
+use Rattle.wire.specs.Number.{number, bytes}
+use Rattle.node.specs.Forest.{size, depth, snoc}
+use Rattle.node.specs.Tags.{classOf, sortOf}
+use Rattle.text.specs.Text.{readText}
+use Rattle.argument.specs.Argument.{readArg}
+use Rattle.arguments.specs.Arguments.{readTags}
+use Rattle.heads.specs.Heads.{lengthOf}
+use Rattle.packet.specs.FirstText.{startOf}
+use Rattle.packet.specs.Packet.{readMessage, packetBy, packetAt, readPacket}
+use Rattle.framing.specs.Framing.{cutFrame}
+use Rattle.cutting.specs.Cutting.{joinedBytes}
+use Rattle.cutting.proofs.Examples.{whole-number, text-front, text-rest, short}
+use Rattle.cues.specs.Cues.{cueOf, index, indexAt, indexOf, indexAnswer}
+use Rattle.cues.specs.declared.index.End.the-variants as end
+use Rattle.cues.specs.declared.index.Indexed.the-variants.{Written}
+use Rattle.recordings.specs.Recordings.{Buffered, EndToEnd, CueThere}
+use Rattle.recordings.proofs.AnyBuffers.{any-buffers}
+use Rattle.recordings.proofs.Lookup.{where-cues-lie, every-cue}
+
+-- a record of an index, of a frame of 12 bytes with 2 records
+abbrev entry : ℕ → List ℕ
+entry offset = 0 ∷ 0 ∷ 0 ∷ 0 ∷ 0 ∷ 0 ∷ 0 ∷ offset ∷ 0 ∷ 0 ∷ 0 ∷ 12 ∷ 0 ∷ 0 ∷ 0 ∷ 2 ∷ []
+
+-- ---- three frames
+
+abbrev three : List ℕ
+three = whole-number ++ (text-front ++ (text-rest ++ whole-number))
+
+three-index : indexOf 0 three ≡ index (entry 0 ++ (entry 16 ++ entry 32)) 48 end.Whole
+unfolding number bytes size depth snoc classOf sortOf readText readArg readTags startOf readMessage packetBy packetAt readPacket lengthOf
+    cutFrame cueOf indexAt
+three-index = refl
+
+-- the second frame waits in the third buffer, and is given in the fourth
+third-answer : indexAnswer 16 text-front 0 ≡ Written 0 0 end.Waiting
+unfolding number bytes size depth snoc classOf sortOf readText readArg readTags startOf readMessage packetBy packetAt readPacket lengthOf
+    cutFrame cueOf indexAt
+third-answer = refl
+
+fourth-answer : indexAnswer 16 (text-front ++ (text-rest ++ whole-number)) 32 ≡ Written 2 32 end.Whole
+unfolding number bytes size depth snoc classOf sortOf readText readArg readTags startOf readMessage packetBy packetAt readPacket lengthOf
+    cutFrame cueOf indexAt
+fourth-answer = refl
+
+three-buffers : Buffered 0 [] (whole-number ∷ [] ∷ text-front ∷ (text-rest ++ whole-number) ∷ [])
+    (index (entry 0 ++ (entry 16 ++ entry 32)) 48 end.Whole)
+unfolding joinedBytes
+three-buffers = rw three-index at (any-buffers (whole-number ∷ [] ∷ text-front ∷ (text-rest ++ whole-number) ∷ []) (omega arith))
+
+three-lie : EndToEnd 0 (entry 0 ++ (entry 16 ++ entry 32)) 48
+three-lie = where-cues-lie three _ 48 end.Whole (omega arith) three-index
+
+-- the second cue, looked up
+second-cue : CueThere three 16 12 2
+unfolding number
+second-cue = every-cue three (entry 0 ++ (entry 16 ++ entry 32)) 48 end.Whole (omega arith) three-index 1 (omega arith)
+
+-- ---- a frame that is refused, and what comes after it
+
+refused-index : indexOf 0 (whole-number ++ (short ++ whole-number)) ≡ index (entry 0) 16 (end.Refused (Unreadable (Short Address 4)))
+unfolding number bytes size depth snoc classOf sortOf readText readArg readTags startOf readMessage packetBy packetAt readPacket lengthOf
+    cutFrame cueOf indexAt
+refused-index = refl
+
+refused-buffers : Buffered 0 [] (whole-number ∷ short ∷ whole-number ∷ []) (index (entry 0) 16 (end.Refused (Unreadable (Short Address 4))))
+unfolding joinedBytes
+refused-buffers = rw refused-index at (any-buffers (whole-number ∷ short ∷ whole-number ∷ []) (omega arith))

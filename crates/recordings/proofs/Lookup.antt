@@ -1,0 +1,128 @@
+-- Ticket 5: the index determines where each cue lies, and a cue looked up in it is there.
+use mathlib.Core.Path.{_≡_, refl, ap, sym, subst, _∙_}
+use mathlib.Core.List.{List, [], _++_}
+use Prim.Native.Nat.{ℕ, zero, suc, _+_, _-_, _/_, _<_, _≤_}
+use native.Mathlib.Omega.{arith}
+use lib.ListN.{length, take, drop, length-drop}
+use lib.Seq.{drop-drop}
+use Rattle.wire.specs.Limits.{longest, deepest}
+use Rattle.framing.specs.Framing.{tcp2}
+use Rattle.answering.specs.Limits.{decoded}
+use Rattle.cues.specs.Cues.{longestRecording, cueOf, entrySize, entryOf, index}
+use Rattle.cues.specs.declared.cue.Cue.the-variants as cue
+use Rattle.cues.specs.declared.index.End.{End}
+use Rattle.recordings.specs.Recordings.{cueOffset, cueSize, cueRecords, EndToEnd, WhereCuesLie}
+use Rattle.recordings.specs.Recordings.{CueThere, EveryCue}
+use Rattle.cues.proofs.Cues.{CueIn}
+use Rattle.recordings.proofs.Cued.{Cued, whole, waits, refuses, given, cued}
+use Rattle.recordings.proofs.Alone.{CueAlone, cue-alone}
+use Rattle.recordings.proofs.Fields.{entries-more, first-offset, first-size, first-records, later-offset, later-size, later-records}
+
+-- ---- where the cues lie
+
+no-entries : (base : ℕ) → EndToEnd base [] base
+no-entries base =
+    record { first = λ h. absurd (omega arith); next = λ k h. absurd (omega arith); last = λ k h. absurd (omega arith); none = λ h. refl }
+
+module _ (base u c at : ℕ) (w : List ℕ) (low : 5 ≤ u) (high : base + u ≤ longestRecording) (short : u ≤ longest)
+    (r : EndToEnd (base + u) w at) where
+  abbrev all : List ℕ
+  all = entryOf base u c ++ w
+
+  starts : cueOffset all 0 ≡ base
+  starts = first-offset base u c w (omega arith)
+
+  stops : cueOffset all 0 + 4 + cueSize all 0 ≡ base + u
+  stops = let s = first-size base u c w (omega arith) in omega (arith, starts)
+
+  next-of : (k : ℕ) → suc k < length all / entrySize → cueOffset all (suc k) ≡ cueOffset all k + 4 + cueSize all k
+  next-of zero h = later-offset base u c w 0 ∙ r .first (omega (arith, entries-more base u c w)) ∙ sym stops
+  next-of (suc k) h =
+      omega (
+        arith,
+        later-offset base u c w (suc k),
+        later-offset base u c w k,
+        later-size base u c w k,
+        r .next k (omega (arith, entries-more base u c w)),
+      )
+
+  last-of : (k : ℕ) → suc k ≡ length all / entrySize → at ≡ cueOffset all k + 4 + cueSize all k
+  last-of zero h = r .none (omega (arith, entries-more base u c w)) ∙ sym stops
+  last-of (suc k) h =
+      omega (arith, later-offset base u c w k, later-size base u c w k, r .last k (omega (arith, entries-more base u c w)))
+
+  entry-first : EndToEnd base all at
+  entry-first =
+      record { first = λ h. starts; next = next-of; last = last-of; none = λ h. absurd (omega (arith, entries-more base u c w)) }
+
+cued-lie : {base at : ℕ} {l w : List ℕ} {why : End} → Cued base l (index w at why) → base + length l ≤ longestRecording
+    → EndToEnd base w at
+cued-lie {base} whole h = no-entries base
+cued-lie {base} (waits some e) h = no-entries base
+cued-lie {base} (refuses some e) h = no-entries base
+cued-lie {base} {at} {l} (given {u = u} {c = c} {w = w} some e s r) h =
+    entry-first base u c at w (s .0) (omega (arith, s .1)) (cue-alone l u c (s .1) e .short)
+    (cued-lie r (omega (arith, s .1, length-drop u l)))
+
+-- Ticket 5: the index determines where each cue lies
+pub where-cues-lie : WhereCuesLie
+where-cues-lie l w at why h e = cued-lie (subst (Cued 0 l) e (cued 0 l)) (omega arith)
+
+-- ---- a cue looked up
+
+-- a cue that is there, by other names of its numbers
+same-there : {l : List ℕ} {o n c : ℕ} (o' n' c' : ℕ) → o' ≡ o → n' ≡ n → c' ≡ c → CueThere l o n c → CueThere l o' n' c'
+same-there o' n' c' p q r t = rw (p, q, r) t
+
+-- a cue of what is left after u bytes
+there-later : (l : List ℕ) (u o o' n c : ℕ) → o' ≡ u + o → u ≤ length l → CueThere (drop u l) o n c → CueThere l o' n c
+there-later l u o o' n c e h t =
+    let same : drop o (drop u l) ≡ drop o' l = drop-drop o u l ∙ ap (λ (k : ℕ). drop k l) (sym e) in
+    record {
+      inside = omega (arith, t .inside, length-drop u l);
+      judged = ap (λ (m : List ℕ). cueOf (take (4 + n) m)) (sym same) ∙ t .judged;
+      few = t .few;
+      dirt = t .dirt;
+      decodes =
+          λ room k. ap (λ (m : List ℕ). decoded (tcp2 deepest) room deepest (take (4 + n) m)) (sym same) ∙ t .decodes room k;
+    }
+
+-- the first cue
+there-first : (l : List ℕ) (u c : ℕ) → CueIn (length l) (cue.Given u c) → CueAlone l u c → CueThere l 0 (u - 4) c
+there-first l u c s a =
+    let n : 4 + (u - 4) ≡ u = omega (arith, s .0) in
+    record {
+      inside = omega (arith, s .0, s .1);
+      judged = rw n (a .judged);
+      few = s .3;
+      dirt = a .dirt;
+      decodes = rw n (a .decodes);
+    }
+
+cued-there : {base at : ℕ} {l w : List ℕ} {why : End} → Cued base l (index w at why) → base + length l ≤ longestRecording
+    → (k : ℕ) → k < length w / entrySize
+    → (base ≤ cueOffset w k) × CueThere l (cueOffset w k - base) (cueSize w k) (cueRecords w k)
+cued-there whole h k g = absurd (omega arith)
+cued-there (waits some e) h k g = absurd (omega arith)
+cued-there (refuses some e) h k g = absurd (omega arith)
+cued-there {base} {at} {l} (given {u = u} {c = c} {w = w} some e s r) h zero g =
+    let a = cue-alone l u c (s .1) e in
+    let o = first-offset base u c w (omega (arith, s .1)) in (
+      omega arith,
+      same-there _ _ _ (omega arith) (first-size base u c w (omega (arith, a .short))) (first-records base u c w (omega (arith, s .3)))
+          (there-first l u c s a),
+    )
+cued-there {base} {at} {l} (given {u = u} {c = c} {w = w} some e s r) h (suc k) g =
+    let t = cued-there r (omega (arith, s .1, length-drop u l)) k (omega (arith, entries-more base u c w)) in
+    let o = later-offset base u c w k in
+    let low = t .0 in (
+      omega arith,
+      same-there _ _ _ refl (later-size base u c w k) (later-records base u c w k)
+          (there-later l u (cueOffset w k - (base + u)) _ _ _ (omega arith) (s .1) (t .1)),
+    )
+
+-- Ticket 5: what a record of the index says is there
+pub every-cue : EveryCue
+every-cue l w at why h e k g =
+    let t = cued-there (subst (Cued 0 l) e (cued 0 l)) (omega arith) k g in
+    same-there _ _ _ (omega arith) refl refl (t .1)
