@@ -12,7 +12,7 @@
 #define SENNORBAI_OSC_H
 
 /* The version of the library and of this header. */
-#define SENNORBAI_VERSION "0.11.0"
+#define SENNORBAI_VERSION "0.11.1"
 
 #include <stddef.h>
 #include <stdint.h>

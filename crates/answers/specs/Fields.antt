@@ -5,7 +5,7 @@ use mathlib.Core.Bool.{cond}
 use mathlib.Core.List.{List}
 use Prim.Native.Nat.{ℕ, _+_, _-_, _≤_, _<_}
 use lib.Dec.{eqb}
-use lib.ListN.{length, drop}
+use lib.ListN.{length, take, drop}
 use Rattle.refusal.specs.declared.Fault.{Fault}
 use Rattle.refusal.specs.declared.Fault.the-variants.{Empty, Short, NotUtf8, BadStart, NotOpen, UnknownTag, NotScalar}
 use Rattle.refusal.specs.declared.Refusal.the-variants.{Unreadable}
@@ -16,8 +16,8 @@ use Rattle.wire.specs.Pad.{padded}
 use Rattle.node.specs.declared.tags.Class.{Class}
 use Rattle.node.specs.declared.tags.Class.the-variants.{Four, Eight, Bare, Text as String, Blob, Scalar, Unknown}
 use Rattle.text.specs.Text.{untilNul}
-use Rattle.framing.specs.Framing.{Whole, tcpVec}
-use Rattle.answering.specs.declared.Decoded.the-variants.{Refused}
+use Rattle.framing.specs.Framing.{Whole, tcp2, tcpVec, tcpVec2}
+use Rattle.answering.specs.declared.Decoded.the-variants.{Refused, Stopped}
 use Rattle.answers.specs.Demands.{answerTo}
 
 -- no NUL stands from here on
@@ -66,3 +66,26 @@ FrameShort =
     (msg : List ℕ) (limit : ℕ) (table : List ℕ) (field : Field) (at : ℕ)
     → answerTo tcpVec limit msg table ≡ Refused (Unreadable (Short field at))
     → (frame : ℕ) × (frame ≤ at) × (frame ≤ length msg) × ShortIn (drop frame msg) 0 (Short field (at - frame))
+
+-- ---- edition 2, where "the length cuts the packet"
+
+-- l begins with a frame of edition 2 that is all there, and a field that begins after its prefix, in the frame or right at its end, is not
+-- all there within the frame, whatever follows it; 20 is of no such frame, since it ends at a multiple of 4, and 21 is of a time tag
+pub record CutShort (l : List ℕ) (field : Field) (at : ℕ) : Type 0 where
+  pub whole : 4 + number 4 l ≤ length l
+  pub prefixed : 4 ≤ at
+  pub short : ShortIn (take (4 + number 4 l) l) 0 (Short field at)
+  pub no-padding : field ≡ Padding → ⊥
+
+-- `decode_tcp` in edition 2 that refuses an input with 17 to 21: the field at the offset is not all there within the frame
+abbrev pub CutFieldsShort : Type 0
+CutFieldsShort =
+    (msg : List ℕ) (limit : ℕ) (table : List ℕ) (field : Field) (at : ℕ)
+    → answerTo (tcp2 limit) limit msg table ≡ Refused (Unreadable (Short field at)) → CutShort msg field at
+
+-- of a list of edition 2 that stops with 17 to 21 the same holds from the prefix of the frame at which it stops
+abbrev pub CutFrameShort : Type 0
+CutFrameShort =
+    (msg : List ℕ) (limit : ℕ) (table : List ℕ) (count left dirty : ℕ) (field : Field) (at frame : ℕ)
+    → answerTo (tcpVec2 limit) limit msg table ≡ Stopped count left dirty (Unreadable (Short field at)) frame
+    → (frame ≤ at) × CutShort (drop frame msg) field (at - frame)

@@ -15,7 +15,7 @@ pub use options::Options;
 pub use options::options_of;
 
 // The version of the program and of the library that it calls.
-pub const VERSION: [u8; 6] = *b"0.11.0";
+pub const VERSION: [u8; 6] = *b"0.11.1";
 
 // The first word.
 pub enum Command {

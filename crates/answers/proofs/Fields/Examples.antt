@@ -1,11 +1,11 @@
 -- Examples, computed, that meet the hypotheses of `fields-short-udp`, `fields-short-tcp` and `frame-field-short`: document 01's P2 and P13,
--- and a list whose second prefix is cut.
+-- and a list whose second prefix is cut; and of `cut-fields-short` and `cut-frame-short`: a frame whose address ends only after the frame.
 use mathlib.Core.Path.{_≡_, refl}
-use mathlib.Core.List.{List, [], _∷_}
+use mathlib.Core.List.{List, [], _∷_, _++_}
 use Prim.Native.Nat.{ℕ, _-_, _≤_}
 use lib.ListN.{length, drop}
 use Rattle.refusal.specs.declared.Fault.the-variants.{Short}
-use Rattle.refusal.specs.declared.Field.the-variants.{TypeText, Head}
+use Rattle.refusal.specs.declared.Field.the-variants.{Address, TypeText, Head}
 use Rattle.refusal.specs.declared.Refusal.the-variants.{Unreadable}
 use Rattle.wire.specs.Number.{number}
 use Rattle.node.specs.Forest.{size, depth, snoc}
@@ -14,16 +14,17 @@ use Rattle.text.specs.Text.{readText}
 use Rattle.argument.specs.Argument.{readArg}
 use Rattle.argument.specs.Dirt.{keptPadding, packetsPadding}
 use Rattle.arguments.specs.Arguments.{readTags}
-use Rattle.heads.specs.Heads.{sizeOf, prefixOf}
+use Rattle.heads.specs.Heads.{sizeOf, prefixOf, lengthOf}
 use Rattle.packet.specs.FirstText.{startOf}
 use Rattle.packet.specs.Packet.{readMessage, bundleBy, elementBy, elementsBy, packetBy, packetAt, readPacket}
-use Rattle.framing.specs.Framing.{udp, readFrame, tcp, framesAt, tcpVec}
+use Rattle.framing.specs.Framing.{udp, readFrame, cutFrame, tcp, tcp2, framesAt, tcpVec, tcpVec2}
 use Rattle.answering.specs.Limits.{decoded}
-use Rattle.answering.specs.declared.Decoded.the-variants.{Refused}
+use Rattle.answering.specs.declared.Decoded.the-variants.{Refused, Stopped}
 use Rattle.answers.specs.Demands.{answerTo}
-use Rattle.answers.specs.Fields.{ShortIn}
+use Rattle.answers.specs.Fields.{ShortIn, CutShort}
 use Rattle.answers.proofs.Room.Examples.{blank}
 use Rattle.answers.proofs.Fields.Told.{fields-short-udp, fields-short-tcp, frame-field-short}
+use Rattle.answers.proofs.Fields.Cut.{cut-fields-short, cut-frame-short}
 
 -- P2: 2F000000, with no type text
 abbrev p2 : List ℕ
@@ -60,3 +61,29 @@ cut-refused = refl
 
 cut-short : (frame : ℕ) × (frame ≤ 12) × (frame ≤ length cut-list) × ShortIn (drop frame cut-list) 0 (Short Head (12 - frame))
 cut-short = frame-field-short cut-list 64 (blank 1) Head 12 cut-refused
+
+-- ---- edition 2
+
+-- 00000004 2F616263, and a NUL only after the frame: 00000000
+abbrev short-frame : List ℕ
+short-frame = 0 ∷ 0 ∷ 0 ∷ 4 ∷ 0x2F ∷ 0x61 ∷ 0x62 ∷ 0x63 ∷ 0 ∷ 0 ∷ 0 ∷ 0 ∷ []
+
+frame-refused : answerTo (tcp2 64) 64 short-frame (blank 1) ≡ Refused (Unreadable (Short Address 4))
+unfolding number size depth snoc classOf sortOf readText readArg readTags startOf sizeOf lengthOf readMessage bundleBy elementBy elementsBy
+    packetBy packetAt readPacket cutFrame tcp2 decoded keptPadding packetsPadding
+frame-refused = refl
+
+frame-short : CutShort short-frame Address 4
+frame-short = cut-fields-short short-frame 64 (blank 1) Address 4 frame-refused
+
+-- the same frame after a message: 00000008 2F610000 2C000000
+abbrev stopping-list : List ℕ
+stopping-list = (0 ∷ 0 ∷ 0 ∷ 8 ∷ 0x2F ∷ 0x61 ∷ 0 ∷ 0 ∷ 0x2C ∷ 0 ∷ 0 ∷ 0 ∷ []) ++ short-frame
+
+list-stops : answerTo (tcpVec2 64) 64 stopping-list (blank 1) ≡ Stopped 1 12 0 (Unreadable (Short Address 16)) 12
+unfolding number size depth snoc classOf sortOf readText readArg readTags startOf sizeOf lengthOf readMessage bundleBy elementBy elementsBy
+    packetBy packetAt readPacket cutFrame framesAt tcpVec2 decoded keptPadding packetsPadding
+list-stops = refl
+
+list-short : (12 ≤ 16) × CutShort short-frame Address 4
+list-short = cut-frame-short stopping-list 64 (blank 1) 1 12 0 Address 16 12 list-stops

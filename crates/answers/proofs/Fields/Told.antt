@@ -12,6 +12,7 @@ use Rattle.refusal.specs.Refusal.{movedBy}
 use Rattle.refusal.specs.declared.Fault.{Fault}
 use Rattle.refusal.specs.declared.Fault.the-variants.{Empty, Short, NotUtf8, BadStart, NotOpen, UnknownTag, NotScalar}
 use Rattle.refusal.specs.declared.Field.{Field}
+use Rattle.refusal.specs.declared.Refusal.{Refusal}
 use Rattle.refusal.specs.declared.Refusal.the-variants.{Unreadable}
 use Rattle.refusal.specs.declared.Field.the-variants.{Address, TypeText, Data, Padding, Head}
 use Rattle.wire.specs.Number.{number}
@@ -49,6 +50,8 @@ use Rattle.framing.specs.Framing.{Whole, trees, waiting, refusal, stopped, sing
 use Rattle.framing.specs.Framing as frames
 use Rattle.framing.specs.Framing.{tcp, before, afterFrame, framesAt, refuses, tcpVec}
 use Rattle.framing.proofs.FrameKnot.{FrameIn, frame-in}
+use Rattle.answering.specs.declared.Decoded.the-variants.{Refused}
+use Rattle.answers.specs.Demands.{answerTo}
 use Rattle.answers.specs.Fields.{Endless, FieldShort, ShortIn, FieldsShort, FrameShort}
 use Rattle.answers.proofs.Longer.Faults.{read-refused}
 
@@ -61,7 +64,7 @@ here field l p s =
     (omega arith, omega arith, subst (λ (n : ℕ). FieldShort field p (drop n l)) (sym z) s)
 
 -- one that is short after n bytes
-further : (n : ℕ) (l : List ℕ) (p : ℕ) (k : Fault) → n ≤ length l → ShortIn (drop n l) (p + n) k → ShortIn l p k
+pub further : (n : ℕ) (l : List ℕ) (p : ℕ) (k : Fault) → n ≤ length l → ShortIn (drop n l) (p + n) k → ShortIn l p k
 further n l p Empty h s = tt
 further n l p (Short field at) h s =
     let e : n + (at - (p + n)) ≡ at - p = omega (arith, s .0) in (
@@ -158,9 +161,14 @@ tags-short base (t ∷ ts) l p frame below = act-short (sortOf t) _ base t l p f
 
 -- ---- packets
 
-abbrev OutShort : List ℕ → ℕ → Out → Type 0
-OutShort l p (fault k) = ShortIn l p k
-OutShort l p (one item inside used) = Unit {0}
+-- the fault that a packet is read as, if any, has P
+abbrev pub OutHas : (Fault → Type 0) → Out → Type 0
+OutHas P (fault k) = P k
+OutHas P (one item inside used) = Unit {0}
+
+-- it tells of a field that is short
+abbrev pub OutShort : List ℕ → ℕ → Out → Type 0
+OutShort l p = OutHas (ShortIn l p)
 
 after-short : (n : ℕ) (l : List ℕ) (p : ℕ) (o : Out) → n ≤ length l → OutShort (drop n l) (p + n) o → OutShort l p (after n o)
 after-short n l p (fault k) h s = further n l p k h s
@@ -226,114 +234,80 @@ packet-short base l p = subst (OutShort l p) (sym (packet-eq base l p)) (by-star
 
 -- ---- whole inputs
 
-abbrev FrameHas : List ℕ → Frame → Type 0
-FrameHas l wait = Unit {0}
-FrameHas l (read o) = OutShort l 0 o
-FrameHas l (frames.refused r) = (k : Fault) → r ≡ Unreadable k → ⊥
+-- the fault that a frame is read as, if any, has P; why a frame of edition 2 is refused is no fault
+abbrev pub FrameHas : (Fault → Type 0) → Frame → Type 0
+FrameHas P wait = Unit {0}
+FrameHas P (read o) = OutHas P o
+FrameHas P (frames.refused r) = (k : Fault) → r ≡ Unreadable k → ⊥
 
-frame-short : (base : ℕ) (l : List ℕ) → FrameHas l (readFrame base l)
+frame-short : (base : ℕ) (l : List ℕ) → FrameHas (ShortIn l 0) (readFrame base l)
 unfolding readFrame prefixOf
 frame-short base l =
-    by-le (λ x. FrameHas l (frameWith base l x)) 4 (length l)
-    (λ h. by-le (λ x. FrameHas l (frameWith base l x)) (number 4 l) (length l)
+    by-le (λ x. FrameHas (ShortIn l 0) (frameWith base l x)) 4 (length l)
+    (λ h. by-le (λ x. FrameHas (ShortIn l 0) (frameWith base l x)) (number 4 l) (length l)
     (λ k. after-short 4 l 0 (readPacket base (drop 4 l) 4) h (packet-short base (drop 4 l) 4))
     (λ k. tt))
     (λ h. here Head l 0 (omega arith))
 
-abbrev WholeShort : List ℕ → Whole → Type 0
-WholeShort l (trees f left) = Unit {0}
-WholeShort l waiting = Unit {0}
-WholeShort l (refusal r) = (k : Fault) → r ≡ Unreadable k → ShortIn l 0 k
-WholeShort l (stopped f left k at) = Unit {0}
+-- the fault that an input of one packet is read as, if any, has P
+abbrev WholeHas : (Fault → Type 0) → Whole → Type 0
+WholeHas P (trees f left) = Unit {0}
+WholeHas P waiting = Unit {0}
+WholeHas P (refusal r) = (k : Fault) → r ≡ Unreadable k → P k
+WholeHas P (stopped f left k at) = Unit {0}
 
-single-short : (n : ℕ) (l : List ℕ) (o : Out) → OutShort l 0 o → WholeShort l (single n o)
-single-short n l (fault k) s = λ j e. let same : k ≡ j = cc in subst (ShortIn l 0) same s
-single-short n l (one item inside used) s = tt
+single-has : (P : Fault → Type 0) (n : ℕ) (o : Out) → OutHas P o → WholeHas P (single n o)
+single-has P n (fault k) s = λ j e. let same : k ≡ j = cc in subst P same s
+single-has P n (one item inside used) s = tt
 
-first-short : (n : ℕ) (l : List ℕ) (x : Frame) → FrameHas l x → WholeShort l (first n x)
-first-short n l wait s = tt
-first-short n l (read o) s = single-short n l o s
-first-short n l (frames.refused r) s = λ k e. absurd (s k e)
+-- of an input of one frame it is the frame's
+pub first-has : (P : Fault → Type 0) (n : ℕ) (x : Frame) → FrameHas P x → WholeHas P (first n x)
+first-has P n wait s = tt
+first-has P n (read o) s = single-has P n o s
+first-has P n (frames.refused r) s = λ k e. absurd (s k e)
 
-module _ (rule : List ℕ → Whole) (short : (msg : List ℕ) → WholeShort msg (rule msg)) where
-  fields-short : FieldsShort rule
-  fields-short msg limit table field at e = subst (WholeShort msg) (read-refused rule (capacity table) limit msg e) (short msg) _ refl
+-- the fault that a call tells of is the one that its input is read as
+pub told-has : {k : Fault} (P : Fault → Type 0) (rule : List ℕ → Whole) (limit : ℕ) (msg table : List ℕ) → WholeHas P (rule msg)
+    → answerTo rule limit msg table ≡ Refused (Unreadable k) → P k
+told-has {k} P rule limit msg table h e = subst (WholeHas P) (read-refused rule (capacity table) limit msg e) h k refl
 
 -- the field that `decode_udp` tells of is not all there
 pub fields-short-udp : FieldsShort udp
 unfolding udp
-fields-short-udp = fields-short udp (λ msg. single-short (length msg) msg (readPacket 0 msg 0) (packet-short 0 msg 0))
+fields-short-udp msg limit table field at =
+    told-has (ShortIn msg 0) udp limit msg table (single-has (ShortIn msg 0) (length msg) (readPacket 0 msg 0) (packet-short 0 msg 0))
 
 -- and the one that `decode_tcp` tells of
 pub fields-short-tcp : FieldsShort tcp
 unfolding tcp
-fields-short-tcp = fields-short tcp (λ msg. first-short (length msg) msg (readFrame 0 msg) (frame-short 0 msg))
+fields-short-tcp msg limit table field at =
+    told-has (ShortIn msg 0) tcp limit msg table (first-has (ShortIn msg 0) (length msg) (readFrame 0 msg) (frame-short 0 msg))
 
 -- ---- lists
 
--- a fault of the list l that stands at offset `base`: its frame, and the fault from the frame's prefix on
-record InFrame (l : List ℕ) (base : ℕ) (k : Fault) : Type 0 where
-  frame : ℕ
-  within : frame ≤ length l
-  own : Fault
-  moved : k ≡ movedBy (base + frame) own
-  short : ShortIn (drop frame l) 0 own
-
-abbrev ListShort : List ℕ → ℕ → Whole → Type 0
-ListShort l base (trees f left) = Unit {0}
-ListShort l base waiting = Unit {0}
-ListShort l base (refusal r) = (k : Fault) → r ≡ Unreadable k → InFrame l base k
-ListShort l base (stopped f left k at) = Unit {0}
-
-before-short : (item : Item) (f : Forest) (used base : ℕ) (l : List ℕ) (w : Whole) → used ≤ length l
-    → ListShort (drop used l) (base + used) w → ListShort l base (before item f w)
-before-short item f used base l (trees g left) h s = tt
-before-short item f used base l waiting h s = tt
-before-short item f used base l (stopped g left k at) h s = tt
-before-short item f used base l (refusal r) h w = λ k e.
-    let s = w k e in
-    let sum : base + used + s .frame ≡ base + (used + s .frame) = omega arith in
-    record {
-      frame = used + s .frame;
-      within = omega (arith, s .within, length-drop used l);
-      own = s .own;
-      moved = s .moved ∙ ap (λ (n : ℕ). movedBy n (s .own)) sum;
-      short = subst (λ (m : List ℕ). ShortIn m 0 (s .own)) (drop-drop (s .frame) used l) (s .short);
-    }
-
-after-frame-short : (go : ℕ → List ℕ → Whole) (base : ℕ) (l : List ℕ) (x : Frame) → FrameIn (length l) x → FrameHas l x
-    → ((q : ℕ) (m : List ℕ) → length m < length l → ListShort m q (go q m)) → ListShort l base (afterFrame refuses go base l x)
-after-frame-short go base l wait w s h = tt
-after-frame-short go base l (frames.refused r) w s h = λ k e. absurd (s k e)
-after-frame-short go base l (read (fault k)) w s h = λ j e.
-    let z : base + 0 ≡ base = omega arith in
-    let same : j ≡ movedBy base k = cc in
-    record { frame = 0; within = omega arith; own = k; moved = same ∙ ap (λ (m : ℕ). movedBy m k) (sym z); short = s }
-after-frame-short go base l (read (one item f used)) w s h =
-    by-le (ListShort l base) (length l) used (λ g. tt)
-    (λ g. before-short item f used base l (go (base + used) (drop used l)) (omega arith)
-    (h (base + used) (drop used l) (omega (arith, length-drop used l))))
-
-frames-short : (n base : ℕ) (l : List ℕ) → length l < n → ListShort l base (framesAt (λ b m. readFrame b m) refuses n base l)
-unfolding framesAt
-frames-short zero base l h = absurd (omega arith)
-frames-short (suc n) base l h =
-    after-frame-short (λ b m. framesAt (λ c k. readFrame c k) refuses n b m) base l (readFrame base l) (frame-in base l)
-    (frame-short base l)
-    (λ q m g. frames-short n q m (omega arith))
+-- a fault k of the list l, which stands at offset `base`: it is that of the frame at offset `at`, whose own fault, told from its prefix
+-- on, is as Has says of the bytes from there on
+pub record InFrame (Has : List ℕ → Fault → Type 0) (l : List ℕ) (base at : ℕ) (k : Fault) : Type 0 where
+  pub skipped : ℕ
+  pub offset : at ≡ base + skipped
+  pub within : skipped ≤ length l
+  pub own : Fault
+  pub moved : k ≡ movedBy at own
+  pub has : Has (drop skipped l) own
 
 -- the field of a list's frame is the one that the list tells of
-from-frame : (msg : List ℕ) (field : Field) (at : ℕ) → InFrame msg 0 (Short field at)
-    → (frame : ℕ) × (frame ≤ at) × (frame ≤ length msg) × ShortIn (drop frame msg) 0 (Short field (at - frame))
-from-frame msg field at s = by-own (s .own) (s .moved) (s .short)
+pub own-field : {frame at : ℕ} {field : Field} (Has : List ℕ → Fault → Type 0) (msg : List ℕ) → InFrame Has msg 0 frame (Short field at)
+    → (frame ≤ at) × (frame ≤ length msg) × Has (drop frame msg) (Short field (at - frame))
+own-field {frame} {at} {field} Has msg s = by-own (s .own) (s .moved) (s .has)
   where
-    by-own : (k : Fault) → Short field at ≡ movedBy (0 + s .frame) k → ShortIn (drop (s .frame) msg) 0 k
-        → (frame : ℕ) × (frame ≤ at) × (frame ≤ length msg) × ShortIn (drop frame msg) 0 (Short field (at - frame))
+    by-own : (k : Fault) → Short field at ≡ movedBy frame k → Has (drop (s .skipped) msg) k
+        → (frame ≤ at) × (frame ≤ length msg) × Has (drop frame msg) (Short field (at - frame))
     by-own (Short g b) e t =
         let same : field ≡ g = cc in
-        let sum : at ≡ 0 + s .frame + b = cc in
-        let rest : at - s .frame ≡ b = omega arith in
-        (s .frame, omega arith, s .within, rw (same, rest) t)
+        let sum : at ≡ frame + b = cc in
+        let rest : at - frame ≡ b = omega arith in
+        let front : frame ≡ s .skipped = omega (arith, s .offset) in
+        (omega arith, omega (arith, s .within), rw (same, rest, front) t)
     by-own Empty e t = let z : _≡_ {A = ℕ} 0 1 = cc in absurd (omega arith)
     by-own NotUtf8 e t = let z : _≡_ {A = ℕ} 0 1 = cc in absurd (omega arith)
     by-own BadStart e t = let z : _≡_ {A = ℕ} 0 1 = cc in absurd (omega arith)
@@ -341,10 +315,71 @@ from-frame msg field at s = by-own (s .own) (s .moved) (s .short)
     by-own UnknownTag e t = let z : _≡_ {A = ℕ} 0 1 = cc in absurd (omega arith)
     by-own NotScalar e t = let z : _≡_ {A = ℕ} 0 1 = cc in absurd (omega arith)
 
+module _ (Has : List ℕ → Fault → Type 0) where
+  -- the fault that a list is read as, if any, is of one of its frames: in edition 2 of the one at which the list stops
+  abbrev pub ListHas : List ℕ → ℕ → Whole → Type 0
+  ListHas l base (trees f left) = Unit {0}
+  ListHas l base waiting = Unit {0}
+  ListHas l base (refusal r) = (k : Fault) → r ≡ Unreadable k → (at : ℕ) × InFrame Has l base at k
+  ListHas l base (stopped f left r at) = (k : Fault) → r ≡ Unreadable k → InFrame Has l base at k
+
+  at-front : {k : Fault} (base : ℕ) (l : List ℕ) (own : Fault) → k ≡ movedBy base own → Has l own → InFrame Has l base base k
+  at-front base l own e s = record { skipped = 0; offset = omega arith; within = omega arith; own = own; moved = e; has = s }
+
+  passed : {at : ℕ} {k : Fault} (used base : ℕ) (l : List ℕ) → used ≤ length l → InFrame Has (drop used l) (base + used) at k
+      → InFrame Has l base at k
+  passed used base l h s =
+      record {
+        skipped = used + s .skipped;
+        offset = omega (arith, s .offset);
+        within = omega (arith, s .within, length-drop used l);
+        own = s .own;
+        moved = s .moved;
+        has = subst (λ (m : List ℕ). Has m (s .own)) (drop-drop (s .skipped) used l) (s .has);
+      }
+
+  before-has : (item : Item) (f : Forest) (used base : ℕ) (l : List ℕ) (w : Whole) → used ≤ length l
+      → ListHas (drop used l) (base + used) w → ListHas l base (before item f w)
+  before-has item f used base l (trees g left) h s = tt
+  before-has item f used base l waiting h s = tt
+  before-has item f used base l (refusal r) h s = λ k e. let w = s k e in (w .0, passed used base l h (w .1))
+  before-has item f used base l (stopped g left r at) h s = λ k e. passed used base l h (s k e)
+
+  -- what a refused frame makes of a list tells of that frame
+  abbrev pub Stopping : (ℕ → ℕ → Refusal → Whole) → Type 0
+  Stopping stop =
+      (base : ℕ) (l : List ℕ) (r : Refusal) → ((k : Fault) → r ≡ Unreadable k → InFrame Has l base base k)
+      → ListHas l base (stop base (length l) r)
+
+  module _ (stop : ℕ → ℕ → Refusal → Whole) (stopping : Stopping stop) where
+    after-frame-has : (go : ℕ → List ℕ → Whole) (base : ℕ) (l : List ℕ) (x : Frame) → FrameIn (length l) x → FrameHas (Has l) x
+        → ((q : ℕ) (m : List ℕ) → length m < length l → ListHas m q (go q m)) → ListHas l base (afterFrame stop go base l x)
+    after-frame-has go base l wait w s h = tt
+    after-frame-has go base l (frames.refused r) w s h = stopping base l r (λ k e. absurd (s k e))
+    after-frame-has go base l (read (fault k)) w s h =
+        stopping base l (Unreadable (movedBy base k)) (λ j e. let same : j ≡ movedBy base k = cc in at-front base l k same s)
+    after-frame-has go base l (read (one item f used)) w s h =
+        by-le (ListHas l base) (length l) used (λ g. tt)
+        (λ g. before-has item f used base l (go (base + used) (drop used l)) (omega arith)
+        (h (base + used) (drop used l) (omega (arith, length-drop used l))))
+
+    -- where the fault of each frame is as Has says, so is that of a list of them
+    pub frames-has : (frame : ℕ → List ℕ → Frame) → ((b : ℕ) (m : List ℕ) → FrameIn (length m) (frame b m))
+        → ((b : ℕ) (m : List ℕ) → FrameHas (Has m) (frame b m)) → (n base : ℕ) (l : List ℕ) → length l < n
+        → ListHas l base (framesAt frame stop n base l)
+    unfolding framesAt
+    frames-has frame inside has zero base l h = absurd (omega arith)
+    frames-has frame inside has (suc n) base l h =
+        after-frame-has (λ b m. framesAt frame stop n b m) base l (frame base l) (inside base l) (has base l)
+        (λ q m g. frames-has frame inside has n q m (omega arith))
+
 -- and the one that `decode_tcp_vec` tells of, from its frame on
 pub frame-field-short : FrameShort
 unfolding tcpVec
 frame-field-short msg limit table field at e =
-    from-frame msg field at
-    (subst (ListShort msg 0) (read-refused tcpVec (capacity table) limit msg e)
-    (frames-short (suc (length msg)) 0 msg (omega arith)) _ refl)
+    let Has : List ℕ → Fault → Type 0 = λ l. ShortIn l 0 in
+    let list = frames-has Has refuses (λ base l r h k g. (base, h k g)) (λ b m. readFrame b m) frame-in frame-short (suc (length msg)) 0 msg
+    (omega arith) in
+    let w = subst (ListHas Has msg 0) (read-refused tcpVec (capacity table) limit msg e) list (Short field at) refl in
+    let own = own-field Has msg (w .1) in
+    (w .0, own .0, own .1, own .2)
