@@ -578,6 +578,143 @@ static void portions(void) {
     free(table);
 }
 
+/* A step over `hex`, which stands at `base`, writes this index, uses so many bytes and tells this beside it. The output has room for a
+ * byte more. */
+static void indexes(const char *name, const char *hex, uint64_t base, const char *due, size_t used, uint64_t beside) {
+    uint8_t bytes[256], index[256];
+    size_t n = bytes_of(hex, bytes), size = bytes_of(due, index);
+    uint8_t *msg = copy(bytes, n), *out = blank(size + 1);
+    uint64_t more = 0xAAAAAAAAAAAAAAAAu, answer = osc_index_step(msg, n, base, out, size + 1, &more);
+    same(name, answer, (uint64_t)(size / OSC_ENTRY) << 32 | used);
+    same(name, more, beside);
+    holds(name, out, size + 1, index, size);
+    if (size) {
+        memset(out, 0xAA, size);
+        same(name, osc_index_step(msg, n, base, out, size - 1, &more), (uint64_t)OSC_OUTPUT_SHORT << 56);
+        same(name, more, 0);
+        holds(name, out, size, index, 0);
+    }
+    same(name, osc_index_check_step(index, size, index, size, 7), 7 + size / OSC_ENTRY);
+    free(msg);
+    free(out);
+}
+
+/* `given` differs from the index `fresh` at this record, where the first is number 5. */
+static void differs(const char *name, const char *fresh, const char *given, uint64_t record) {
+    uint8_t a[256], b[256];
+    size_t n = bytes_of(fresh, a), m = bytes_of(given, b);
+    uint8_t *p = copy(a, n), *q = copy(b, m);
+    uint64_t answer = osc_index_check_step(p, n, q, m, 5);
+    same(name, osc_refusal(answer), OSC_INDEX_DIFFERS);
+    same(name, osc_record(answer), 5 + record);
+    free(p);
+    free(q);
+}
+
+/* Record k of an index is a cue with these numbers, or is refused. */
+static void cue(const char *name, const char *hex, uint64_t k, unsigned refusal, uint64_t at, uint32_t length, uint32_t records) {
+    uint8_t bytes[256];
+    size_t n = bytes_of(hex, bytes);
+    uint8_t *index = copy(bytes, n);
+    uint64_t offset = 0xAAAAAAAAAAAAAAAAu, answer = osc_cue(index, n, k, &offset);
+    same(name, osc_refusal(answer), refusal);
+    same(name, offset, at);
+    same(name, osc_cue_length(answer), length);
+    same(name, osc_count(answer), records);
+    free(index);
+}
+
+/* A recording in a file: so many of the shortest frames, and one that has no packet. Answers how many bytes stand before that. */
+static size_t write_recording(FILE *recording, size_t many) {
+    static const uint8_t shortest[12] = {0, 0, 0, 8, '/', 0, 0, 0, ',', 0, 0, 0}, none[4] = {0, 0, 0, 0};
+    size_t i, written = 0;
+    for (i = 0; i < many; i++) written += fwrite(shortest, sizeof shortest, 1, recording);
+    written += fwrite(none, sizeof none, 1, recording);
+    same("a recording", written, many + 1);
+    rewind(recording);
+    return many * sizeof shortest;
+}
+
+/* The entry of such a frame. */
+static void entry_of(size_t k, uint8_t *to) {
+    int i;
+    uint64_t at = (uint64_t)12 * k;
+    memset(to, 0, OSC_ENTRY);
+    for (i = 0; i < 8; i++) to[i] = (uint8_t)(at >> (56 - 8 * i));
+    to[11] = 8;
+    to[15] = 1;
+}
+
+/* The index of a recording through files, as the header's loop writes it; then its check, record by record. */
+static void index_of_files(size_t many) {
+    static uint8_t buffer[OSC_LONGEST], out[5461 * OSC_ENTRY], due[OSC_ENTRY];
+    FILE *recording = tmpfile(), *index = tmpfile();
+    size_t got, kept = 0, k, end;
+    uint64_t answer, more = 0, base = 0, record = 0;
+    if (!recording || !index) exit(2);
+    end = write_recording(recording, many);
+    while ((got = fread(buffer + kept, 1, sizeof buffer - kept, recording)) > 0) {
+        answer = osc_index_step(buffer, kept + got, base, out, sizeof out, &more);
+        if (osc_refusal(answer)) break;
+        same("an index in a file", fwrite(out, OSC_ENTRY, osc_count(answer), index), osc_count(answer));
+        base += osc_used(answer);
+        if (osc_ended(more)) break;
+        kept = kept + got - osc_used(answer);
+        memmove(buffer, buffer + osc_used(answer), kept);
+    }
+    same("where an index goes no further", base, end);
+    same("why an index goes no further", osc_ended(more), OSC_EMPTY);
+    rewind(index);
+    for (k = 0; record == k && fread(out, OSC_ENTRY, 1, index) == 1; k++) {
+        entry_of(k, due);
+        record = osc_index_check_step(due, OSC_ENTRY, out, OSC_ENTRY, record);
+    }
+    same("the entries in a file", record, many);
+    same("the entries in a file", k, many);
+    fclose(recording);
+    fclose(index);
+}
+
+/* A cue index of a recording. */
+#define FIRST_ENTRY "0000000000000000 00000008 00000001"
+#define SECOND_ENTRY "000000000000000C 00000010 00000001"
+static void cues(void) {
+    uint8_t *msg = blank(65536), *out = blank(OSC_ENTRY);
+    uint64_t more = 0xAAAAAAAAAAAAAAAAu;
+    const uint64_t far = (uint64_t)1 << 55;
+    indexes("an index of no bytes", "", 0, "", 0, 0);
+    indexes("an index of two frames", PLAIN_FRAME BUNDLE_FRAME, 0, FIRST_ENTRY SECOND_ENTRY, 32, 0);
+    indexes("a step further on", PLAIN_FRAME, 0x123456789ABCDEF0u, "123456789ABCDEF0 00000008 00000001", 12, 0);
+    indexes("a frame that is not all there", PLAIN_FRAME "00000008 2F61", 0, FIRST_ENTRY, 12, 1);
+    indexes("a prefix that is not all there", "000000", 0, "", 0, 1);
+    indexes("a refused frame", PLAIN_FRAME "00000004 2F616263" PLAIN_FRAME, 0, FIRST_ENTRY, 12, (uint64_t)OSC_SHORT_ADDRESS << 48);
+    indexes("a length of 65,532", "0000FFFC", 0, "", 0, (uint64_t)OSC_TOO_LONG << 48);
+    same("a recording of 2^63 bytes", osc_index_step(msg, 1, 0x7FFFFFFFFFFFFFFFu, out, OSC_ENTRY, &more), (uint64_t)OSC_TOO_LONG << 56);
+    same("a recording of 2^63 bytes", more, 0);
+    same("a recording of 2^63 - 1 bytes", osc_index_step(msg, 1, 0x7FFFFFFFFFFFFFFEu, out, OSC_ENTRY, &more), 0);
+    same("a recording of 2^63 - 1 bytes", (uint64_t)osc_waits(more), 1);
+    same("an index of 65,536 bytes", osc_index_step(msg, 65536, 0, out, OSC_ENTRY, &more), (uint64_t)OSC_TOO_LONG << 56);
+    holds("an index of 65,536 bytes", out, OSC_ENTRY, msg, 0);
+    differs("a record that differs", FIRST_ENTRY SECOND_ENTRY, FIRST_ENTRY "000000000000000C 00000010 00000002", 1);
+    differs("a record that is missing", FIRST_ENTRY SECOND_ENTRY, FIRST_ENTRY, 1);
+    differs("a part of a record", FIRST_ENTRY SECOND_ENTRY, FIRST_ENTRY "000000000000000C 00000010 000000", 1);
+    differs("a record too many", FIRST_ENTRY, FIRST_ENTRY SECOND_ENTRY, 1);
+    differs("a byte too many", "", "00", 0);
+    same("record 2^55", osc_index_check_step(msg, 0, msg, 0, far), (uint64_t)OSC_TOO_LONG << 56);
+    same("record 2^55 - 1", osc_index_check_step(msg, 16, msg, 16, far - 1), far);
+    cue("the first cue", FIRST_ENTRY SECOND_ENTRY, 0, 0, 0, 8, 1);
+    cue("the second cue", FIRST_ENTRY SECOND_ENTRY, 1, 0, 12, 16, 1);
+    cue("no third cue", FIRST_ENTRY SECOND_ENTRY "00", 2, OSC_BAD_TABLE, 0, 0, 0);
+    cue("cue 2^60", FIRST_ENTRY SECOND_ENTRY, (uint64_t)1 << 60, OSC_BAD_TABLE, 0, 0, 0);
+    cue("the largest numbers", "FFFFFFFFFFFFFFFF FFFFFFFF 00FFFFFF", 0, 0, 0xFFFFFFFFFFFFFFFFu, 0xFFFFFFFFu, 0xFFFFFFu);
+    cue("2^24 records", "000000000000000C 00000010 01000000", 0, OSC_BAD_TABLE, 0, 0, 0);
+    index_of_files(0);
+    index_of_files(5461);
+    index_of_files(12000);
+    free(msg);
+    free(out);
+}
+
 static void encoders(void) {
     encodes("five", 0, FIVE_TABLE, 2, "/a", 12, 0, FIVE);
     encodes("five, with room", 0, FIVE_TABLE, 2, "/a", 15, 0, FIVE);
@@ -630,6 +767,7 @@ int main(void) {
     frames2();
     lists2();
     portions();
+    cues();
     encoders();
     leaves();
     printf("%d passed, %d failed\n", passed, failed);

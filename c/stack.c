@@ -19,10 +19,10 @@ static const uint8_t source[] = "/\303\251";
 
 /* ---- a call, on a stack of its own */
 
-enum call { UDP, TCP, TCP_VEC, TCP2, TCP_VEC2, PORTION, ENCODE, ENCODE_TCP, ENCODE_TCP2, STRING, LOOK, START, PAD };
+enum call { UDP, TCP, TCP_VEC, TCP2, TCP_VEC2, PORTION, INDEX, ENCODE, ENCODE_TCP, ENCODE_TCP2, STRING, CHECK, LOOK, START, CUE, PAD };
 
-static const char *const names[] = {"udp",    "tcp",        "tcp_vec",     "tcp2",   "tcp_vec2", "portion",
-                                    "encode", "encode_tcp", "encode_tcp2", "string", "look",     "start", "pad"};
+static const char *const names[] = {"udp",        "tcp",         "tcp_vec", "tcp2",  "tcp_vec2", "portion", "index", "encode",
+                                    "encode_tcp", "encode_tcp2", "string",  "check", "look",     "start",   "cue",   "pad"};
 
 /* The call that the thread makes: n is the length of its input, or its number. */
 static struct {
@@ -45,12 +45,15 @@ static uint64_t once(enum call call, uint64_t n) {
     case TCP2: return osc_decode_tcp2(msg, n, table, sizeof table, 64, more);
     case TCP_VEC2: return osc_decode_tcp_vec2(msg, n, table, sizeof table, 64, more);
     case PORTION: return osc_read_portion(msg, n, table, sizeof table, 64, more);
+    case INDEX: return osc_index_step(msg, n, (uint64_t)1 << 40, table, sizeof table, more);
     case ENCODE: return osc_encode(table, sizeof table, n, source, 3, out, sizeof out);
     case ENCODE_TCP: return osc_encode_tcp(table, sizeof table, n, source, 3, out, sizeof out);
     case ENCODE_TCP2: return osc_encode_tcp2(table, sizeof table, n, source, 3, out, sizeof out);
     case STRING: return osc_encode_string(msg, n, out, sizeof out);
+    case CHECK: return osc_index_check_step(out, sizeof out, msg, n, (uint64_t)1 << 40);
     case LOOK: return osc_look(table, sizeof table, n);
     case START: return osc_start(table, sizeof table, n);
+    case CUE: return osc_cue(table, sizeof table, n, more);
     default: return osc_pad(n);
     }
 }
@@ -62,7 +65,7 @@ static void *work(void *unused) {
     return unused;
 }
 
-/* Makes a call on the stack; its refusal, or that of the frame that ends its stream, is to be `due`. */
+/* Makes a call on the stack; its refusal, or that of the frame that ends its stream or index, is to be `due`. */
 static void run(const char *name, enum call call, uint64_t n, unsigned due) {
     pthread_attr_t attributes;
     pthread_t thread;
@@ -78,7 +81,7 @@ static void run(const char *name, enum call call, uint64_t n, unsigned due) {
         most_name = name;
     }
     unsigned refusal = call == PAD ? 0 : osc_refusal(asked.answer);
-    if (call == PORTION && !refusal) refusal = osc_ended(asked.more);
+    if ((call == PORTION || call == INDEX) && !refusal) refusal = osc_ended(asked.more);
     printf("%-34s %-11s %5llu: refusal %2u, count %5u, left, used or written %5u, stack %6zu, %8.0f us%s\n", name, names[call],
            (unsigned long long)n, refusal, osc_count(asked.answer), osc_left(asked.answer), size - left, asked.us,
            refusal == due ? "" : ": NOT WHAT IS DUE");
@@ -156,9 +159,10 @@ static void packet(const char *name, enum call call, size_t n, unsigned due) {
     run(name, call, n, due);
 }
 
+/* What a decoder is given, and the step that writes an index, which takes fewer records of a frame. */
 static void decode(enum call call) {
     size_t from = call == UDP ? 0 : 4, n;
-    packet("a bundle of messages", call, behaved(from), 0);
+    packet("a bundle of messages", call, behaved(from), call == INDEX ? OSC_TABLE_FULL : 0);
     packet("64 nested bundles", call, bundles(from, 64, 0), 0);
     packet("3,276 nested bundles", call, bundles(from, 3276, 0), OSC_TOO_DEEP);
     n = bundles(from, 3276, 0);
@@ -187,11 +191,14 @@ static void lists(void) {
     run("frames end to end", TCP_VEC, frames(8), 0);
     run("frames end to end", TCP_VEC2, frames(8), 0);
     run("frames end to end", PORTION, frames(8), 0);
+    run("frames end to end", INDEX, frames(8), 0);
     run("the last of them unfinished", PORTION, frames(12), 0);
+    run("the last of them unfinished", INDEX, frames(12), 0);
     run("the last of them of an odd length", TCP_VEC, frames(6), 0);
     run("the last of them of an odd length", TCP_VEC2, frames(6), OSC_ODD_LENGTH);
     run("the last of them too long", TCP_VEC2, frames(0xFFFFFFFC), OSC_TOO_LONG);
     run("the last of them too long", PORTION, frames(0xFFFFFFFC), OSC_TOO_LONG);
+    run("the last of them too long", INDEX, frames(0xFFFFFFFC), OSC_TOO_LONG);
 }
 
 /* ---- tables of encoders, in `table` */
@@ -254,6 +261,12 @@ static void others(void) {
     run("a record past the last", LOOK, 65536, OSC_BAD_TABLE);
     run("a record past the last", START, 65536, OSC_BAD_TABLE);
     run("a position", PAD, 65533, 0);
+    memset(table, 0, sizeof table);
+    run("the last cue", CUE, sizeof table / OSC_ENTRY - 1, 0);
+    run("a cue past the last", CUE, sizeof table / OSC_ENTRY, OSC_BAD_TABLE);
+    memcpy(msg, out, sizeof msg);
+    run("an index of 65,536 bytes", CHECK, sizeof msg, 0);
+    run("the same with a byte too few", CHECK, sizeof msg - 1, OSC_INDEX_DIFFERS);
 }
 
 int main(int argc, char **argv) {
@@ -261,7 +274,7 @@ int main(int argc, char **argv) {
     uint8_t *room = (uint8_t *)mmap(NULL, GUARD + size, PROT_READ | PROT_WRITE, MAP_PRIVATE | MAP_ANONYMOUS, -1, 0);
     if (room == MAP_FAILED || mprotect(room, GUARD, PROT_NONE)) return 2;
     stack = room + GUARD;
-    for (int call = UDP; call <= PORTION; call++) decode((enum call)call);
+    for (int call = UDP; call <= INDEX; call++) decode((enum call)call);
     lists();
     for (int call = ENCODE; call <= ENCODE_TCP2; call++) encode((enum call)call);
     others();

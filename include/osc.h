@@ -2,7 +2,7 @@
  *
  * No function allocates, keeps a pointer or has a state. Every pointer may be to any bytes, and a length may be 0;
  * slices that a call may write must not overlap the others. A call that is refused changes no byte of a slice. Each call ends within
- * 35,776 bytes of stack, whatever it is given (measured by c/stack.c on x86-64).
+ * 35,632 bytes of stack, whatever it is given (measured by c/stack.c on x86-64).
  *
  * A node table has records of OSC_RECORD bytes, big-endian: kind (1), three zero bytes, end (4), a (4), b (4), start (4).
  * The start is the offset, from the decoder's first input byte, where the item's data begins: a message's address, a bundle's
@@ -12,7 +12,7 @@
 #define SENNORBAI_OSC_H
 
 /* The version of the library and of this header. */
-#define SENNORBAI_VERSION "0.11.1"
+#define SENNORBAI_VERSION "0.12.0"
 
 #include <stddef.h>
 #include <stdint.h>
@@ -23,6 +23,10 @@ extern "C" {
 
 /* The bytes of a record, the longest input and result in bytes, and the deepest nesting of bundles and arrays together. */
 enum { OSC_RECORD = 20, OSC_LONGEST = 65535, OSC_DEEPEST = 64 };
+
+/* The bytes of a record of a cue index; the most records that the frames of OSC_LONGEST bytes have, since a frame has 12 at least; and the
+ * most that the table of a frame in an index has: those that 64 KiB hold. */
+enum { OSC_ENTRY = 16, OSC_MOST_ENTRIES = 5461, OSC_MOST_IN_A_CUE = 3276 };
 
 /* The refusals, by their numbers. */
 enum {
@@ -46,7 +50,8 @@ enum {
     OSC_SHORT_TYPES = 18,   /* the type text, its NUL included */
     OSC_SHORT_DATA = 19,    /* the data of an argument: a text's NUL and a blob's size included, its padding not */
     OSC_SHORT_PADDING = 20, /* the padding after a text or a blob */
-    OSC_SHORT_HEAD = 21     /* the prefix of a frame, or a bundle's time tag */
+    OSC_SHORT_HEAD = 21,    /* the prefix of a frame, or a bundle's time tag */
+    OSC_INDEX_DIFFERS = 25  /* a cue index is not that of its recording; osc_record says at which record */
 };
 
 /* Decoders. They read `len` bytes at `msg` and write records to the `table_len` bytes at `table`.
@@ -105,6 +110,44 @@ uint64_t osc_decode_tcp_vec2(const uint8_t *msg, size_t len, uint8_t *table, siz
  *     } */
 uint64_t osc_read_portion(const uint8_t *bytes, size_t bytes_len, uint8_t *table, size_t table_len, uint64_t depth, uint64_t *more);
 
+/* A cue index of a recording, which is frames of edition 2 end to end: OSC_ENTRY bytes for each frame, big-endian, with the offset of its
+ * prefix (8), its length without the prefix (4) and the records of its table (4). It goes up to the first frame that is not accepted:
+ * OSC_DEEPEST deep, with OSC_MOST_IN_A_CUE records; one that is not all there counts so. */
+
+/* A step that writes an index. The `bytes_len` bytes at `bytes` stand at offset `base` of the recording, where a frame begins; the records
+ * go to the `out_len` bytes at `out`.
+ * Bits 56 to 63 of the answer are the number of the call's refusal: OSC_TOO_LONG of an input, or where the recording has 2^63 bytes or
+ * more, and OSC_OUTPUT_SHORT. They are 0 where there is an answer; bits 32 to 55 are the records written, and bits 0 to 31 the bytes used:
+ * the next step begins after them.
+ * `*more` is written by every call: 1 where the frame after the bytes used is not all there, the number of its refusal in bits 48 to 63
+ * where it is refused, which ends the index, and 0 otherwise. `more` must not be NULL and must not overlap the slices.
+ * With a buffer of OSC_LONGEST bytes, an output of OSC_MOST_ENTRIES records, for which it is never short, and `kept` and `base` 0 at first:
+ *
+ *     while ((got = fread(buffer + kept, 1, sizeof buffer - kept, recording)) > 0) {
+ *         answer = osc_index_step(buffer, kept + got, base, out, sizeof out, &more);
+ *         if (osc_refusal(answer)) break;              // the recording is too long
+ *         fwrite(out, OSC_ENTRY, osc_count(answer), index);
+ *         base += osc_used(answer);                    // in the end: where the index goes no further
+ *         if (osc_ended(more)) break;                  // the next frame is refused
+ *         kept = kept + got - osc_used(answer);
+ *         memmove(buffer, buffer + osc_used(answer), kept);
+ *     } */
+uint64_t osc_index_step(const uint8_t *bytes, size_t bytes_len, uint64_t base, uint8_t *out, size_t out_len, uint64_t *more);
+
+/* A step that checks an index: the records that osc_index_step has written afresh for a part of the recording, against as many bytes of the
+ * index or, where it has no more, fewer. The first is record number `from`, which is the answer of the step before, and 0 at first. After the
+ * last, what the index still has is checked against no bytes.
+ * Bits 56 to 63 of the answer are 0, and bits 0 to 55 the number of the next record; or they are OSC_INDEX_DIFFERS, and bits 0 to 55 the
+ * number of the first record that differs, is missing or is extra, where a part of one counts. OSC_TOO_LONG refuses a `from` or a
+ * length of 2^55 or more. */
+uint64_t osc_index_check_step(const uint8_t *fresh, size_t fresh_len, const uint8_t *given, size_t given_len, uint64_t from);
+
+/* Record `k` of an index that was checked: the records of the cue's table in bits 32 to 55 and its length without the prefix in bits 0
+ * to 31; bits 56 to 63 are the refusal's number, OSC_BAD_TABLE where the index has no such record. `*offset` is that of the cue's
+ * prefix, and 0 where there is none; it is written by every call and must not be NULL. What an index that was not checked says is the
+ * writer's own; OSC_BAD_TABLE is given there too, where a table would have 2^24 records or more. */
+uint64_t osc_cue(const uint8_t *index, size_t index_len, uint64_t k, uint64_t *offset);
+
 /* Encoders. They write the packet of `count` records over the first bytes of `out`; ranges lie in `source`.
  * A tree is at most OSC_DEEPEST deep, as for a decoder.
  * Bits 56 to 63 of the answer are the refusal's number; bits 0 to 31 the bytes written. */
@@ -139,13 +182,13 @@ uint64_t osc_start(const uint8_t *table, size_t table_len, uint64_t index);
 /* The refusal's number, of the call or of a frame (osc_stopped); 0 where there is an answer. */
 static inline unsigned osc_refusal(uint64_t answer) { return (unsigned)(answer >> 56); }
 
-/* The count of records that a decoder or osc_read_portion wrote. */
+/* The count of records that a decoder, osc_read_portion or osc_index_step wrote, or of the table of a cue. */
 static inline uint32_t osc_count(uint64_t answer) { return (uint32_t)(answer >> 32) & 0xFFFFFFu; }
 
 /* The input bytes that a decoder left over. */
 static inline uint32_t osc_left(uint64_t answer) { return (uint32_t)answer; }
 
-/* The bytes that osc_read_portion used: those after them are to be kept. */
+/* The bytes that osc_read_portion or osc_index_step used: those after them are to be kept. */
 static inline uint32_t osc_used(uint64_t answer) { return (uint32_t)answer; }
 
 /* Whether a list of edition 2 stopped at a frame that is refused: 1, with the packets before it in the table. 0 for every other answer,
@@ -163,9 +206,18 @@ static inline uint32_t osc_dirty(uint64_t more) { return (uint32_t)more; }
 /* Where the prefix began of the frame at which a list stopped, of what a decoder wrote to `*more`; 0 where none did. */
 static inline uint32_t osc_frame(uint64_t more) { return (uint32_t)(more >> 48); }
 
-/* The number of the refusal of the frame that ends a stream, of what osc_read_portion wrote to `*more`; 0 where the stream goes on, and
- * where the call is refused. */
+/* The number of the refusal of the frame that ends a stream or an index, of what osc_read_portion or osc_index_step wrote to `*more`; 0
+ * where it goes on, and where the call is refused. */
 static inline unsigned osc_ended(uint64_t more) { return (unsigned)(more >> 48); }
+
+/* Whether the frame after the bytes that osc_index_step used is not all there, of what it wrote to `*more`. */
+static inline int osc_waits(uint64_t more) { return (int)(more & 1); }
+
+/* The number of the next record that osc_index_check_step tells, or of the first that differs. */
+static inline uint64_t osc_record(uint64_t answer) { return answer & 0xFFFFFFFFFFFFFFu; }
+
+/* The length of a cue without its prefix. */
+static inline uint32_t osc_cue_length(uint64_t answer) { return (uint32_t)answer; }
 
 /* The bytes that an encoder wrote. */
 static inline uint32_t osc_written(uint64_t answer) { return (uint32_t)answer; }

@@ -271,8 +271,8 @@ expect 0 "osc $(sed -n 's/^#define SENNORBAI_VERSION "\(.*\)"$/\1/p' "$root/incl
 # Wrong words.
 decode_takes='osc: decode takes udp|tcp|tcp-vec|tcp2|tcp2-vec INPUT TABLE [--depth N] [--records N]'
 not_number='osc: not a number of at most nine digits: '
-expect 2 '' 'osc: the first word is not decode, encode, look, help or --version: '
-expect 2 '' 'osc: the first word is not decode, encode, look, help or --version: decoded' decoded
+expect 2 '' 'osc: the first word is not decode, encode, look, index, check, cue, help or --version: '
+expect 2 '' 'osc: the first word is not decode, encode, look, index, check, cue, help or --version: decoded' decoded
 expect 2 '' "$decode_takes" decode udp input
 expect 2 '' "$decode_takes" decode udp input table.bin --depth
 expect 2 '' 'osc: not udp, tcp, tcp-vec, tcp2 or tcp2-vec: tc' decode tc input table.bin
@@ -362,6 +362,230 @@ count $? "in a locked folder: said '$said'"
 gone locked/table.bin
 expect 0 'packets: 1, records: 5, bytes left: 0' '' decode udp "$examples/message.osc" old.bin
 same old.bin message.bin
+
+# ---- The cue index of a recording: frames of edition 2 end to end.
+
+# be BYTES NUMBER: a number as printf writes its bytes, the highest first.
+be() {
+    place=$1
+    while [ "$place" -gt 0 ]; do
+        place=$((place - 1))
+        printf '\\%03o' $(($2 >> 8 * place & 255))
+    done
+}
+
+# entry OFFSET LENGTH RECORDS: a record of an index, as printf writes it.
+entry() {
+    be 8 "$1"
+    be 4 "$2"
+    be 4 "$3"
+}
+
+# indexes STATUS LINE RECORDS BYTES: what `osc index` of the bytes should say, and the index that it should leave, both as printf writes them;
+# the check of that index fits.
+indexes() {
+    printf "$4" >recording
+    indexes_file "$1" "$2" "$3" recording
+}
+
+# indexes_file STATUS LINE RECORDS FILE: the same of a file.
+indexes_file() {
+    printf "$3" >expected.idx
+    expect "$1" "$2" '' index "$4" written.idx
+    same written.idx expected.idx
+    expect 0 "index fits: $(($(wc -c <expected.idx) / 16)) records" '' check "$4" written.idx
+}
+
+# differs RECORD: what the check of changed.idx against three.osc should say.
+differs() {
+    expect 1 "refused 25: record $1" '' check three.osc changed.idx
+}
+
+slash_i='\0\0\0\014/a\0\0,i\0\0\0\0\0\007'
+empty_bundle='\0\0\0\020#bundle\0\0\0\0\0\0\0\0\001'
+three="$slash_a$slash_i$empty_bundle"
+three_records="$(entry 0 8 1)$(entry 12 12 2)$(entry 28 16 1)"
+indexes 0 'index: 0 records, whole' '' ''
+indexes 0 'index: 1 records, whole' "$(entry 0 8 1)" "$slash_a"
+indexes 0 'index: 3 records, whole' "$three_records" "$three"
+indexes_file 0 'index: 2 records, whole' "$(entry 0 108 7)$(entry 112 16 2)" "$examples/frames.osc"
+cp recording three.osc
+printf "$three_records" >three.idx
+
+# It stops at a frame that is not all there, and the check accepts the index that ends there.
+for part in '\0' '\0\0\0' '\0\0\0\010' '\0\0\0\010/a\0\0' '\0\0\0\010/a\0\0,\0\0'; do
+    indexes 4 'index: 3 records, stopped at 48: waiting' "$three_records" "$three$part"
+done
+indexes 4 'index: 0 records, stopped at 0: waiting' '' '\0\0\0'
+
+# It stops at a frame that is refused, whatever comes after it.
+stopped_index() {
+    indexes 4 "index: 3 records, stopped at 48: refused $1" "$three_records" "$three$2$slash_a"
+}
+stopped_index 1 '\0\0\377\374'
+stopped_index 1 '\377\377\377\377'
+stopped_index 16 '\0\0\0\006'
+stopped_index 2 '\0\0\0\0'
+stopped_index 4 '\0\0\0\004/\377\0\0'
+stopped_index 5 '\0\0\0\004a\0\0\0'
+stopped_index 6 '\0\0\0\010/a\0\0,]\0\0'
+stopped_index 7 '\0\0\0\010/a\0\0,x\0\0'
+stopped_index 8 '\0\0\0\014/a\0\0,c\0\0\0\0\330\0'
+stopped_index 17 '\0\0\0\004/abc'
+stopped_index 18 '\0\0\0\004/a\0\0'
+stopped_index 19 '\0\0\0\010/a\0\0,i\0\0'
+stopped_index 21 '\0\0\0\010#bundle\0'
+stopped_index 15 '\0\0\0\014/a\0\0,\0\0\0\0\0\0\0'
+indexes 4 'index: 0 records, stopped at 0: refused 2' '' '\0\0\0\0'
+
+# letters COUNT LETTER: a letter so many times.
+letters() {
+    head -c "$1" /dev/zero | tr '\0' "$2"
+}
+
+# A frame is accepted at depth 64 and with 3,276 records; with one level or record more it is not.
+deep() { printf '\0\0\0%b/\0\0\0,%s%s\0%b' "$1" "$(letters "$2" '[')" "$(letters "$2" ']')" "$3"; }
+deep '\210' 64 '\0\0' >deep.osc
+indexes_file 0 'index: 1 records, whole' "$(entry 0 136 65)" deep.osc
+deep '\210' 65 '' >deeper.osc
+indexes_file 4 'index: 0 records, stopped at 0: refused 9' '' deeper.osc
+many() { printf '\0\0\014\324/\0\0\0,%s\0%b' "$(letters "$1" T)" "$2"; }
+many 3275 '\0\0\0' >many.osc
+indexes_file 0 'index: 1 records, whole' "$(entry 0 3284 3276)" many.osc
+many 3276 '\0\0' >more.osc
+indexes_file 4 'index: 0 records, stopped at 0: refused 10' '' more.osc
+
+# The longest frame, alone, after a short one and before one, and the next length. A buffer holds it just so.
+longest() { printf '\0\0\377\370/\0\0\0,b\0\0\0\0\377\354' && letters 65516 x; }
+longest >longest.osc
+indexes_file 0 'index: 1 records, whole' "$(entry 0 65528 2)" longest.osc
+{ printf "$slash_a" && longest && printf "$slash_i" && longest; } >longer.osc
+indexes_file 0 'index: 4 records, whole' \
+    "$(entry 0 8 1)$(entry 12 65528 2)$(entry 65544 12 2)$(entry 65560 65528 2)" longer.osc
+head -c 65559 longer.osc >longer_cut.osc
+indexes_file 4 'index: 2 records, stopped at 65544: waiting' "$(entry 0 8 1)$(entry 12 65528 2)" longer_cut.osc
+
+# More frames than the records that a buffer of 64 KiB holds, the shortest that there are.
+printf "$slash_a" >short.osc
+for _ in 1 2 3 4 5 6 7 8 9 10 11 12 13 14; do
+    cat short.osc short.osc >shorter.osc
+    mv shorter.osc short.osc
+done
+{ cat short.osc && printf '\0\0\0\0'; } >shorts.osc
+shorts=$(awk 'BEGIN {
+    for (i = 0; i < 16384; i++) {
+        at = 12 * i
+        printf "\\0\\0\\0\\0\\0\\%03o\\%03o\\%03o\\0\\0\\0\\010\\0\\0\\0\\001", int(at / 65536), int(at / 256) % 256, at % 256
+    }
+}')
+indexes_file 0 'index: 16384 records, whole' "$shorts" short.osc
+indexes_file 4 'index: 16384 records, stopped at 196608: refused 2' "$shorts" shorts.osc
+
+# The check: each byte of an index changed in turn, a record or a part cut off or added, and an index of another recording.
+expect 0 'index fits: 3 records' '' check three.osc three.idx
+at=0
+while [ "$at" -lt 48 ]; do
+    byte=$(od -An -tu1 -j "$at" -N 1 three.idx | tr -d ' ')
+    { head -c "$at" three.idx && printf "\\$(printf %03o $(((byte + 1) % 256)))" && tail -c +$((at + 2)) three.idx; } >changed.idx
+    differs $((at / 16))
+    at=$((at + 1))
+done
+for size in 0 1 15 16 17 31 32 33 47; do
+    head -c "$size" three.idx >changed.idx
+    differs $((size / 16))
+done
+{ cat three.idx && printf "$(entry 48 8 1)"; } >changed.idx
+differs 3
+{ cat three.idx && printf '\0'; } >changed.idx
+differs 3
+{ head -c 16 three.idx && printf '\0' && tail -c +17 three.idx; } >changed.idx
+differs 1
+{ tail -c +17 three.idx | head -c 16 && head -c 16 three.idx && tail -c +33 three.idx; } >changed.idx
+differs 0
+expect 1 'refused 25: record 0' '' check "$examples/stream.osc" three.idx
+cp written.idx shorts.idx
+printf '\001' | dd of=shorts.idx bs=1 seek=$((16 * 16000)) conv=notrunc 2>/dev/null
+expect 1 'refused 25: record 16000' '' check short.osc shorts.idx
+
+# A cue: the table is that of its frame alone; the index is checked first; a cue that is not there is refused, and no table is left.
+frame=0
+for cut in '1 12' '13 16' '29 20'; do
+    tail -c "+${cut% *}" three.osc | head -c "${cut#* }" >frame.osc
+    line=$("$root/osc" decode tcp2 frame.osc frame.bin)
+    expect 0 "$line" '' cue three.osc three.idx $frame cue.bin
+    same cue.bin frame.bin
+    frame=$((frame + 1))
+done
+expect 1 "$bad_table" '' cue three.osc three.idx 3 cue.bin
+gone cue.bin
+cp frame.bin cue.bin
+expect 1 'refused 25: record 0' '' cue three.osc changed.idx 2 cue.bin
+printf '' >none.osc
+expect 1 "$bad_table" '' cue none.osc none.osc 0 cue.bin
+gone cue.bin
+"$root/osc" index longer.osc longer.idx >/dev/null
+expect 0 'packets: 1, records: 2, bytes left: 0' '' cue longer.osc longer.idx 3 cue.bin
+shows 4 'record 0: / offset 4 length 1, end 2' cue.bin 0
+"$root/osc" index shorts.osc shorts.idx >/dev/null
+expect 0 'packets: 1, records: 1, bytes left: 0' '' cue shorts.osc shorts.idx 16383 cue.bin
+same cue.bin slash_a.bin
+
+# Wrong words, and files that cannot be read or written: what was there is kept, and nothing is left beside it.
+index_takes='osc: index takes RECORDING INDEX'
+expect 2 '' "$index_takes" index
+expect 2 '' "$index_takes" index three.osc
+expect 2 '' "$index_takes" index three.osc table.bin more
+expect 2 '' 'osc: check takes RECORDING INDEX' check three.osc
+expect 2 '' 'osc: check takes RECORDING INDEX' check three.osc three.idx more
+expect 2 '' 'osc: cue takes RECORDING INDEX K TABLE' cue three.osc three.idx 0
+expect 2 '' "${not_number}x" cue three.osc three.idx x table.bin
+expect 2 '' 'osc: missing: No such file or directory' index missing table.bin
+expect 2 '' 'osc: missing: No such file or directory' check missing three.idx
+expect 2 '' 'osc: missing: No such file or directory' check three.osc missing
+expect 2 '' 'osc: missing: No such file or directory' cue missing three.idx 0 table.bin
+expect 2 '' 'osc: missing: No such file or directory' cue three.osc missing 0 table.bin
+expect 2 '' 'osc: .: Is a directory' index . table.bin
+expect 2 '' 'osc: .: Is a directory' check . three.idx
+expect 2 '' 'osc: .: Is a directory' check three.osc .
+expect 2 '' 'osc: .: Is a directory' cue three.osc . 0 table.bin
+expect 2 '' 'osc: the name of a file is empty' index '' table.bin
+expect 2 '' 'osc: the name of a file is empty' index three.osc ''
+expect 2 '' 'osc: the name of a file is empty' check three.osc ''
+gone table.bin
+expect 2 '' 'osc: nowhere/a.idx: No such file or directory' index three.osc nowhere/a.idx
+expect 2 '' 'osc: folder: Is a directory' index three.osc folder
+expect 2 '' 'osc: /dev/null: not a file that can be replaced' index three.osc /dev/null
+expect 2 '' 'osc: folder: Is a directory' cue three.osc three.idx 0 folder
+cp three.osc kept.osc
+ln -f kept.osc hard.osc
+for name in kept.osc ./kept.osc hard.osc soft.osc; do
+    expect 2 '' "osc: kept.osc$same_file" index kept.osc $name
+    expect 2 '' "osc: kept.osc$same_file" cue kept.osc three.idx 0 $name
+done
+cp three.idx kept.idx
+expect 2 '' "osc: kept.idx$same_file" cue three.osc kept.idx 0 kept.idx
+same kept.osc three.osc
+same kept.idx three.idx
+gone kept.osc.part
+printf 'kept' >old.idx
+said=$(
+    ulimit -f 0
+    "$root/osc" index three.osc old.idx 2>&1
+    "$root/osc" index three.osc new.idx 2>&1
+)
+[ "$said" = "$(printf 'osc: old.idx: File too large\nosc: new.idx: File too large')" ] && [ "$(cat old.idx)" = kept ]
+count $? "an index with no room: said '$said', and old.idx holds '$(cat old.idx)'"
+gone old.idx.part
+gone new.idx
+chmod 644 three.osc three.idx
+said=$($drop $by ./osc_tool index three.osc locked/a.idx 2>&1)
+[ "$said" = 'osc: locked/a.idx: Permission denied' ]
+count $? "an index in a locked folder: said '$said'"
+cp three.osc closed.osc
+chmod 000 closed.osc
+said=$($drop $by ./osc_tool check closed.osc three.idx 2>&1)
+[ "$said" = 'osc: closed.osc: Permission denied' ]
+count $? "a recording that may not be read: said '$said'"
 
 printf '%s passed, %s failed\n' "$passed" "$failed"
 [ "$failed" -eq 0 ]

@@ -8,6 +8,7 @@ use Rattle.words.specs.declared.numeral.Numeral.the-variants as numeral
 use Rattle.framing.specs.declared.Framing.{Framing}
 use Rattle.framing.specs.declared.Framing.the-variants.{Udp, Tcp, TcpVec}
 use Rattle.telling.specs.declared.troubles.Trouble.the-variants.{DecodeWords, EncodeWords, LookWords, NoFraming, OnePacket, NoNumber}
+use Rattle.telling.specs.declared.troubles.Trouble.the-variants.{IndexWords, CheckWords, CueWords}
 use Rattle.commands.specs.Words.{framingOf, numberOfWord}
 use Rattle.commands.specs.Options.{noOptions, chosenBy}
 use Rattle.commands.specs.declared.options.Options.{Options}
@@ -22,6 +23,10 @@ use Rattle.commands.specs.declared.EncodeAsked.the-variants as encode
 use Rattle.commands.specs.declared.Writing.the-variants.{Alone, Stream}
 use Rattle.commands.specs.declared.LookAsked.{LookAsked}
 use Rattle.commands.specs.declared.LookAsked.the-variants as look
+use Rattle.commands.specs.declared.NamesAsked.{NamesAsked}
+use Rattle.commands.specs.declared.NamesAsked.the-variants as names
+use Rattle.commands.specs.declared.CueAsked.{CueAsked}
+use Rattle.commands.specs.declared.CueAsked.the-variants as cue
 
 -- a second option after what the first gave
 abbrev pub oneMoreOption : ℕ → List ℕ → List ℕ → Chosen → Chosen
@@ -58,3 +63,18 @@ lookWith numeral.Unclear = look.Wrong NoNumber 3
 
 unfoldable pub lookAsked : ℕ → List ℕ → LookAsked
 lookAsked count word = cond (eqb count 4) (lookWith (numberOfWord word)) (look.Wrong LookWords 0)
+
+-- index and check have three words: osc index RECORDING INDEX, osc check RECORDING INDEX
+unfoldable pub indexAsked : ℕ → NamesAsked
+indexAsked count = cond (eqb count 4) names.Good (names.Wrong IndexWords 0)
+
+unfoldable pub checkAsked : ℕ → NamesAsked
+checkAsked count = cond (eqb count 4) names.Good (names.Wrong CheckWords 0)
+
+-- cue has five words: osc cue RECORDING INDEX K TABLE
+abbrev pub cueWith : Numeral → CueAsked
+cueWith (numeral.Is x) = cue.As x
+cueWith numeral.Unclear = cue.Wrong NoNumber 4
+
+unfoldable pub cueAsked : ℕ → List ℕ → CueAsked
+cueAsked count word = cond (eqb count 6) (cueWith (numberOfWord word)) (cue.Wrong CueWords 0)

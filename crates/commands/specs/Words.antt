@@ -26,10 +26,13 @@ commandOf word =
     cond (isWord word "decode") command.Decode
     (cond (isWord word "encode") command.Encode
     (cond (isWord word "look") command.Look
+    (cond (isWord word "index") command.Index
+    (cond (isWord word "check") command.Check
+    (cond (isWord word "cue") command.Cue
     (cond (isWord word "help") command.Help
     (cond (isWord word "--help") command.Help
     (cond (isWord word "-h") command.Help
-    (cond (isWord word "--version") command.Version command.Unclear))))))
+    (cond (isWord word "--version") command.Version command.Unclear)))))))))
 
 -- the framing that a word names: a stream is of edition 1, the crate's, where the word has no 2
 unfoldable pub framingOf : List ℕ → Framed

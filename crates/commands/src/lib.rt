@@ -9,19 +9,23 @@ use words::numeral::decimal;
 ghost use mathlib.Core.Path.{_≡_};
 ghost use Rattle.commands.specs.Words.{commandOf, framingOf, numberOfWord};
 ghost use Rattle.wire.specs.Same.{sameBytes};
-ghost use Rattle.commands.specs.Asked.{decodeWith, encodeWith, encodeAsked, lookAsked};
+ghost use Rattle.commands.specs.Asked.{decodeWith, encodeWith, encodeAsked, lookAsked, indexAsked, checkAsked, cueAsked};
 pub use options::Chosen;
 pub use options::Options;
+pub use options::no_options;
 pub use options::options_of;
 
 // The version of the program and of the library that it calls.
-pub const VERSION: [u8; 6] = *b"0.11.1";
+pub const VERSION: [u8; 6] = *b"0.12.0";
 
 // The first word.
 pub enum Command {
     Decode,
     Encode,
     Look,
+    Index,
+    Check,
+    Cue,
     Help,
     Version,
     Unclear,
@@ -59,6 +63,18 @@ pub enum LookAsked {
     Wrong(Trouble, usize),
 }
 
+// The same of index and of check, whose words are all names of files.
+pub enum NamesAsked {
+    Good,
+    Wrong(Trouble, usize),
+}
+
+// The same of cue: the number of the cue.
+pub enum CueAsked {
+    As(u32),
+    Wrong(Trouble, usize),
+}
+
 // Whether a word is this one.
 fn is_word(word: &[u8], text: &[u8]) -> bool
     ensures { λ r. ⌜ r ≡ sameBytes (now (word .entry)) (now (text .entry)) ⌝ }
@@ -80,6 +96,15 @@ pub fn command_of(word: &[u8]) -> Command
     }
     if is_word(word, b"look") {
         return Command::Look;
+    }
+    if is_word(word, b"index") {
+        return Command::Index;
+    }
+    if is_word(word, b"check") {
+        return Command::Check;
+    }
+    if is_word(word, b"cue") {
+        return Command::Cue;
     }
     if is_word(word, b"help") {
         return Command::Help;
@@ -191,4 +216,41 @@ pub fn look_asked(count: usize, word: &[u8]) -> LookAsked
         };
     }
     LookAsked::Wrong(Trouble::LookWords, 0)
+}
+
+// What index is asked, of whose words there are `count`.
+//
+// Ruled out: a word too many.
+pub fn index_asked(count: usize) -> NamesAsked
+    ensures { λ r. ⌜ r ≡ indexAsked count ⌝ }
+{
+    if count == 4 {
+        return NamesAsked::Good;
+    }
+    NamesAsked::Wrong(Trouble::IndexWords, 0)
+}
+
+// The same of check.
+pub fn check_asked(count: usize) -> NamesAsked
+    ensures { λ r. ⌜ r ≡ checkAsked count ⌝ }
+{
+    if count == 4 {
+        return NamesAsked::Good;
+    }
+    NamesAsked::Wrong(Trouble::CheckWords, 0)
+}
+
+// What cue is asked, of whose words there are `count`, and whose word 4 is the number of the cue.
+//
+// Ruled out: the cue after the one that is asked for; a word too many.
+pub fn cue_asked(count: usize, word: &[u8]) -> CueAsked
+    ensures { λ r. ⌜ r ≡ cueAsked count (now (word .entry)) ⌝ }
+{
+    if count == 6 {
+        return match short_number(word) {
+            Numeral::Is(x) => CueAsked::As(x as u32),
+            Numeral::Unclear => CueAsked::Wrong(Trouble::NoNumber, 4),
+        };
+    }
+    CueAsked::Wrong(Trouble::CueWords, 0)
 }

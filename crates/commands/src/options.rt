@@ -25,7 +25,7 @@ pub enum Chosen {
 }
 
 // What holds where no option is given.
-fn no_options() -> Options
+pub fn no_options() -> Options
     ensures { λ r. ⌜ r ≡ noOptions ⌝ }
 {
     Options {

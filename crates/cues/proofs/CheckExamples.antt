@@ -6,7 +6,7 @@ use Prim.Native.Nat.{ℕ}
 use lib.ListN.{length, take}
 use Rattle.wire.specs.Number.{bytes}
 use Rattle.cues.specs.Cues.{entryOf}
-use Rattle.cues.specs.Checks.{comparedAt, compared, InRecords, FirstAt, continued}
+use Rattle.cues.specs.Checks.{comparedAt, compared, InRecords, FirstAt, followedBy}
 use Rattle.cues.specs.declared.checked.Checked.the-variants.{Fits, Differs}
 use Rattle.cues.proofs.Checks.{fits-exactly, differs-first, check-in-parts}
 
@@ -70,6 +70,6 @@ part-first = differs-first two (two ++ (0 ∷ 0 ∷ 0 ∷ [])) 2 part
 
 -- ---- in parts: the first records, and then what follows
 
-in-parts : compared two (first ++ changed) ≡ continued (compared first first) (compared second changed)
+in-parts : compared two (first ++ changed) ≡ followedBy (compared first first) (compared second changed)
 unfolding bytes
 in-parts = check-in-parts 1 first second first changed refl refl

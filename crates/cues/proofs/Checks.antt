@@ -2,17 +2,20 @@
 use mathlib.Core.Path.{_≡_, refl, sym, subst, ap, ap₂, _∙_}
 use mathlib.Core.Bool.{Bool, true, false, false≢true}
 use mathlib.Core.List.{List, [], _∷_, _++_, append-cancel-left}
-use Prim.Native.Nat.{ℕ, zero, suc, _+_, _*_, _-_, _<_, _≤_, max}
+use mathlib.Core.Logic.{⊎-elim}
+use Prim.Native.Nat.{ℕ, zero, suc, _+_, _*_, _-_, _%_, _<_, _≤_, max}
 use native.Mathlib.Omega.{arith}
 use borrow.Author.Tests.{eqb-true, eqb-false, eq-eqb, ne-eqb}
 use lib.Dec.{eqb}
 use lib.ListN.{length, take, drop, length-append, length-drop, take-append-drop}
-use lib.Seq.{take-add, take-append-le, drop-append-le, drop-drop}
+use lib.Seq.{take-add, take-all, take-take, take-append-le, drop-append-le, drop-drop}
 use Rattle.wire.specs.Same.{sameBytes}
 use Rattle.cues.specs.Cues.{entrySize}
-use Rattle.cues.specs.Checks.{comparedAt, compared, InRecords, FitsExactly, FirstAt, DiffersFirst, later, continued, CheckInParts}
+use Rattle.cues.specs.Checks.{comparedAt, compared, InRecords, FitsExactly, FirstAt}
+use Rattle.cues.specs.Checks.{DiffersFirst, numberedFrom, followedBy, CheckInParts}
 use Rattle.cues.specs.declared.checked.Checked.{Checked}
 use Rattle.cues.specs.declared.checked.Checked.the-variants.{Fits, Differs}
+use Rattle.wire.proofs.Choices.{lt-or-le}
 use Rattle.wire.proofs.Same.{same-one, is-same}
 
 -- ---- one record
@@ -85,19 +88,19 @@ any-bound (suc n) (suc m) k f g h i =
     (λ d. stops n k f g d ∙ sym (stops m k f g d))
 
 -- an answer after m records and n more
-pub later-later : (m n : ℕ) (r : Checked) → later m (later n r) ≡ later (m + n) r
-later-later m n (Fits k) = ap Fits (omega arith)
-later-later m n (Differs k) = ap Differs (omega arith)
+pub numbered-twice : (m n : ℕ) (r : Checked) → numberedFrom m (numberedFrom n r) ≡ numberedFrom (m + n) r
+numbered-twice m n (Fits k) = ap Fits (omega arith)
+numbered-twice m n (Differs k) = ap Differs (omega arith)
 
 -- the number of the first record is added
-counted-from : (n k : ℕ) (f g : List ℕ) → comparedAt n k f g ≡ later k (comparedAt n 0 f g)
-counted-from zero k f g = none-more k f g ∙ ap Fits (omega arith) ∙ sym (ap (later k) (none-more 0 f g))
+counted-from : (n k : ℕ) (f g : List ℕ) → comparedAt n k f g ≡ numberedFrom k (comparedAt n 0 f g)
+counted-from zero k f g = none-more k f g ∙ ap Fits (omega arith) ∙ sym (ap (numberedFrom k) (none-more 0 f g))
 counted-from (suc n) k f g =
-    by-front f g (λ z. ends (suc n) k f g z ∙ ap Fits (omega arith) ∙ sym (ap (later k) (ends (suc n) 0 f g z)))
+    by-front f g (λ z. ends (suc n) k f g z ∙ ap Fits (omega arith) ∙ sym (ap (numberedFrom k) (ends (suc n) 0 f g z)))
     (λ p e. passes n k f g p e ∙ counted-from n (k + 1) _ _
-    ∙ sym (later-later k 1 (comparedAt n 0 (drop entrySize f) (drop entrySize g)))
-    ∙ sym (ap (later k) (passes n 0 f g p e ∙ counted-from n 1 _ _)))
-    (λ d. stops n k f g d ∙ ap Differs (omega arith) ∙ sym (ap (later k) (stops n 0 f g d)))
+    ∙ sym (numbered-twice k 1 (comparedAt n 0 (drop entrySize f) (drop entrySize g)))
+    ∙ sym (ap (numberedFrom k) (passes n 0 f g p e ∙ counted-from n 1 _ _)))
+    (λ d. stops n k f g d ∙ ap Differs (omega arith) ∙ sym (ap (numberedFrom k) (stops n 0 f g d)))
 
 -- where a byte is there, a record may be compared
 one-more : (f g : List ℕ) → 0 < length f + length g → compared f g ≡ comparedAt (suc (length f + length g - 1)) 0 f g
@@ -105,10 +108,10 @@ one-more f g h = ap (λ (n : ℕ). comparedAt n 0 f g) (omega arith)
 
 -- a first record that is the same, and what follows it
 pub compared-more : (f g : List ℕ) → 0 < length f + length g → take entrySize f ≡ take entrySize g
-    → compared f g ≡ later 1 (compared (drop entrySize f) (drop entrySize g))
+    → compared f g ≡ numberedFrom 1 (compared (drop entrySize f) (drop entrySize g))
 compared-more f g h e =
     one-more f g h ∙ passes (length f + length g - 1) 0 f g h e ∙ counted-from (length f + length g - 1) 1 _ _
-    ∙ ap (later 1)
+    ∙ ap (numberedFrom 1)
     (any-bound (length f + length g - 1) (length (drop entrySize f) + length (drop entrySize g)) 0 (drop entrySize f) (drop entrySize g)
     (omega (arith, length-drop entrySize f, length-drop entrySize g)) (omega arith))
 
@@ -165,16 +168,16 @@ front-and : (j : ℕ) (l : List ℕ) → take (entrySize * (1 + j)) l ≡ take e
 front-and j l = let e : entrySize * (1 + j) ≡ entrySize + entrySize * j = omega arith in rw e (take-add entrySize (entrySize * j) l)
 
 -- what an answer says of what follows a record that is the same, it says of both indexes one record later
-says-later : (f g : List ℕ) (r : Checked) → 0 < length f + length g → take entrySize f ≡ take entrySize g
-    → Says (drop entrySize f) (drop entrySize g) r → Says f g (later 1 r)
-says-later f g (Fits n) h e s =
+says-numbered : (f g : List ℕ) (r : Checked) → 0 < length f + length g → take entrySize f ≡ take entrySize g
+    → Says (drop entrySize f) (drop entrySize g) r → Says f g (numberedFrom 1 r)
+says-numbered f g (Fits n) h e s =
     let one : f ≡ g
     = sym (take-append-drop entrySize f)
     ∙ ap (λ (x : List ℕ). x ++ drop entrySize f) e
     ∙ ap (λ (x : List ℕ). take entrySize g ++ x) (s .0)
     ∙ take-append-drop entrySize g in
     (one, (omega (arith, length-drop entrySize f), omega (arith, length-drop entrySize f, ap length one)))
-says-later f g (Differs k) h e s =
+says-numbered f g (Differs k) h e s =
     record {
       before = front-and k f ∙ ap₂ _++_ e (s .before) ∙ sym (front-and k g);
       there =
@@ -198,7 +201,7 @@ says zero f g h = none-says f g (omega arith)
 says (suc n) f g h =
     by-front f g (none-says f g)
     (λ p e. subst (Says f g) (sym (compared-more f g p e))
-    (says-later f g (compared (drop entrySize f) (drop entrySize g)) p e
+    (says-numbered f g (compared (drop entrySize f) (drop entrySize g)) p e
     (says n (drop entrySize f) (drop entrySize g) (omega (arith, length-drop entrySize f, length-drop entrySize g)))))
     (λ d. subst (Says f g) (sym (compared-stops f g d)) (record { before = refl; there = d }))
 
@@ -223,34 +226,85 @@ fits-exactly f g =
 pub differs-first : (fresh given : List ℕ) → DiffersFirst fresh given
 differs-first f g k e = answer-says f g e
 
+-- the number that it tells is of a record of one of both, or the next after the last
+pub differs-in : (fresh given : List ℕ) (k : ℕ) → compared fresh given ≡ Differs k → entrySize * k < max (length fresh) (length given)
+differs-in f g k e =
+    ⊎-elim (λ h. h)
+    (λ h. let w = answer-says f g e in
+    absurd (w .there
+    (take-all (entrySize * (k + 1)) f (omega arith)
+    ∙ sym (take-all (entrySize * k) f (omega arith))
+    ∙ w .before
+    ∙ take-all (entrySize * k) g (omega arith)
+    ∙ sym (take-all (entrySize * (k + 1)) g (omega arith)))))
+    (lt-or-le (entrySize * k) (max (length f) (length g)))
+
+-- there is one first record that differs
+module _ (f g : List ℕ) where
+  -- what is the same up to a record is the same up to every one before it
+  same-before : (j k : ℕ) → j ≤ k → take (entrySize * k) f ≡ take (entrySize * k) g → take (entrySize * j) f ≡ take (entrySize * j) g
+  same-before j k h e =
+      sym (take-take (entrySize * j) (entrySize * k) f (omega arith)) ∙ ap (take (entrySize * j)) e
+      ∙ take-take (entrySize * j) (entrySize * k) g (omega arith)
+
+  -- so a check tells it
+  pub first-told : (k : ℕ) → FirstAt f g k → compared f g ≡ Differs k
+  first-told k w = by-answer (compared f g) refl
+    where
+      earlier : (i j : ℕ) → FirstAt f g i → FirstAt f g j → i < j → ⊥
+      earlier i j v u h = v .there (same-before (i + 1) j (omega arith) (u .before))
+
+      by-answer : (r : Checked) → compared f g ≡ r → r ≡ Differs k
+      by-answer (Fits n) e = absurd (w .there (ap (take (entrySize * (k + 1))) (answer-says f g e .0)))
+      by-answer (Differs j) e =
+          ⊎-elim (λ h. absurd (earlier j k (answer-says f g e) w h))
+          (λ h. ⊎-elim (λ i. absurd (earlier k j w (answer-says f g e) i)) (λ i. ap Differs (omega arith)) (lt-or-le k j))
+          (lt-or-le j k)
+
 -- ---- a check in parts
 
+-- an index that ends within the first part differs there, whatever comes after that part
+pub ends-within : (f more g : List ℕ) → length f % entrySize ≡ 0 → length g < length f
+    → (rest : Checked) → compared (f ++ more) g ≡ followedBy (compared f g) rest
+ends-within f more g whole short rest = by-answer (compared f g) refl
+  where
+    by-answer : (r : Checked) → compared f g ≡ r → compared (f ++ more) g ≡ followedBy r rest
+    by-answer (Fits n) e = absurd (omega (arith, ap length (answer-says f g e .0)))
+    by-answer (Differs k) e =
+        let w = answer-says f g e in
+        let here : entrySize * (k + 1) ≤ length f = omega (arith, differs-in f g k e) in
+        first-told (f ++ more) g k
+        (record {
+          before = take-append-le (entrySize * k) f more (omega arith) ∙ w .before;
+          there = λ z. w .there (sym (take-append-le (entrySize * (k + 1)) f more here) ∙ z);
+        })
+
 -- nothing before
-later-none : (r : Checked) → later 0 r ≡ r
-later-none (Fits k) = ap Fits (omega arith)
-later-none (Differs k) = ap Differs (omega arith)
+numbered-none : (r : Checked) → numberedFrom 0 r ≡ r
+numbered-none (Fits k) = ap Fits (omega arith)
+numbered-none (Differs k) = ap Differs (omega arith)
 
 -- one record more before both parts
-later-continued : (a r : Checked) → later 1 (continued a r) ≡ continued (later 1 a) r
-later-continued (Fits n) r = later-later 1 n r
-later-continued (Differs k) r = refl
+numbered-followed : (a r : Checked) → numberedFrom 1 (followedBy a r) ≡ followedBy (numberedFrom 1 a) r
+numbered-followed (Fits n) r = numbered-twice 1 n r
+numbered-followed (Differs k) r = refl
 
 -- where the first parts are whole records of one number, an answer for all is theirs, and then that of what follows
 pub check-in-parts : CheckInParts
 check-in-parts zero [] f₂ [] g₂ a b =
-    sym (ap (λ (x : Checked). continued x (compared f₂ g₂)) (ends 0 0 [] [] refl) ∙ later-none (compared f₂ g₂))
+    sym (ap (λ (x : Checked). followedBy x (compared f₂ g₂)) (ends 0 0 [] [] refl) ∙ numbered-none (compared f₂ g₂))
 check-in-parts zero [] f₂ (y ∷ g) g₂ a b = absurd (omega arith)
 check-in-parts zero (x ∷ f) f₂ g g₂ a b = absurd (omega arith)
 check-in-parts (suc n) f f₂ g g₂ a b =
     by-front f g (λ z. absurd (omega arith))
     (λ p e. compared-more (f ++ f₂) (g ++ g₂) (omega (arith, length-append f f₂)) (fronts .0 ∙ e ∙ sym (fronts .1))
-    ∙ ap (later 1)
+    ∙ ap (numberedFrom 1)
     (rests ∙ check-in-parts n (drop entrySize f) f₂ (drop entrySize g) g₂ (omega (arith, length-drop entrySize f))
     (omega (arith, length-drop entrySize g)))
-    ∙ later-continued (compared (drop entrySize f) (drop entrySize g)) (compared f₂ g₂)
-    ∙ sym (ap (λ (x : Checked). continued x (compared f₂ g₂)) (compared-more f g p e)))
+    ∙ numbered-followed (compared (drop entrySize f) (drop entrySize g)) (compared f₂ g₂)
+    ∙ sym (ap (λ (x : Checked). followedBy x (compared f₂ g₂)) (compared-more f g p e)))
     (λ d. compared-stops (f ++ f₂) (g ++ g₂) (λ z. d (sym (fronts .0) ∙ z ∙ fronts .1))
-    ∙ sym (ap (λ (x : Checked). continued x (compared f₂ g₂)) (compared-stops f g d)))
+    ∙ sym (ap (λ (x : Checked). followedBy x (compared f₂ g₂)) (compared-stops f g d)))
   where
     fronts : (take entrySize (f ++ f₂) ≡ take entrySize f) × (take entrySize (g ++ g₂) ≡ take entrySize g)
     fronts = (take-append-le entrySize f f₂ (omega arith), take-append-le entrySize g g₂ (omega arith))

@@ -6,12 +6,13 @@ use native.Mathlib.Omega.{arith}
 use borrow.Author.Tests.{le-leb}
 use lib.Dec.{leb}
 use lib.ListN.{length}
+use Rattle.refusal.specs.declared.Refusal.{Refusal}
 use Rattle.wire.specs.Limits.{longest, deepest}
 use Rattle.wire.proofs.Choices.{by-le, by-both}
 use Rattle.node.specs.Forest.{size}
 use Rattle.packet.specs.Packet.{fault, one}
 use Rattle.framing.specs.Framing.{Frame, wait, read, refused, cutFrame, first, tcp2}
-use Rattle.framing.proofs.FrameKnot.{FrameIn, cut-in}
+use Rattle.framing.proofs.FrameKnot.{FrameIn, cut-in, Prefixed, cut-prefixed}
 use Rattle.totals.proofs.Totals.{one-tree, one-size}
 use Rattle.streams.proofs.Cuts.{Shallow, cut-shallow}
 use Rattle.answering.specs.Limits.{limited, decoded}
@@ -20,27 +21,46 @@ use Rattle.answering.specs.declared.Decoded.the-variants as answer
 use Rattle.cues.specs.Cues.{mostInACue, judgedCue, cueOf}
 use Rattle.cues.specs.declared.cue.Cue.{Cue}
 use Rattle.cues.specs.declared.cue.Cue.the-variants as cue
+use Rattle.cues.proofs.Shortest.{shortestFrame, FrameLong, frame-long}
 
 -- ---- what a frame is judged as lies in its input
 
--- a frame that is accepted has its prefix and a record at least, no more records than bytes and than a table of 64 KiB has, and is all
--- there
+-- a frame that is accepted has 12 bytes at least, no more records than bytes and than a table of 64 KiB has, and is all there
 abbrev pub CueIn : ℕ → Cue → Type 0
-CueIn m (cue.Given size records) = (5 ≤ size) × (size ≤ m) × (records ≤ size) × (records ≤ mostInACue)
+CueIn m (cue.Given size records) = (shortestFrame ≤ size) × (size ≤ m) × (records ≤ size) × (records ≤ mostInACue)
 CueIn m cue.Waiting = Unit {0}
 CueIn m (cue.Refused k) = Unit {0}
 
-judged-in : (m : ℕ) (x : Frame) → FrameIn m x → CueIn m (judgedCue x)
-judged-in m wait w = tt
-judged-in m (read (fault k)) w = tt
-judged-in m (read (one item f u)) w =
-    by-le (CueIn m) (1 + size f) mostInACue (λ h. (omega arith, omega arith, omega arith, h)) (λ _. tt)
-judged-in m (refused k) w = tt
+judged-in : (m : ℕ) (x : Frame) → FrameIn m x → FrameLong x → CueIn m (judgedCue x)
+judged-in m wait w v = tt
+judged-in m (read (fault k)) w v = tt
+judged-in m (read (one item f u)) w v =
+    by-le (CueIn m) (1 + size f) mostInACue (λ h. (v, omega arith, omega arith, h)) (λ _. tt)
+judged-in m (refused k) w v = tt
 
 -- a frame lies in its input
 pub cue-in : {x : Cue} (l : List ℕ) → x ≡ cueOf l → CueIn (length l) x
 unfolding cueOf
-cue-in l e = subst (CueIn (length l)) (sym e) (judged-in (length l) (cutFrame deepest 0 l) (cut-in deepest 0 l))
+cue-in l e =
+    subst (CueIn (length l)) (sym e) (judged-in (length l) (cutFrame deepest 0 l) (cut-in deepest 0 l) (frame-long deepest 0 l))
+
+abbrev RefusedIn : ℕ → Cue → Type 0
+RefusedIn m (cue.Given size records) = Unit {0}
+RefusedIn m cue.Waiting = Unit {0}
+RefusedIn m (cue.Refused k) = 4 ≤ m
+
+judged-prefixed : (m : ℕ) (x : Frame) → FrameIn m x → Prefixed m x → RefusedIn m (judgedCue x)
+judged-prefixed m wait w p = tt
+judged-prefixed m (read (fault k)) w p = p
+judged-prefixed m (read (one item f u)) w p = by-le (RefusedIn m) (1 + size f) mostInACue (λ _. tt) (λ _. omega arith)
+judged-prefixed m (refused k) w p = p .0
+
+-- a frame that is refused has its prefix
+pub cue-prefixed : (l : List ℕ) (k : Refusal) → cueOf l ≡ cue.Refused k → 4 ≤ length l
+unfolding cueOf
+cue-prefixed l k e =
+    subst (RefusedIn (length l)) e
+    (judged-prefixed (length l) (cutFrame deepest 0 l) (cut-in deepest 0 l) (cut-prefixed deepest 0 l))
 
 -- ---- what it is judged as, from the answer of the decoder
 

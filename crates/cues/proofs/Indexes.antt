@@ -1,15 +1,19 @@
 -- An index meets its rule: the number of frames that ties the knot does not matter.
-use mathlib.Core.Path.{_≡_, refl, ap, sym, _∙_}
+use mathlib.Core.Path.{_≡_, refl, ap, sym, subst, _∙_}
 use mathlib.Core.List.{List, [], _∷_, _++_}
-use Prim.Native.Nat.{ℕ, zero, suc, _+_, _*_, _%_, _<_, _≤_}
+use Prim.Native.Nat.{ℕ, zero, suc, _+_, _-_, _*_, _%_, _<_, _≤_}
 use native.Mathlib.Omega.{arith}
 use lib.ListN.{length, drop, length-drop, length-append}
+use Rattle.refusal.specs.declared.Refusal.{Refusal}
+use Rattle.wire.specs.Limits.{longest}
 use Rattle.wire.proofs.Numbers.{length-bytes}
 use Rattle.cues.specs.Cues.{cueOf, entrySize, entryOf, Index, index, withEntry, byCue, byFront, indexAt, indexOf}
-use Rattle.cues.specs.Cues.{writtenOf, entriesOf}
+use Rattle.cues.specs.Cues.{writtenOf, entriesOf, mostEntries}
 use Rattle.cues.specs.declared.cue.Cue.{Cue}
 use Rattle.cues.specs.declared.cue.Cue.the-variants as cue
+use Rattle.cues.specs.declared.index.End.{End}
 use Rattle.cues.specs.declared.index.End.the-variants as end
+use Rattle.cues.proofs.Shortest.{shortestFrame}
 use Rattle.cues.proofs.Cues.{CueIn, cue-in}
 
 -- ---- one frame more
@@ -88,3 +92,57 @@ records-at (suc n) base l = front-records (λ b m. indexAt n b m) (λ b m. recor
 -- an index is as long as its records
 pub written-length : (base : ℕ) (l : List ℕ) → length (writtenOf (indexOf base l)) ≡ entrySize * entriesOf (indexOf base l)
 written-length base l = omega (arith, records-at (length l) base l)
+
+-- ---- an index lies in its bytes
+
+-- what S says of the bytes from a refused frame on, and of its refusal
+abbrev pub EndIn : (ℕ → Refusal → Type 0) → ℕ → End → Type 0
+EndIn S m end.Whole = Unit {0}
+EndIn S m end.Waiting = Unit {0}
+EndIn S m (end.Refused k) = S m k
+
+-- the index of m bytes at offset `base` ends in them, has a record for 12 bytes before its end at most, and S says so of its end
+abbrev pub IndexIn : (ℕ → Refusal → Type 0) → ℕ → ℕ → Index → Type 0
+IndexIn S base m (index written at why) =
+    (base ≤ at) × (at ≤ base + m) × (shortestFrame * length written ≤ entrySize * (at - base)) × EndIn S (base + m - at) why
+
+module _ (S : ℕ → Refusal → Type 0) (says : (l : List ℕ) (k : Refusal) → cueOf l ≡ cue.Refused k → S (length l) k) where
+  entry-in : (base size records m : ℕ) (i : Index) → shortestFrame ≤ size → size ≤ m → IndexIn S (base + size) (m - size) i
+      → IndexIn S base m (withEntry (entryOf base size records) i)
+  entry-in base size records m (index written at why) low high w =
+      let long = length-append (entryOf base size records) written in
+      let rest : base + size + (m - size) - at ≡ base + m - at = omega arith in (
+        omega (arith, w .0),
+        omega (arith, w .1),
+        omega (arith, w .0, w .2, long, length-entry base size records),
+        subst (λ (j : ℕ). EndIn S j why) rest (w .3),
+      )
+
+  at-in : (n base : ℕ) (l : List ℕ) → IndexIn S base (length l) (indexAt n base l)
+  unfolding indexAt
+  at-in zero base l = (omega arith, omega arith, omega arith, tt)
+  at-in (suc n) base [] = (omega arith, omega arith, omega arith, tt)
+  at-in (suc n) base (x ∷ l) = by-cue (λ b m. at-in n b m) (cueOf (x ∷ l)) refl (cue-in (x ∷ l) refl)
+    where
+      by-cue : ((b : ℕ) (m : List ℕ) → IndexIn S b (length m) (indexAt n b m)) → (c : Cue) → cueOf (x ∷ l) ≡ c → CueIn (length (x ∷ l)) c
+          → IndexIn S base (length (x ∷ l)) (byCue (λ b m. indexAt n b m) base (x ∷ l) c)
+      by-cue go (cue.Given size records) e w =
+          let rest : length (drop size (x ∷ l)) ≡ length (x ∷ l) - size = length-drop size (x ∷ l) in
+          entry-in base size records (length (x ∷ l)) (indexAt n (base + size) (drop size (x ∷ l))) (w .0) (w .1)
+          (subst (λ (j : ℕ). IndexIn S (base + size) j (indexAt n (base + size) (drop size (x ∷ l)))) rest
+          (go (base + size) (drop size (x ∷ l))))
+      by-cue go cue.Waiting e w = (omega arith, omega arith, omega arith, tt)
+      by-cue go (cue.Refused k) e w =
+          let all : length (x ∷ l) ≡ base + length (x ∷ l) - base = omega arith in
+          (omega arith, omega arith, omega arith, subst (λ (j : ℕ). S j k) all (says (x ∷ l) k e))
+
+  -- so does every index, where S says so of every refused frame
+  pub index-in : (base : ℕ) (l : List ℕ) → IndexIn S base (length l) (indexOf base l)
+  index-in base l = at-in (length l) base l
+
+-- the records of the frames of a buffer are 5,461 at most
+pub written-fits : (base : ℕ) (l : List ℕ) → length l ≤ longest → length (writtenOf (indexOf base l)) ≤ entrySize * mostEntries
+written-fits base l short = by-index (indexOf base l) (records-at (length l) base l) (index-in (λ _ _. Unit {0}) (λ _ _ _. tt) base l)
+  where
+    by-index : (i : Index) → Records i → IndexIn (λ _ _. Unit {0}) base (length l) i → length (writtenOf i) ≤ entrySize * mostEntries
+    by-index (index written at why) r w = omega (arith, r, w .1, w .2)

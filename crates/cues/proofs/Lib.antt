@@ -1,13 +1,25 @@
--- Ticket 5's step and its check, proved.
+-- Ticket 5's step, its check and its lookup, proved.
+--     Shortest       a frame that is given has 12 bytes
 --     Cues           one frame, as it is judged for an index
+--     Numbers        the refusals of a frame that ends an index
 --     Indexes        an index meets its rule
+--     Cued           an index frame by frame, for induction
+--     Kept           what waits is shorter than a buffer
 --     Passes         the two passes over a buffer
+--     Steps          what a step that writes tells
+--     Only           no second outcome of a step
 --     Entries        the bytes of a record
 --     Checks         what a check says
 --     CheckExamples  indexes that meet its hypotheses
+pub mod Shortest
 pub mod Cues
+pub mod Numbers
 pub mod Indexes
+pub mod Cued
+pub mod Kept
 pub mod Passes
+pub mod Steps
+pub mod Only
 pub mod Entries
 pub mod Checks
 pub mod CheckExamples

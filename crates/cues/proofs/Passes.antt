@@ -22,6 +22,7 @@ use Rattle.cues.specs.declared.cue.Cue.the-variants as cue
 use Rattle.cues.specs.declared.index.End.the-variants as end
 use Rattle.cues.specs.declared.index.Indexed.the-variants as indexed
 use Rattle.cues.specs.declared.index.Stretch.{Stretch}
+use Rattle.cues.proofs.Shortest.{shortestFrame}
 use Rattle.cues.proofs.Cues.{CueIn, cue-in}
 use Rattle.cues.proofs.Indexes.{index-none, index-by, length-entry, written-more, written-length}
 
@@ -70,7 +71,7 @@ module _ (l : List ℕ) (at n : ℕ) (w : Counting l at n) where
 
     -- after a frame that is accepted
     pub counting-more : {size records : ℕ} → x ≡ cue.Given size records
-        → ((5 ≤ size) × (at + size ≤ length l)) × Counting l (at + size) (n + 1)
+        → ((shortestFrame ≤ size) × (at + size ≤ length l)) × Counting l (at + size) (n + 1)
     counting-more {size} {records} z =
         let v = cue-in (drop at l) (sym z ∙ f ∙ ap cueOf s) in (
           (v .0, omega (arith, length-drop at l, v .1)),
@@ -158,7 +159,7 @@ module _ (l : List ℕ) (base : ℕ) (o₀ : List ℕ) (at n : ℕ) (o : List �
       given-here = sym z ∙ f ∙ ap cueOf s
 
       -- a frame that is accepted is all there
-      pub writing-given : (5 ≤ size) × (at + size ≤ length l) × (count ≤ size)
+      pub writing-given : (shortestFrame ≤ size) × (at + size ≤ length l) × (count ≤ size)
       writing-given =
           let v = cue-in (drop at l) given-here in
           (v .0, omega (arith, length-drop at l, v .1, w .here), v .2)

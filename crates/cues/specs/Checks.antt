@@ -49,17 +49,17 @@ abbrev pub DiffersFirst : List ℕ → List ℕ → Type 0
 DiffersFirst fresh given = (k : ℕ) → compared fresh given ≡ Differs k → FirstAt fresh given k
 
 -- an answer with n added to its number, as of what stands after n records
-abbrev pub later : ℕ → Checked → Checked
-later n (Fits k) = Fits (n + k)
-later n (Differs k) = Differs (n + k)
+abbrev pub numberedFrom : ℕ → Checked → Checked
+numberedFrom n (Fits k) = Fits (n + k)
+numberedFrom n (Differs k) = Differs (n + k)
 
 -- an answer of whole records, and then that of what follows them
-abbrev pub continued : Checked → Checked → Checked
-continued (Fits n) rest = later n rest
-continued (Differs k) rest = Differs k
+abbrev pub followedBy : Checked → Checked → Checked
+followedBy (Fits n) rest = numberedFrom n rest
+followedBy (Differs k) rest = Differs k
 
 -- a check in parts, each of whole records but for the last, says what a check of all says
 abbrev pub CheckInParts : Type 0
 CheckInParts =
     (n : ℕ) (fresh fresh₂ given given₂ : List ℕ) → length fresh ≡ entrySize * n → length given ≡ entrySize * n
-    → compared (fresh ++ fresh₂) (given ++ given₂) ≡ continued (compared fresh given) (compared fresh₂ given₂)
+    → compared (fresh ++ fresh₂) (given ++ given₂) ≡ followedBy (compared fresh given) (compared fresh₂ given₂)

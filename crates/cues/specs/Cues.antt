@@ -3,12 +3,12 @@
 use mathlib.Core.Path.{_≡_}
 use mathlib.Core.Bool.{cond}
 use mathlib.Core.List.{List, [], _∷_, _++_}
-use Prim.Native.Nat.{ℕ, zero, suc, _+_, _-_, _/_}
-use lib.Dec.{leb}
+use Prim.Native.Nat.{ℕ, zero, suc, _+_, _-_, _*_, _/_, _<_}
+use lib.Dec.{leb, ltb}
 use lib.ListN.{length, drop}
-use Rattle.refusal.specs.declared.Refusal.the-variants.{TooLong, Unreadable, TableFull, OutputShort}
+use Rattle.refusal.specs.declared.Refusal.the-variants.{TooLong, Unreadable, TableFull, BadTable, OutputShort}
 use Rattle.wire.specs.Limits.{longest, deepest}
-use Rattle.wire.specs.Number.{bytes}
+use Rattle.wire.specs.Number.{number, bytes}
 use Rattle.node.specs.Forest.{size}
 use Rattle.packet.specs.Packet.{fault, one}
 use Rattle.framing.specs.Framing.{Frame, wait, read, refused, cutFrame}
@@ -18,6 +18,8 @@ use Rattle.cues.specs.declared.index.End.{End}
 use Rattle.cues.specs.declared.index.End.the-variants as end
 use Rattle.cues.specs.declared.index.Indexed.{Indexed}
 use Rattle.cues.specs.declared.index.Indexed.the-variants as indexed
+use Rattle.cues.specs.declared.lookup.CueAt.{CueAt}
+use Rattle.cues.specs.declared.lookup.CueAt.the-variants as found
 
 -- "64 KiB tables hold 3,276 records, also in Ticket 5" (Ticket 10): a frame with more is not accepted
 abbrev pub mostInACue : ℕ
@@ -41,6 +43,10 @@ longestRecording = 0x7fff_ffff_ffff_ffff
 -- the bytes of a record of the index
 abbrev pub entrySize : ℕ
 entrySize = 16
+
+-- the most records that the frames of a buffer have: a frame has 12 bytes at least (proofs/Indexes.antt: written-fits)
+abbrev pub mostEntries : ℕ
+mostEntries = 5461
 
 -- a record: "offset of the prefix (8), frame length without prefix (4), records in its table (4)", big-endian
 abbrev pub entryOf : ℕ → ℕ → ℕ → List ℕ
@@ -107,3 +113,31 @@ indexLeaves (indexed.Refused k) written out = out
 pub record Indexes (l : List ℕ) (base : ℕ) (out : List ℕ) (r : Indexed) (after : List ℕ) : Type 0 where
   pub answers : r ≡ indexAnswer base l (length out)
   pub leaves : after ≡ indexLeaves r (writtenOf (indexOf base l)) out
+
+-- no frame was refused: an index may go on with the bytes that come
+abbrev pub MayContinue : End → Type 0
+MayContinue end.Whole = Unit {0}
+MayContinue end.Waiting = Unit {0}
+MayContinue (end.Refused k) = ⊥
+
+-- what waits leaves room in a buffer for a byte more, so that every recording can be read
+abbrev pub KeptIsShort : Type 0
+KeptIsShort =
+    (base : ℕ) (l w : List ℕ) (at : ℕ) (why : End) → MayContinue why → indexOf base l ≡ index w at why
+    → length (drop (at - base) l) < longest
+
+-- ---- a cue by its number
+
+-- the numbers of record k of an index: "offset of the prefix (8), frame length without prefix (4), records in its table (4)"
+abbrev pub cueOffset : List ℕ → ℕ → ℕ
+cueOffset w k = number 8 (drop (entrySize * k) w)
+
+abbrev pub cueSize : List ℕ → ℕ → ℕ
+cueSize w k = number 4 (drop (entrySize * k + 8) w)
+
+abbrev pub cueRecords : List ℕ → ℕ → ℕ
+cueRecords w k = number 4 (drop (entrySize * k + 12) w)
+
+-- what is found by number k: those of a record that is all there; else 11
+abbrev pub cueIn : List ℕ → ℕ → CueAt
+cueIn w k = cond (ltb k (length w / entrySize)) (found.At (cueOffset w k) (cueSize w k) (cueRecords w k)) (found.Refused BadTable)

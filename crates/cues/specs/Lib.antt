@@ -1,3 +1,4 @@
 pub mod Cues
 pub mod CodeCues
 pub mod Checks
+pub mod Refusals

@@ -6,6 +6,9 @@ ghost use Rattle.cues.specs.Cues.{entrySize};
 ghost use Rattle.cues.specs.Checks.{compared};
 use crate::index::ENTRY_SIZE;
 
+// The number of the refusal of an index that differs.
+pub const INDEX_DIFFERS: u8 = 25;
+
 // What a check answers.
 pub enum Checked {
     // The index is the one written afresh: so many records.

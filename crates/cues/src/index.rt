@@ -13,6 +13,9 @@ ghost use Rattle.cues.specs.CodeCues.{stretchOf, CanWrite, writtenIn};
 // The bytes of an index's record.
 pub const ENTRY_SIZE: usize = 16;
 
+// The most records that the frames of a buffer of 65,535 bytes have: a frame has 12 at least.
+pub const MOST_ENTRIES: usize = 5461;
+
 // The length that a recording has at most.
 pub const LONGEST_RECORDING: u64 = 0x7fff_ffff_ffff_ffff;
 

@@ -1,6 +1,9 @@
 // Each public call once more, with what demand 1's theorems speak of as its contract: `Meets` (crates/answers/specs/Calls.antt). So the
 // theorems are about the calls and not about a copy of their contracts: where a call's own contract no longer gives `Meets`, the function
 // over it is refused.
+use cues::Checked;
+use cues::CueAt;
+use cues::Indexed;
 use decoder::Decoded;
 use edition::Edition;
 use encoder::Encoded;
@@ -10,7 +13,8 @@ use values::look::Started;
 use values::value::OscType;
 use wire::Padded;
 ghost use Rattle.framing.specs.declared.Framing.the-variants.{Udp, Tcp, TcpVec};
-ghost use Rattle.answers.specs.Calls.{Meets, decode, read-portion, encode, encode-tcp, encode-string, pad, look, start-of, text-of};
+ghost use Rattle.answers.specs.Calls.{Meets, decode, read-portion, index-step, compare, cue-at, encode, encode-tcp, encode-string, pad};
+ghost use Rattle.answers.specs.Calls.{look, start-of, text-of};
 
 fn decode_udp(msg: &[u8], table: &mut [u8], depth: usize) -> Decoded
     ensures { λ r. ⌜ Meets (decode Udp (now (msg .entry)) (now (table .entry)) depth) (record { answer = r; lent = now (table .exit) }) ⌝ }
@@ -37,6 +41,24 @@ fn read_portion(bytes: &[u8], table: &mut [u8], depth: usize) -> Portion
         (record { answer = r; lent = now (table .exit) }) ⌝ }
 {
     portions::read_portion(bytes, table, depth)
+}
+
+fn index_step(bytes: &[u8], base: u64, out: &mut [u8]) -> Indexed
+    ensures { λ r. ⌜ Meets (index-step (now (bytes .entry)) base (now (out .entry))) (record { answer = r; lent = now (out .exit) }) ⌝ }
+{
+    cues::index_step(bytes, base, out)
+}
+
+fn compare(fresh: &[u8], index: &[u8]) -> Checked
+    ensures { λ r. ⌜ Meets (compare (now (fresh .entry)) (now (index .entry))) (record { answer = r; lent = tt }) ⌝ }
+{
+    cues::compare(fresh, index)
+}
+
+fn cue_at(index: &[u8], k: u64) -> CueAt
+    ensures { λ r. ⌜ Meets (cue-at (now (index .entry)) k) (record { answer = r; lent = tt }) ⌝ }
+{
+    cues::cue_at(index, k)
 }
 
 fn encode(table: &[u8], count: usize, source: &[u8], out: &mut [u8]) -> Encoded

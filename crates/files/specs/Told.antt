@@ -3,6 +3,8 @@ use mathlib.Core.List.{List}
 use Prim.Native.Nat.{ℕ, _≤_, _<_}
 use lib.ListN.{length}
 use Rattle.files.specs.Beside.{longestName}
+use Rattle.files.specs.declared.output.Begun.{Begun}
+use Rattle.files.specs.declared.output.Begun.the-variants as begun
 use Rattle.files.specs.declared.output.Stored.{Stored}
 use Rattle.files.specs.declared.output.Stored.the-variants.{Whole, LongName, NoFile, Failed}
 
@@ -12,3 +14,10 @@ ToldName path Whole = length path ≤ longestName
 ToldName path LongName = longestName < length path
 ToldName path NoFile = length path ≤ longestName
 ToldName path Failed = length path ≤ longestName
+
+-- the same of a file that is begun
+abbrev pub ToldBegun : List ℕ → Begun → Type 0
+ToldBegun path (begun.At fd) = length path ≤ longestName
+ToldBegun path begun.LongName = longestName < length path
+ToldBegun path begun.NoFile = length path ≤ longestName
+ToldBegun path begun.Failed = length path ≤ longestName

@@ -25,3 +25,11 @@ pub fn number_of(x: i32) -> u64 {
     }
     x as u64
 }
+
+// The same of a number of 64 bits.
+pub fn long_number_of(x: i64) -> u64 {
+    if x < 0 {
+        return 0;
+    }
+    x as u64
+}

@@ -1,6 +1,8 @@
 // A file, read into a lent buffer.
-use crate::fail;
-use crate::one::is_output;
+use crate::pieces::Opened;
+use crate::pieces::open;
+use crate::pieces::open_apart;
+use crate::pieces::read_on;
 ghost use mathlib.Core.Path.{_≡_};
 ghost use Rattle.io.specs.Counts.{Counts};
 
@@ -13,7 +15,7 @@ pub struct Got {
 }
 
 // Nothing was read.
-fn unread(is_output: bool) -> Got
+pub fn unread(is_output: bool) -> Got
     ensures { λ r. ⌜ r .count ≡ 0 ⌝ }
 {
     Got {
@@ -36,7 +38,7 @@ fn read_once(fd: i32, buf: &mut [u8]) -> Got
 }
 
 // Reads until the buffer is full or the file ends.
-fn read_up(fd: i32, buf: &mut [u8]) -> Got
+pub fn read_up(fd: i32, buf: &mut [u8]) -> Got
     ensures { λ r. ⌜ Counts (r .count) (now (buf .exit)) ⌝ }
 {
     let mut done = 0;
@@ -56,16 +58,19 @@ fn read_up(fd: i32, buf: &mut [u8]) -> Got
     }
 }
 
-// Reads an open file, as much of it as the buffer holds, or says why it cannot, and closes it.
-fn read_open(fd: i32, path: &[u8], buf: &mut [u8]) -> Got
+// Reads a file that was opened, as much of it as the buffer holds, or says why it cannot, and closes it.
+fn read_opened(opened: Opened, path: &[u8], buf: &mut [u8]) -> Got
     ensures { λ r. ⌜ Counts (r .count) (now (buf .exit)) ⌝ }
 {
-    let got = read_up(fd, buf);
-    if !got.is_read {
-        fail(path);
+    match opened {
+        Opened::At(fd) => {
+            let got = read_on(fd, path, buf, 0);
+            libc::close(fd);
+            got
+        }
+        Opened::Output => unread(true),
+        Opened::Failed => unread(false),
     }
-    libc::close(fd);
-    got
 }
 
 // Reads a file from its start, as much of it as the buffer holds, or says why it cannot.
@@ -74,26 +79,12 @@ fn read_open(fd: i32, path: &[u8], buf: &mut [u8]) -> Got
 pub fn read(path: &[u8], buf: &mut [u8]) -> Got
     ensures { λ r. ⌜ Counts (r .count) (now (buf .exit)) ⌝ }
 {
-    let fd = os::open_read(path);
-    if fd < 0 {
-        fail(path);
-        return unread(false);
-    }
-    read_open(fd, path, buf)
+    read_opened(open(path), path, buf)
 }
 
 // The same of a file that is not the one to be written, or can be told from it.
 pub fn read_apart(path: &[u8], output: &[u8], buf: &mut [u8]) -> Got
     ensures { λ r. ⌜ Counts (r .count) (now (buf .exit)) ⌝ }
 {
-    let fd = os::open_read(path);
-    if fd < 0 {
-        fail(path);
-        return unread(false);
-    }
-    if is_output(fd, output) {
-        libc::close(fd);
-        return unread(true);
-    }
-    read_open(fd, path, buf)
+    read_opened(open_apart(path, output), path, buf)
 }

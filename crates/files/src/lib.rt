@@ -1,6 +1,7 @@
-// Whole files, read into a lent buffer, and written beside and then renamed, so that no half-written file is left. Where a call
-// of the system fails, what it says is said on standard error, after the program's name.
+// Files, read into a lent buffer, whole or in pieces, and written beside and then renamed, so that no half-written file is left. Where a
+// call of the system fails, what it says is said on standard error, after the program's name.
 mod input; // input.rt: a file read
+mod pieces; // pieces.rt: a file read in pieces
 mod one; // one.rt: whether two open files are one
 mod output; // output.rt: a file written or removed
 mod beside; // beside.rt: the name under which a file is written first
@@ -8,9 +9,23 @@ mod beside; // beside.rt: the name under which a file is written first
 pub use input::Got;
 pub use input::read;
 pub use input::read_apart;
+pub use output::Begun;
 pub use output::Stored;
+pub use output::abandon;
+pub use output::add;
+pub use output::begin;
+pub use output::finish;
 pub use output::remove;
 pub use output::write;
+pub use pieces::Opened;
+pub use pieces::close;
+pub use pieces::is_shorter;
+pub use pieces::keep_rest;
+pub use pieces::length_of;
+pub use pieces::open;
+pub use pieces::open_apart;
+pub use pieces::read_at;
+pub use pieces::read_on;
 
 // Says why a call of the system failed, and of which file.
 pub fn fail(path: &[u8]) {

@@ -4,6 +4,8 @@ pub mod Fits
 pub mod Shapes
 pub mod Once
 pub mod Boundary
+pub mod IndexTold
 pub mod Only
 pub mod Seen
 pub mod Examples
+pub mod IndexExamples

@@ -8,7 +8,9 @@ use Rattle.wire.proofs.Only.{one-outcome}
 use Rattle.decoder.proofs.Only.{decodes-only}
 use Rattle.encoder.specs.Outcome.{Outcome}
 use Rattle.encoder.proofs.Only.{encodes-only}
-use Rattle.osc.specs.Answers.{decodedNumber, moreNumber, portionNumber, portionMore, encodedNumber, Tells}
+use Rattle.cues.proofs.Only.{indexes-only}
+use Rattle.osc.specs.Answers.{decodedNumber, moreNumber, portionNumber, portionMore, indexedNumber, indexedMore, encodedNumber, Tells}
+use Rattle.osc.specs.Boundary.{osc-index-step, osc-index-check-step, osc-cue}
 use Rattle.osc.specs.Boundary.{osc-decode, osc-read-portion, osc-encode, osc-encode-string, osc-pad, osc-look, osc-start, CSettled}
 
 -- one outcome of an encoder gives one number and one output
@@ -23,7 +25,7 @@ parts-only : {x r s m n : ℕ} {after after′ : List ℕ} → (r ≡ x) × (m �
     → (r ≡ s) × (m ≡ n) × (after ≡ after′)
 parts-only t u = (one-outcome (t .0) (u .0), one-outcome (t .1) (u .1), one-outcome (t .2) (u .2))
 
--- no second number, nothing else beside it and no other lent bytes meet the contract of one of the thirteen functions
+-- no second number, nothing else beside it and no other lent bytes meet the contract of one of the sixteen functions
 pub c-settled : CSettled
 c-settled (osc-decode framing msg table limit) r s m n after after′ t u =
     let e = decodes-only (t .decodes) (u .decodes) in (
@@ -37,6 +39,15 @@ c-settled (osc-read-portion bytes table limit) r s m n after after′ t u =
       t .beside ∙ ap portionMore e ∙ sym (u .beside),
       one-outcome (t .steps .leaves) (u .steps .leaves),
     )
+c-settled (osc-index-step bytes base out) r s m n after after′ t u =
+    let e = indexes-only (t .steps) (u .steps) in (
+      t .number ∙ ap indexedNumber (e .0) ∙ sym (u .number),
+      t .beside ∙ ap indexedMore (e .0) ∙ sym (u .beside),
+      e .1,
+    )
+c-settled (osc-index-check-step fresh given from) r s m n after after′ t u = parts-only t u
+c-settled (osc-cue index bytes k) r s m n after after′ t u =
+    (one-outcome (t .0 .0) (u .0 .0), one-outcome (t .0 .1) (u .0 .1), one-outcome (t .1) (u .1))
 c-settled (osc-encode frame table count source out) r s m n after after′ t u =
     let e = tells-only _ (encodes-only frame table count source out) r s after after′ (t .0) (u .0) in
     (e .0, one-outcome (t .1) (u .1), e .1)

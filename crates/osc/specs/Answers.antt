@@ -3,9 +3,11 @@ use mathlib.Core.Path.{_≡_}
 use mathlib.Core.Bool.{cond}
 use mathlib.Core.List.{List}
 use Prim.Native.Nat.{ℕ, _+_, _*_, _/_, _%_, _≤_}
+use lib.Dec.{ltb}
 use lib.ListN.{length}
 use Rattle.refusal.specs.Refusal.{numberOf, offsetOf}
 use Rattle.refusal.specs.declared.Refusal.{Refusal}
+use Rattle.refusal.specs.declared.Refusal.the-variants.{TooLong, BadTable}
 use Rattle.wire.specs.Limits.{longest}
 use Rattle.wire.specs.Pad.{padOf}
 use Rattle.wire.specs.declared.Padded.{Padded}
@@ -25,6 +27,16 @@ use Rattle.answering.specs.declared.Decoded.the-variants as decodes
 use Rattle.portions.specs.Portions.{Steps}
 use Rattle.portions.specs.declared.Portion.{Portion}
 use Rattle.portions.specs.declared.Portion.the-variants as portion
+use Rattle.cues.specs.Cues.{Indexes, cueIn}
+use Rattle.cues.specs.Checks.{compared}
+use Rattle.cues.specs.declared.index.End.{End}
+use Rattle.cues.specs.declared.index.End.the-variants as end
+use Rattle.cues.specs.declared.index.Indexed.{Indexed}
+use Rattle.cues.specs.declared.index.Indexed.the-variants as indexed
+use Rattle.cues.specs.declared.checked.Checked.{Checked}
+use Rattle.cues.specs.declared.checked.Checked.the-variants as checked
+use Rattle.cues.specs.declared.lookup.CueAt.{CueAt}
+use Rattle.cues.specs.declared.lookup.CueAt.the-variants as found
 use Rattle.encoder.specs.Outcome.{Outcome}
 use Rattle.encoder.specs.declared.Encoded.{Encoded}
 use Rattle.encoder.specs.declared.Encoded.the-variants as encodes
@@ -92,6 +104,77 @@ pub record TellsPortion (bytes table : List ℕ) (depth told more : ℕ) (after 
   pub steps : Steps bytes table depth answer after
   pub number : told ≡ portionNumber answer
   pub beside : more ≡ portionMore answer
+
+-- why an index goes no further (Ticket 5): 0 where no byte is left, 1 where the next frame is not all there, and of a refused frame the
+-- number in bits 48 to 63
+abbrev pub endNumber : End → ℕ
+endNumber end.Whole = 0
+endNumber end.Waiting = 1
+endNumber (end.Refused r) = numberOf r * 0x1_0000_0000_0000
+
+-- the answer of a step that writes an index: the records written in bits 32 to 55, the bytes used in bits 0 to 31
+abbrev pub indexedNumber : Indexed → ℕ
+indexedNumber (indexed.Written records used why) = records * 0x1_0000_0000 + used
+indexedNumber (indexed.Refused r) = refusalNumber r
+
+-- what is told beside it
+abbrev pub indexedMore : Indexed → ℕ
+indexedMore (indexed.Written records used why) = endNumber why
+indexedMore (indexed.Refused r) = 0
+
+-- what such an answer holds has room in those bits
+abbrev pub IndexedFits : Indexed → Type 0
+IndexedFits (indexed.Written records used why) = (records ≤ longest) × (used ≤ longest)
+IndexedFits (indexed.Refused r) = Unit {0}
+
+-- the call of `osc_index_step`: it has an answer and leaves an output by the step's contract, and what is told, also in `more`, is that
+-- answer
+pub record TellsIndexed (bytes : List ℕ) (base : ℕ) (out : List ℕ) (told more : ℕ) (after : List ℕ) : Type 0 where
+  pub answer : Indexed
+  pub steps : Indexes bytes base out answer after
+  pub number : told ≡ indexedNumber answer
+  pub beside : more ≡ indexedMore answer
+
+-- "25 index differs; beside it one more number": 25 in bits 56 to 63, and the record's number below it
+abbrev pub differsNumber : ℕ → ℕ
+differsNumber k = 25 * 0x100_0000_0000_0000 + k
+
+-- an answer of a check whose first record is number n: the number of the next record, or 25 with that of the first that differs
+abbrev pub checkedNumber : ℕ → Checked → ℕ
+checkedNumber n (checked.Fits k) = n + k
+checkedNumber n (checked.Differs k) = differsNumber (n + k)
+
+-- numbers and lengths from 2^55 on are refused, so that a record's number has its bits
+abbrev pub mostChecked : ℕ
+mostChecked = 0x80_0000_0000_0000
+
+-- the call of `osc_index_check_step`: 1, or the number of the check's answer is told
+abbrev pub checkNumber : List ℕ → List ℕ → ℕ → ℕ
+checkNumber fresh given n =
+    cond (ltb n mostChecked)
+    (cond (ltb (length fresh) mostChecked)
+    (cond (ltb (length given) mostChecked) (checkedNumber n (compared fresh given)) (refusalNumber TooLong))
+    (refusalNumber TooLong))
+    (refusalNumber TooLong)
+
+-- a cue as it is told: 11 also where its records have no room in 24 bits, as in no index that was checked
+abbrev pub cueToldAs : CueAt → CueAt
+cueToldAs (found.At offset size records) = cond (ltb records 0x100_0000) (found.At offset size records) (found.Refused BadTable)
+cueToldAs (found.Refused r) = found.Refused r
+
+-- a cue looked up: the records of its table in bits 32 to 55, its length without the prefix in bits 0 to 31
+abbrev pub cueNumber : CueAt → ℕ
+cueNumber (found.At offset size records) = records * 0x1_0000_0000 + size
+cueNumber (found.Refused r) = refusalNumber r
+
+-- what is told beside it: the offset of its prefix, and 0 where there is none
+abbrev pub cueBeside : CueAt → ℕ
+cueBeside (found.At offset size records) = offset
+cueBeside (found.Refused r) = 0
+
+-- the call of `osc_cue`: both numbers of its answer are told
+abbrev pub TellsCue : List ℕ → ℕ → ℕ → ℕ → Type 0
+TellsCue index k told offset = (told ≡ cueNumber (cueToldAs (cueIn index k))) × (offset ≡ cueBeside (cueToldAs (cueIn index k)))
 
 -- an encoder's answer: the bytes written in bits 0 to 31
 abbrev pub encodedNumber : Encoded → ℕ

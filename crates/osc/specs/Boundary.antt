@@ -1,8 +1,8 @@
--- Demand 1 at the C boundary: what the thirteen functions of include/osc.h tell, and what they leave of the bytes that they are lent.
+-- Demand 1 at the C boundary: what the sixteen functions of include/osc.h tell, and what they leave of the bytes that they are lent.
 use mathlib.Core.Path.{_≡_}
 use mathlib.Core.Bool.{true}
 use mathlib.Core.List.{List, [], _∷_}
-use Prim.Native.Nat.{ℕ, _+_, _*_, _%_, _≤_, _<_}
+use Prim.Native.Nat.{ℕ, _+_, _*_, _%_, _^_, _≤_, _<_}
 use lib.ListN.{length, getD}
 use Rattle.refusal.specs.Refusal.{numberOf, offsetOf}
 use Rattle.refusal.specs.declared.Refusal.{Refusal}
@@ -17,15 +17,20 @@ use Rattle.answering.specs.declared.Decoded.{Decoded}
 use Rattle.answering.specs.declared.Decoded.the-variants as decodes
 use Rattle.portions.specs.declared.Portion.{Portion}
 use Rattle.portions.specs.declared.Portion.the-variants as portion
+use Rattle.cues.specs.Refusals.{cueOrder}
 use Rattle.encoder.specs.Outcome.{encodeOrder, stringOrder, Encodes, EncodesString}
 use Rattle.osc.specs.Answers.{TellsDecoded, TellsPortion, Tells, TellsPadded, TellsLooked, TellsStarted, refusalIn, countIn, lowIn}
-use Rattle.osc.specs.Answers.{offsetIn, frameIn}
+use Rattle.osc.specs.Answers.{offsetIn, frameIn, TellsIndexed, differsNumber, checkNumber, TellsCue}
 
--- a call from C and what it is handed: the five decoders by their framing, the step over a stream of edition 2, the three encoders of
--- packets by their frame; `osc_start` tells four bytes as they stand, so that they are bytes is said
+-- a call from C and what it is handed: the five decoders by their framing, the step over a stream of edition 2, the two steps and the
+-- lookup of a cue index, the three encoders of packets by their frame; `osc_start` and `osc_cue` tell bytes as they stand, so that they are
+-- bytes is said
 pub data CCall : Type 0 where
   osc-decode : (framing : Framing) (msg table : List ℕ) (depth : ℕ) → CCall
   osc-read-portion : (bytes table : List ℕ) (depth : ℕ) → CCall
+  osc-index-step : (bytes : List ℕ) (base : ℕ) (out : List ℕ) → CCall
+  osc-index-check-step : (fresh given : List ℕ) (from : ℕ) → CCall
+  osc-cue : (index : List ℕ) (bytes : (i : ℕ) → getD index i 0 < 256) (k : ℕ) → CCall
   osc-encode : (frame : ℕ → List ℕ → List ℕ) (table : List ℕ) (count : ℕ) (source out : List ℕ) → CCall
   osc-encode-string : (text out : List ℕ) → CCall
   osc-pad : (pos : ℕ) → CCall
@@ -36,6 +41,9 @@ pub data CCall : Type 0 where
 abbrev pub cLent : CCall → List ℕ
 cLent (osc-decode framing msg table depth) = table
 cLent (osc-read-portion bytes table depth) = table
+cLent (osc-index-step bytes base out) = out
+cLent (osc-index-check-step fresh given from) = []
+cLent (osc-cue index bytes k) = []
 cLent (osc-encode frame table count source out) = out
 cLent (osc-encode-string text out) = out
 cLent (osc-pad pos) = []
@@ -47,6 +55,9 @@ cLent (osc-start table bytes index) = []
 abbrev pub CMeets : CCall → ℕ → ℕ → List ℕ → Type 0
 CMeets (osc-decode framing msg table depth) told more after = TellsDecoded (ruleOf framing depth) msg table depth told more after
 CMeets (osc-read-portion bytes table depth) told more after = TellsPortion bytes table depth told more after
+CMeets (osc-index-step bytes base out) told more after = TellsIndexed bytes base out told more after
+CMeets (osc-index-check-step fresh given from) told more after = (told ≡ checkNumber fresh given from) × (more ≡ 0) × (after ≡ [])
+CMeets (osc-cue index bytes k) told more after = TellsCue index k told more × (after ≡ [])
 CMeets (osc-encode frame table count source out) told more after = Tells (Encodes frame table count source out) told after × (more ≡ 0)
 CMeets (osc-encode-string text out) told more after = Tells (EncodesString text out) told after × (more ≡ 0)
 CMeets (osc-pad pos) told more after = TellsPadded pos told × (more ≡ 0) × (after ≡ [])
@@ -57,6 +68,9 @@ CMeets (osc-start table bytes index) told more after = TellsStarted table index 
 abbrev pub cRefusals : CCall → List ℕ
 cRefusals (osc-decode framing msg table depth) = orderOf framing
 cRefusals (osc-read-portion bytes table depth) = orderOf (TcpVec Standard)
+cRefusals (osc-index-step bytes base out) = 1 ∷ 12 ∷ []
+cRefusals (osc-index-check-step fresh given from) = 1 ∷ []
+cRefusals (osc-cue index bytes k) = 11 ∷ []
 cRefusals (osc-encode frame table count source out) = encodeOrder
 cRefusals (osc-encode-string text out) = stringOrder
 cRefusals (osc-pad pos) = 14 ∷ []
@@ -67,6 +81,9 @@ cRefusals (osc-start table bytes index) = 11 ∷ []
 abbrev pub cRefused : CCall → ℕ → ℕ
 cRefused (osc-decode framing msg table depth) n = n * 0x100_0000_0000_0000
 cRefused (osc-read-portion bytes table depth) n = n * 0x100_0000_0000_0000
+cRefused (osc-index-step bytes base out) n = n * 0x100_0000_0000_0000
+cRefused (osc-index-check-step fresh given from) n = n * 0x100_0000_0000_0000
+cRefused (osc-cue index bytes k) n = n * 0x100_0000_0000_0000
 cRefused (osc-encode frame table count source out) n = n * 0x100_0000_0000_0000
 cRefused (osc-encode-string text out) n = n * 0x100_0000_0000_0000
 cRefused (osc-pad pos) n = n
@@ -78,6 +95,9 @@ cRefused (osc-start table bytes index) n = n * 0x100_0000_0000_0000
 abbrev pub CAnswered : CCall → ℕ → Type 0
 CAnswered (osc-decode framing msg table depth) told = told < 0x100_0000_0000_0000
 CAnswered (osc-read-portion bytes table depth) told = (told < 0x100_0000_0000_0000) × (lowIn told ≤ length bytes)
+CAnswered (osc-index-step bytes base out) told = (told < 0x100_0000_0000_0000) × (lowIn told ≤ length bytes)
+CAnswered (osc-index-check-step fresh given from) told = (told < 0x100_0000_0000_0000) × (from ≤ told)
+CAnswered (osc-cue index bytes k) told = told < 0x100_0000_0000_0000
 CAnswered (osc-encode frame table count source out) told = told ≤ longest
 CAnswered (osc-encode-string text out) told = told ≤ longest
 CAnswered (osc-pad pos) told = told % 4 ≡ 0
@@ -104,20 +124,51 @@ pub record EndTold (n told more : ℕ) : Type 0 where
   pub used : lowIn told + 4 ≤ n
   pub field : frameIn more ≤ 16 → offsetIn more ≡ 0
 
--- how a call is told that stops: no encoder does, nor `osc_pad`, `osc_look` and `osc_start`
+-- how a step over n bytes is told at which a refused frame ends an index: as that of a stream, by the refusals of one frame
+pub record IndexEndTold (n told more : ℕ) : Type 0 where
+  pub listed : among (frameIn more) cueOrder ≡ true
+  pub alone : more ≡ frameIn more * 0x1_0000_0000_0000
+  pub accepted : told < 0x100_0000_0000_0000
+  pub used : lowIn told + 4 ≤ n
+
+-- how an index is told that differs, where the first record that was compared is number `from`: by 25, and a record's number below it
+pub record DiffersTold (from told more : ℕ) : Type 0 where
+  pub place : ℕ
+  pub number : told ≡ differsNumber place
+  pub low : place < 0x100_0000_0000_0000
+  pub here : from ≤ place
+  pub alone : more ≡ 0
+
+-- how a call is told that stops: no encoder does, nor `osc_cue`, `osc_pad`, `osc_look` and `osc_start`
 abbrev pub CStopped : CCall → ℕ → ℕ → Type 0
 CStopped (osc-decode framing msg table depth) told more = StopTold framing (length msg) told more
 CStopped (osc-read-portion bytes table depth) told more = EndTold (length bytes) told more
+CStopped (osc-index-step bytes base out) told more = IndexEndTold (length bytes) told more
+CStopped (osc-index-check-step fresh given from) told more = DiffersTold from told more
+CStopped (osc-cue index bytes k) told more = ⊥
 CStopped (osc-encode frame table count source out) told more = ⊥
 CStopped (osc-encode-string text out) told more = ⊥
 CStopped (osc-pad pos) told more = ⊥
 CStopped (osc-look table index) told more = ⊥
 CStopped (osc-start table bytes index) told more = ⊥
 
--- how a call ends: an answer is told, and beside it nothing but dirty padding, in bits 0 to 31; or a refusal that the documents list for
--- the call, and every lent byte is as before; or a list or a step stops at a refused frame
+-- what is told beside an answer: by `osc_cue` the offset of a cue, and by the others dirty padding, or that a frame waits, in bits 0 to 31
+abbrev pub CBeside : CCall → ℕ → Type 0
+CBeside (osc-decode framing msg table depth) more = more ≡ lowIn more
+CBeside (osc-read-portion bytes table depth) more = more ≡ lowIn more
+CBeside (osc-index-step bytes base out) more = more ≤ 1
+CBeside (osc-index-check-step fresh given from) more = more ≡ 0
+CBeside (osc-cue index bytes k) more = more < 2 ^ 64
+CBeside (osc-encode frame table count source out) more = more ≡ 0
+CBeside (osc-encode-string text out) more = more ≡ 0
+CBeside (osc-pad pos) more = more ≡ 0
+CBeside (osc-look table index) more = more ≡ 0
+CBeside (osc-start table bytes index) more = more ≡ 0
+
+-- how a call ends: an answer is told, and what stands beside it; or a refusal that the documents list for the call, and every lent byte is
+-- as before; or a list or a step stops at a refused frame, or an index differs
 pub data CEnds (c : CCall) (told more : ℕ) (after : List ℕ) : Type 0 where
-  told-answer : CAnswered c told → more ≡ lowIn more → CEnds c told more after
+  told-answer : CAnswered c told → CBeside c more → CEnds c told more after
   told-refusal : (n : ℕ) → among n (cRefusals c) ≡ true → told ≡ cRefused c n → Beside n more → after ≡ cLent c → CEnds c told more after
   told-stop : CStopped c told more → CEnds c told more after
 
@@ -127,7 +178,7 @@ CSettled =
     (c : CCall) (told told′ more more′ : ℕ) (after after′ : List ℕ) → CMeets c told more after → CMeets c told′ more′ after′
     → (told ≡ told′) × (more ≡ more′) × (after ≡ after′)
 
--- demand 1 for the thirteen functions: whatever meets the contract ends so
+-- demand 1 for the sixteen functions: whatever meets the contract ends so
 abbrev pub EndsListed : Type 0
 EndsListed = (c : CCall) (told more : ℕ) (after : List ℕ) → CMeets c told more after → CEnds c told more after
 
@@ -146,6 +197,20 @@ abbrev pub EndsApart : Type 0
 EndsApart =
     (bytes table : List ℕ) (depth told more : ℕ) → CStopped (osc-read-portion bytes table depth) told more
     → (more ≡ lowIn more → ⊥) × ((n : ℕ) → 1 ≤ n → told ≡ cRefused (osc-read-portion bytes table depth) n → ⊥)
+
+-- nor is a step at which a refused frame ends an index: beside an answer stands 1 at most
+abbrev pub IndexEndsApart : Type 0
+IndexEndsApart =
+    (bytes : List ℕ) (base : ℕ) (out : List ℕ) (told more : ℕ) → CStopped (osc-index-step bytes base out) told more
+    → (CBeside (osc-index-step bytes base out) more → ⊥) × ((n : ℕ) → 1 ≤ n → told ≡ cRefused (osc-index-step bytes base out) n → ⊥)
+
+-- nor an index that differs: 25 is no part of an answer, nor a refusal of the call
+abbrev pub DiffersApart : Type 0
+DiffersApart =
+    (fresh given : List ℕ) (from told more : ℕ) → CStopped (osc-index-check-step fresh given from) told more
+    → (CAnswered (osc-index-check-step fresh given from) told → ⊥)
+    × ((n : ℕ) → among n (cRefusals (osc-index-check-step fresh given from)) ≡ true
+    → told ≡ cRefused (osc-index-check-step fresh given from) n → ⊥)
 
 -- ---- which answer a decoder's number tells
 

@@ -1,4 +1,8 @@
 // The C boundary: the public calls, each with its answer as one number of 64 bits. include/osc.h declares them for C and C++.
+use cues::Checked;
+use cues::CueAt;
+use cues::End;
+use cues::Indexed;
 use decoder::Decoded;
 use decoder::Edition;
 use decoder::Framing;
@@ -16,6 +20,8 @@ ghost use Rattle.encoder.specs.Outcome.{unframed, prefixed, framedBy, Encodes, 
 ghost use Rattle.osc.specs.Answers.{refusalNumber, decodedNumber, moreNumber, Fits, TellsDecoded, encodedNumber, Tells};
 ghost use Rattle.osc.specs.Answers.{TellsPadded, TellsLooked, TellsStarted};
 ghost use Rattle.osc.specs.Answers.{portionNumber, portionMore, PortionFits, TellsPortion};
+ghost use Rattle.osc.specs.Answers.{endNumber, indexedNumber, indexedMore, IndexedFits, TellsIndexed};
+ghost use Rattle.osc.specs.Answers.{checkNumber, cueToldAs, cueNumber, cueBeside, TellsCue};
 
 // A refusal's number, in bits 56 to 63.
 fn refusal_number(refusal: Refusal) -> u64
@@ -224,6 +230,135 @@ pub extern "C" fn osc_read_portion(
     let portion = portions::read_portion(bytes, table, depth as usize);
     *more = portion_more(portion);
     portion_number(portion)
+}
+
+// Why an index goes no further: 0 where the bytes end with a frame, 1 where the next frame is not all there, and in bits 48 to 63 the
+// number of its refusal.
+fn end_number(end: End) -> u64
+    ensures { λ r. ⌜ r ≡ endNumber end ⌝ }
+{
+    match end {
+        End::Whole => 0,
+        End::Waiting => 1,
+        End::Refused(refusal) => refusal::number_of(refusal) as u64 * 0x1_0000_0000_0000,
+    }
+}
+
+// The answer of a step that writes an index.
+fn indexed_number(indexed: Indexed) -> u64
+    requires { ⌜ IndexedFits indexed ⌝ }
+    ensures { λ r. ⌜ r ≡ indexedNumber indexed ⌝ }
+{
+    match indexed {
+        Indexed::Written {
+            records,
+            used,
+            end: _,
+        } => records as u64 * 0x1_0000_0000 + used as u64,
+        Indexed::Refused(refusal) => refusal_number(refusal),
+    }
+}
+
+// What it tells beside it.
+fn indexed_more(indexed: Indexed) -> u64
+    ensures { λ r. ⌜ r ≡ indexedMore indexed ⌝ }
+{
+    match indexed {
+        Indexed::Written {
+            records: _,
+            used: _,
+            end,
+        } => end_number(end),
+        Indexed::Refused(_) => 0,
+    }
+}
+
+// A step that writes the cue index of a recording in edition 2: `bytes` stand at offset `base` of it. The records written to `out` in bits
+// 32 to 55, and in bits 0 to 31 the bytes that were used: the next step begins after them; or the number of the call's refusal in bits 56
+// to 63. `more` is 1 where the frame after the used bytes is not all there, has the number of its refusal in bits 48 to 63 where it is
+// refused, which ends the index, and is 0 otherwise.
+//
+// Ruled out: a refused frame told as one that is not all there; a byte of the output changed where a refusal is told.
+#[no_mangle]
+pub extern "C" fn osc_index_step(bytes: &[u8], base: u64, out: &mut [u8], more: &mut u64) -> u64
+    ensures { λ r. ⌜ TellsIndexed (now (bytes .entry)) base (now (out .entry)) r (now (more .exit)) (now (out .exit)) ⌝ }
+{
+    let indexed = cues::index_step(bytes, base, out);
+    *more = indexed_more(indexed);
+    indexed_number(indexed)
+}
+
+// A step that checks an index: the records `fresh`, written for a part of the recording, against as many bytes of the index, where the
+// first is record number `from`. The number of the next record in bits 0 to 55; or 25 in bits 56 to 63, and below it the number of the
+// first record that differs, is missing or is extra. A number or a length of 2^55 or more is refused with 1.
+//
+// Ruled out: the number of a record in this part told as that in the index; a part of a record after the last accepted.
+#[no_mangle]
+pub extern "C" fn osc_index_check_step(fresh: &[u8], given: &[u8], from: u64) -> u64
+    ensures { λ r. ⌜ r ≡ checkNumber (now (fresh .entry)) (now (given .entry)) from ⌝ }
+{
+    if 0x80_0000_0000_0000 <= from {
+        return refusal_number(Refusal::TooLong);
+    }
+    if 0x80_0000_0000_0000 <= fresh.len() {
+        return refusal_number(Refusal::TooLong);
+    }
+    if 0x80_0000_0000_0000 <= given.len() {
+        return refusal_number(Refusal::TooLong);
+    }
+    match cues::compare(fresh, given) {
+        Checked::Fits(k) => from + k as u64,
+        Checked::Differs(k) => {
+            cues::INDEX_DIFFERS as u64 * 0x100_0000_0000_0000 + (from + k as u64)
+        }
+    }
+}
+
+// A cue as it is told: where its records have no room in 24 bits, which is in no index that was checked, it is refused.
+fn cue_told_as(cue: CueAt) -> CueAt
+    ensures { λ r. ⌜ r ≡ cueToldAs cue ⌝ }
+{
+    match cue {
+        CueAt::At {
+            offset,
+            size,
+            records,
+        } => {
+            if records < 0x100_0000 {
+                return CueAt::At {
+                    offset,
+                    size,
+                    records,
+                };
+            }
+            CueAt::Refused(Refusal::BadTable)
+        }
+        CueAt::Refused(refusal) => CueAt::Refused(refusal),
+    }
+}
+
+// A cue by its number in an index: the records of its table in bits 32 to 55, its length without the prefix in bits 0 to 31, and the
+// offset of its prefix in `offset`; or 11 in bits 56 to 63, and the offset 0.
+//
+// Ruled out: refusal 11 told as a cue of no records; the offset after the prefix.
+#[no_mangle]
+pub extern "C" fn osc_cue(index: &[u8], k: u64, offset: &mut u64) -> u64
+    ensures { λ r. ⌜ TellsCue (now (index .entry)) k r (now (offset .exit)) ⌝ }
+{
+    match cue_told_as(cues::cue_at(index, k)) {
+        CueAt::At {
+            offset: at,
+            size,
+            records,
+        } => {
+            *offset = at;
+            records as u64 * 0x1_0000_0000 + size as u64
+        }
+        CueAt::Refused(refusal) => {
+            *offset = 0;
+            refusal_number(refusal)
+        }
+    }
 }
 
 // `encode`: the bytes written in bits 0 to 31, or the refusal's number in bits 56 to 63.

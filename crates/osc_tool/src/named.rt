@@ -1,6 +1,7 @@
 // The files that words of a command name.
 use crate::say;
 use files::Got;
+use files::Opened;
 use files::Stored;
 use node::record::RECORD_SIZE;
 use outcomes::Told;
@@ -11,7 +12,7 @@ ghost use Rattle.io.specs.Counts.{Counts};
 
 // Puts word `i`, the name of a file, at the start of `path`, and answers its length; 0 where it cannot be a name, and then
 // says why.
-fn name_word(i: usize, path: &mut [u8]) -> usize
+pub fn name_word(i: usize, path: &mut [u8]) -> usize
     ensures { λ r. ⌜ Counts r (now (path .exit)) ⌝ }
 {
     let n = os::arg(i, path);
@@ -21,6 +22,19 @@ fn name_word(i: usize, path: &mut [u8]) -> usize
         say::trouble(Trouble::NoName, i, 0);
     }
     n
+}
+
+// Opens the file that word `i` names, and answers its descriptor; -1 where it cannot, or where word `output` names the same file, and then
+// says why.
+pub fn open_word(i: usize, output: usize, path: &[u8]) -> i32 {
+    let mut other = io::buffer();
+    let m = os::arg(output, &mut other);
+    match files::open_apart(path, &other[..m]) {
+        Opened::At(fd) => return fd,
+        Opened::Output => say::trouble(Trouble::OneFile, i, 0),
+        Opened::Failed => {}
+    }
+    -1
 }
 
 // Nothing was read.

@@ -1,9 +1,15 @@
 // What a command of the program `osc` asks of the library, which bytes it keeps of the answer and what it says: decided here, under
 // contracts. The program itself reads files, calls these, and writes what they hand back.
 mod roots; // roots.rt: how many packets a table holds
+mod cued; // cued.rt: a recording and its cue index
 
 use commands::Options;
 use commands::Writing;
+pub use cued::Jump;
+pub use cued::Piece;
+pub use cued::check_part;
+pub use cued::cue_told;
+pub use cued::index_piece;
 use decoder::Decoded;
 use decoder::Framing;
 use decoder::decode;

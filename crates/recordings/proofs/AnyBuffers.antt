@@ -7,14 +7,14 @@ use borrow.Author.Tests.{le-leb}
 use lib.ListN.{length, drop, length-append, length-drop}
 use Rattle.wire.specs.Limits.{longest}
 use Rattle.cutting.specs.Cutting.{joinedBytes}
-use Rattle.cues.specs.Cues.{longestRecording, entrySize, Index, index, withEntry, writtenOf, indexOf}
+use Rattle.cues.specs.Cues.{longestRecording, entrySize, Index, index, withEntry, writtenOf, indexOf, MayContinue}
 use Rattle.cues.specs.declared.index.End.{End}
 use Rattle.cues.specs.declared.index.End.the-variants as end
-use Rattle.recordings.specs.Recordings.{continuedIndex, WritesIndex, endWith, MayContinue, Buffered, done, writes, ends}
+use Rattle.recordings.specs.Recordings.{continuedIndex, WritesIndex, endWith, Buffered, done, writes, ends}
 use Rattle.recordings.specs.Recordings.{AnyBuffers}
 use Rattle.cues.proofs.Indexes.{index-eq}
-use Rattle.recordings.proofs.Cued.{Cued, whole, waits, refuses, given, entry-some, cued, cued-is, cued-in, cued-rest}
-use Rattle.recordings.proofs.Cued.{cued-counted}
+use Rattle.cues.proofs.Cued.{Cued, whole, waits, refuses, given, entry-some, cued, cued-is, cued-in, cued-rest}
+use Rattle.cues.proofs.Cued.{cued-counted}
 use Rattle.recordings.proofs.Cut.{cut-index}
 
 -- a step writes the index of its bytes, where the recording is short enough

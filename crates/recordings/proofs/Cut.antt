@@ -15,7 +15,7 @@ use Rattle.cues.specs.declared.index.End.{End}
 use Rattle.cues.specs.declared.index.End.the-variants as end
 use Rattle.recordings.specs.Recordings.{continuedIndex, CutIndex}
 use Rattle.cues.proofs.Indexes.{index-by}
-use Rattle.recordings.proofs.Cued.{Cued, whole, waits, refuses, given, cued, cued-in}
+use Rattle.cues.proofs.Cued.{Cued, whole, waits, refuses, given, cued, cued-in}
 
 -- a cue that does not wait is the same cue
 abbrev pub SameCue : Cue → Cue → Type 0

@@ -4,6 +4,7 @@ use mathlib.Core.Path.{_≡_, refl}
 use mathlib.Core.List.{List, [], _∷_, _++_}
 use Prim.Native.Nat.{ℕ}
 use native.Mathlib.Omega.{arith}
+use lib.ListN.{replicate}
 use Rattle.refusal.specs.declared.Fault.the-variants.{Short}
 use Rattle.refusal.specs.declared.Field.the-variants.{Address}
 use Rattle.refusal.specs.declared.Refusal.the-variants.{Unreadable}
@@ -19,12 +20,17 @@ use Rattle.packet.specs.Packet.{readMessage, packetBy, packetAt, readPacket}
 use Rattle.framing.specs.Framing.{cutFrame}
 use Rattle.cutting.specs.Cutting.{joinedBytes}
 use Rattle.cutting.proofs.Examples.{whole-number, text-front, text-rest, short}
-use Rattle.cues.specs.Cues.{cueOf, index, indexAt, indexOf, indexAnswer}
+use Rattle.cues.specs.Cues.{cueOf, index, indexAt, indexOf, indexAnswer, Indexes}
+use Rattle.cues.specs.Checks.{comparedAt, compared, checkedAs}
+use Rattle.cues.specs.declared.checked.Checked.the-variants.{Fits}
+use Rattle.cues.specs.declared.lookup.CueAt.the-variants as found
 use Rattle.cues.specs.declared.index.End.the-variants as end
 use Rattle.cues.specs.declared.index.Indexed.the-variants.{Written}
-use Rattle.recordings.specs.Recordings.{Buffered, EndToEnd, CueThere}
+use Rattle.recordings.specs.Recordings.{Buffered, EndToEnd, CueThere, Walk, reads-on, stops, checkedInParts, CueFound}
 use Rattle.recordings.proofs.AnyBuffers.{any-buffers}
-use Rattle.recordings.proofs.Lookup.{where-cues-lie, every-cue}
+use Rattle.recordings.proofs.Walks.{every-walk}
+use Rattle.recordings.proofs.Parts.{every-check}
+use Rattle.recordings.proofs.Lookup.{where-cues-lie, every-cue, checked-cue}
 
 -- a record of an index, of a frame of 12 bytes with 2 records
 abbrev entry : ℕ → List ℕ
@@ -63,6 +69,45 @@ three-lie = where-cues-lie three _ 48 end.Whole (omega arith) three-index
 second-cue : CueThere three 16 12 2
 unfolding number
 second-cue = every-cue three (entry 0 ++ (entry 16 ++ entry 32)) 48 end.Whole (omega arith) three-index 1 (omega arith)
+
+-- a program walks over the three in three portions, with outputs of 16, of no and of 33 bytes
+first-step : Indexes whole-number 0 (replicate 16 9) (Written 1 16 end.Whole) (entry 0)
+unfolding number bytes size depth snoc classOf sortOf readText readArg readTags startOf readMessage packetBy packetAt readPacket lengthOf
+    cutFrame cueOf indexAt
+first-step = record { answers = refl; leaves = refl }
+
+second-step : Indexes text-front 16 [] (Written 0 0 end.Waiting) []
+unfolding number bytes size depth snoc classOf sortOf readText readArg readTags startOf readMessage packetBy packetAt readPacket lengthOf
+    cutFrame cueOf indexAt
+second-step = record { answers = refl; leaves = refl }
+
+third-step : Indexes (text-front ++ (text-rest ++ whole-number)) 16 (replicate 33 9) (Written 2 32 end.Whole)
+    (entry 16 ++ (entry 32 ++ (9 ∷ [])))
+unfolding number bytes size depth snoc classOf sortOf readText readArg readTags startOf readMessage packetBy packetAt readPacket lengthOf
+    cutFrame cueOf indexAt
+third-step = record { answers = refl; leaves = refl }
+
+three-walk : Walk 0 [] (whole-number ∷ text-front ∷ (text-rest ++ whole-number) ∷ [])
+    (index (entry 0 ++ (entry 16 ++ entry 32)) 48 end.Whole)
+three-walk = reads-on first-step tt (reads-on second-step tt (stops third-step tt))
+
+three-walked : index (entry 0 ++ (entry 16 ++ entry 32)) 48 end.Whole
+    ≡ indexOf 0 (joinedBytes (whole-number ∷ text-front ∷ (text-rest ++ whole-number) ∷ []))
+three-walked = every-walk _ _ three-walk
+
+-- the second cue, looked up after a check
+three-checked : checkedAs three (entry 0 ++ (entry 16 ++ entry 32)) ≡ Fits 3
+unfolding comparedAt
+three-checked = rw three-index refl
+
+checked-second : CueFound three 3 1 (found.At 16 12 2)
+unfolding number
+checked-second = checked-cue three (entry 0 ++ (entry 16 ++ entry 32)) 3 1 (omega arith) three-checked
+
+-- the check of an index whose third record is cut off, in two parts
+in-two-parts : checkedInParts (entry 0 ∷ (entry 16 ++ entry 32) ∷ []) (entry 0 ++ entry 16)
+    ≡ compared (joinedBytes (entry 0 ∷ (entry 16 ++ entry 32) ∷ [])) (entry 0 ++ entry 16)
+in-two-parts = every-check (entry 0 ∷ (entry 16 ++ entry 32) ∷ []) (entry 0 ++ entry 16) (refl, (refl, tt))
 
 -- ---- a frame that is refused, and what comes after it
 

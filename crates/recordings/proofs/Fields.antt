@@ -7,8 +7,7 @@ use lib.ListN.{length, drop, length-append}
 use lib.Seq.{drop-at, drop-append-add}
 use Rattle.wire.specs.Number.{number, bytes}
 use Rattle.wire.proofs.Numbers.{length-bytes, read-written}
-use Rattle.cues.specs.Cues.{entrySize, entryOf}
-use Rattle.recordings.specs.Recordings.{cueOffset, cueSize, cueRecords}
+use Rattle.cues.specs.Cues.{entrySize, entryOf, cueOffset, cueSize, cueRecords}
 use Rattle.cues.proofs.Indexes.{length-entry}
 
 module _ (base u c : ℕ) (w : List ℕ) where

@@ -3,18 +3,24 @@ use mathlib.Core.Path.{_≡_, refl, ap, sym, subst, _∙_}
 use mathlib.Core.List.{List, [], _++_}
 use Prim.Native.Nat.{ℕ, zero, suc, _+_, _-_, _/_, _<_, _≤_}
 use native.Mathlib.Omega.{arith}
+use borrow.Author.Tests.{ltb-true, ltb-false}
+use lib.Dec.{ltb}
 use lib.ListN.{length, take, drop, length-drop}
 use lib.Seq.{drop-drop}
 use Rattle.wire.specs.Limits.{longest, deepest}
+use Rattle.wire.proofs.Choices.{by-test}
 use Rattle.framing.specs.Framing.{tcp2}
 use Rattle.answering.specs.Limits.{decoded}
-use Rattle.cues.specs.Cues.{longestRecording, cueOf, entrySize, entryOf, index}
+use Rattle.cues.specs.Cues.{longestRecording, cueOf, entrySize, entryOf, Index, index, indexOf, writtenOf}
+use Rattle.cues.specs.Cues.{cueOffset, cueSize, cueRecords, cueIn}
 use Rattle.cues.specs.declared.cue.Cue.the-variants as cue
 use Rattle.cues.specs.declared.index.End.{End}
-use Rattle.recordings.specs.Recordings.{cueOffset, cueSize, cueRecords, EndToEnd, WhereCuesLie}
-use Rattle.recordings.specs.Recordings.{CueThere, EveryCue}
+use Rattle.recordings.specs.Recordings.{EndToEnd, WhereCuesLie, CueThere, EveryCue, CueFound, CheckedCue}
+use Rattle.cues.proofs.Shortest.{shortestFrame}
 use Rattle.cues.proofs.Cues.{CueIn}
-use Rattle.recordings.proofs.Cued.{Cued, whole, waits, refuses, given, cued}
+use Rattle.cues.proofs.Indexes.{written-length}
+use Rattle.cues.proofs.Checks.{fits-exactly}
+use Rattle.cues.proofs.Cued.{Cued, whole, waits, refuses, given, cued}
 use Rattle.recordings.proofs.Alone.{CueAlone, cue-alone}
 use Rattle.recordings.proofs.Fields.{entries-more, first-offset, first-size, first-records, later-offset, later-size, later-records}
 
@@ -24,7 +30,7 @@ no-entries : (base : ℕ) → EndToEnd base [] base
 no-entries base =
     record { first = λ h. absurd (omega arith); next = λ k h. absurd (omega arith); last = λ k h. absurd (omega arith); none = λ h. refl }
 
-module _ (base u c at : ℕ) (w : List ℕ) (low : 5 ≤ u) (high : base + u ≤ longestRecording) (short : u ≤ longest)
+module _ (base u c at : ℕ) (w : List ℕ) (low : shortestFrame ≤ u) (high : base + u ≤ longestRecording) (short : u ≤ longest)
     (r : EndToEnd (base + u) w at) where
   abbrev all : List ℕ
   all = entryOf base u c ++ w
@@ -126,3 +132,21 @@ pub every-cue : EveryCue
 every-cue l w at why h e k g =
     let t = cued-there (subst (Cued 0 l) e (cued 0 l)) (omega arith) k g in
     same-there _ _ _ (omega arith) refl refl (t .1)
+
+-- ---- a cue looked up in an index that was checked
+
+module _ (l : List ℕ) (n k : ℕ) (h : length l ≤ longestRecording) where
+  by-index : (i : Index) → indexOf 0 l ≡ i → length (writtenOf i) / entrySize ≡ n → CueFound l n k (cueIn (writtenOf i) k)
+  by-index (index w at why) e count =
+      by-test (CueFound l n k) (ltb k (length w / entrySize))
+      (λ g. let low = ltb-true k (length w / entrySize) g in (omega arith, every-cue l w at why h e k low))
+      (λ g. (omega (arith, ltb-false k (length w / entrySize) g), refl))
+
+-- Ticket 5: every lookup in an index that was checked gives a cue that is there, or 11
+pub checked-cue : CheckedCue
+checked-cue recording g n k h e =
+    let fresh = writtenOf (indexOf 0 recording) in
+    let same : fresh ≡ g = fits-exactly fresh g .only n e in
+    let count = fits-exactly fresh g .counts n e in
+    subst (λ (m : List ℕ). CueFound recording n k (cueIn m k)) same
+    (by-index recording n k h (indexOf 0 recording) refl (omega (arith, written-length 0 recording, count .0, count .1)))

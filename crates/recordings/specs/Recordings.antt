@@ -2,17 +2,23 @@
 -- that writes an index (crates/cues).
 use mathlib.Core.Path.{_≡_}
 use mathlib.Core.List.{List, [], _∷_, _++_}
-use Prim.Native.Nat.{ℕ, suc, _+_, _-_, _*_, _/_, _<_, _≤_}
+use Prim.Native.Nat.{ℕ, suc, _+_, _-_, _*_, _/_, _%_, _<_, _≤_}
 use lib.ListN.{length, take, drop}
 use Rattle.refusal.specs.declared.Refusal.{Refusal}
+use Rattle.refusal.specs.declared.Refusal.the-variants.{BadTable}
 use Rattle.wire.specs.Limits.{longest, deepest}
-use Rattle.wire.specs.Number.{number}
 use Rattle.framing.specs.Framing.{tcp2}
 use Rattle.answering.specs.Limits.{decoded}
 use Rattle.answering.specs.declared.Decoded.the-variants.{Packets}
 use Rattle.cutting.specs.Cutting.{joinedBytes}
 use Rattle.cues.specs.Cues.{mostInACue, cueOf, entrySize, longestRecording, Index, index, withEntry, indexOf, Indexes}
+use Rattle.cues.specs.Cues.{MayContinue, cueOffset, cueSize, cueRecords, cueIn}
+use Rattle.cues.specs.Checks.{compared, checkedAs, followedBy}
 use Rattle.cues.specs.declared.cue.Cue.the-variants as cue
+use Rattle.cues.specs.declared.checked.Checked.{Checked}
+use Rattle.cues.specs.declared.checked.Checked.the-variants.{Fits}
+use Rattle.cues.specs.declared.lookup.CueAt.{CueAt}
+use Rattle.cues.specs.declared.lookup.CueAt.the-variants as found
 use Rattle.cues.specs.declared.index.End.{End}
 use Rattle.cues.specs.declared.index.End.the-variants as end
 use Rattle.cues.specs.declared.index.Indexed.the-variants.{Written}
@@ -44,12 +50,6 @@ abbrev pub endWith : List ℕ → End
 endWith [] = end.Whole
 endWith (x ∷ kept) = end.Waiting
 
--- no frame was refused
-abbrev pub MayContinue : End → Type 0
-MayContinue end.Whole = Unit {0}
-MayContinue end.Waiting = Unit {0}
-MayContinue (end.Refused k) = ⊥
-
 -- what a writer meets that repeats the step: before it `base` bytes of the recording were consumed, and it holds what was kept. It adds the
 -- next portion, with which a buffer is at most 65,535 bytes, has an output with room, and keeps the bytes from `used` on. The last index is
 -- what all steps together write, and where and why they stop
@@ -71,22 +71,47 @@ AnyBuffers =
     (portions : List (List ℕ)) → length (joinedBytes portions) ≤ longestRecording
     → Buffered 0 [] portions (indexOf 0 (joinedBytes portions))
 
--- what waits leaves room in a buffer for a byte more, so that every recording can be read
-abbrev pub KeptIsShort : Type 0
-KeptIsShort =
-    (base : ℕ) (l w : List ℕ) (at : ℕ) (why : End) → MayContinue why → indexOf base l ≡ index w at why → length (drop (at - base) l) < longest
+-- ---- a program that walks over a recording
+
+-- it stops at a refused frame, and else with the last portion
+abbrev pub WalkStops : List (List ℕ) → End → Type 0
+WalkStops [] why = Unit {0}
+WalkStops (portion ∷ later) why = MayContinue why → ⊥
+
+-- what a program meets that repeats the step, with any outputs: its buffer is what it kept and the next portion; it takes the first records
+-- of the output for those that were written. The last index is what it writes, and where and why it says that it stopped
+pub data Walk : ℕ → List ℕ → List (List ℕ) → Index → Type 0 where
+  reads-on : {base n used : ℕ} {kept portion out after : List ℕ} {later : List (List ℕ)} {why : End} {rest : Index}
+      → Indexes (kept ++ portion) base out (Written n used why) after → MayContinue why
+      → Walk (base + used) (drop used (kept ++ portion)) later rest
+      → Walk base kept (portion ∷ later) (withEntry (take (entrySize * n) after) rest)
+  stops : {base n used : ℕ} {kept portion out after : List ℕ} {later : List (List ℕ)} {why : End}
+      → Indexes (kept ++ portion) base out (Written n used why) after → WalkStops later why
+      → Walk base kept (portion ∷ later) (index (take (entrySize * n) after) (base + used) why)
+
+-- every such walk writes the index of the whole recording
+abbrev pub EveryWalk : Type 0
+EveryWalk = (portions : List (List ℕ)) (i : Index) → Walk 0 [] portions i → i ≡ indexOf 0 (joinedBytes portions)
+
+-- ---- a program that checks an index
+
+-- the parts of a fresh index are whole records
+abbrev pub WholeRecords : List (List ℕ) → Type 0
+WholeRecords [] = Unit {0}
+WholeRecords (part ∷ later) = (length part % entrySize ≡ 0) × WholeRecords later
+
+-- a check as a program makes it: each part of the fresh index against as many bytes of the given one, or those that it still has, the
+-- records before being added to its number; and after the last part what the given one still has
+unfoldable pub checkedInParts : List (List ℕ) → List ℕ → Checked
+checkedInParts [] given = compared [] given
+checkedInParts (part ∷ later) given =
+    followedBy (compared part (take (length part) given)) (checkedInParts later (drop (length part) given))
+
+-- every such check says what the check of all says
+abbrev pub EveryCheck : Type 0
+EveryCheck = (parts : List (List ℕ)) (given : List ℕ) → WholeRecords parts → checkedInParts parts given ≡ compared (joinedBytes parts) given
 
 -- ---- where the cues lie
-
--- the numbers of record k of an index: "offset of the prefix (8), frame length without prefix (4), records in its table (4)"
-abbrev pub cueOffset : List ℕ → ℕ → ℕ
-cueOffset w k = number 8 (drop (entrySize * k) w)
-
-abbrev pub cueSize : List ℕ → ℕ → ℕ
-cueSize w k = number 4 (drop (entrySize * k + 8) w)
-
-abbrev pub cueRecords : List ℕ → ℕ → ℕ
-cueRecords w k = number 4 (drop (entrySize * k + 12) w)
 
 -- the frames of an index, the first of which stands at offset `base`, stand end to end up to where writing stopped
 pub record EndToEnd (base : ℕ) (w : List ℕ) (at : ℕ) : Type 0 where
@@ -117,3 +142,14 @@ abbrev pub EveryCue : Type 0
 EveryCue =
     (l w : List ℕ) (at : ℕ) (why : End) → length l ≤ longestRecording → indexOf 0 l ≡ index w at why
     → (k : ℕ) → k < length w / entrySize → CueThere l (cueOffset w k) (cueSize w k) (cueRecords w k)
+
+-- what a lookup of cue k gives, in an index of n records that was checked against the recording l: a cue that is there, or 11
+abbrev pub CueFound : List ℕ → ℕ → ℕ → CueAt → Type 0
+CueFound l n k (found.At offset size records) = (k < n) × CueThere l offset size records
+CueFound l n k (found.Refused r) = (n ≤ k) × (r ≡ BadTable)
+
+-- "an index that was checked": every lookup in it gives such a cue
+abbrev pub CheckedCue : Type 0
+CheckedCue =
+    (recording given : List ℕ) (n k : ℕ) → length recording ≤ longestRecording → checkedAs recording given ≡ Fits n
+    → CueFound recording n k (cueIn given k)

@@ -27,13 +27,18 @@ use Rattle.answering.specs.declared.Decoded.{Decoded}
 use Rattle.answering.specs.declared.Decoded.the-variants as decoded
 use Rattle.encoder.specs.declared.Encoded.{Encoded}
 use Rattle.encoder.specs.declared.Encoded.the-variants as encoded
+use Rattle.cues.specs.declared.index.End.{End}
+use Rattle.cues.specs.declared.index.End.the-variants as end
+use Rattle.cues.specs.declared.checked.Checked.{Checked}
+use Rattle.cues.specs.declared.checked.Checked.the-variants as checked
 use Rattle.telling.specs.Forms.{pieceOf, takenBy, filledIn, line}
 use Rattle.telling.specs.Answers.{packetsForm, dirtyForm, stoppedForm, stoppedDirtyForm, refusedLine, refusedWords, decodedLine}
 use Rattle.telling.specs.Answers.{encodedLine, versionLine}
 use Rattle.telling.specs.Shown.{shownAs, signWords, valueLine, lookedLine, startedLine}
+use Rattle.telling.specs.Indexes.{indexLine, checkedLine, progressLine}
 use Rattle.telling.specs.Troubles.{troubleLine}
 use Rattle.telling.specs.CodeTable.{saidBy, with, refusedAs, decodedAs, encodedAs, signedAs, valueAs, lookedAs}
-use Rattle.telling.specs.CodeTable.{reasonOf, startedAs, troubleAs}
+use Rattle.telling.specs.CodeTable.{reasonOf, startedAs, indexAs, comparedAs, troubleAs}
 use Rattle.telling.specs.declared.line.Line.{Line}
 use Rattle.telling.specs.declared.troubles.Trouble.{Trouble}
 use Rattle.telling.specs.declared.troubles.Trouble.the-variants as trouble
@@ -89,10 +94,14 @@ trouble-said trouble.NoFile number word = refl
 trouble-said trouble.OneFile number word = refl
 trouble-said trouble.TooLarge number word = refl
 trouble-said trouble.NoTable number word = refl
+trouble-said trouble.IndexWords number word = refl
+trouble-said trouble.CheckWords number word = refl
+trouble-said trouble.CueWords number word = refl
+trouble-said trouble.Shorter number word = refl
 
 -- packets that were read: with no dirty padding (true), and with some (false)
 packets-said : (packets count left dirty : ℕ) (clean : Bool)
-    → saidBy (cond clean (with 22 packets count left 0 0 0) (with 51 packets count left dirty 0 0)) []
+    → saidBy (cond clean (with 22 packets count left 0 0 0) (with 55 packets count left dirty 0 0)) []
     ≡ cond clean (line packetsForm (packets ∷ count ∷ left ∷ []) []) (line dirtyForm (packets ∷ count ∷ left ∷ dirty ∷ []) [])
 unfolding saidBy filledIn pieceOf takenBy
 packets-said packets count left dirty true = refl
@@ -100,7 +109,7 @@ packets-said packets count left dirty false = refl
 
 -- packets that were read before a refused frame, in the same way
 stopped-said : (packets count left dirty frame : ℕ) (words : List ℕ) (clean : Bool)
-    → saidBy (cond clean (with 52 packets count left frame 0 0) (with 53 packets count left dirty frame 0)) words
+    → saidBy (cond clean (with 56 packets count left frame 0 0) (with 57 packets count left dirty frame 0)) words
     ≡ cond clean (line stoppedForm (packets ∷ count ∷ left ∷ frame ∷ []) words)
     (line stoppedDirtyForm (packets ∷ count ∷ left ∷ dirty ∷ frame ∷ []) words)
 unfolding saidBy filledIn pieceOf takenBy
@@ -123,9 +132,27 @@ encoded-said (encoded.Written n) = refl
 encoded-said (encoded.Refused r) = refused-said r []
 
 -- the version
-pub version-said : (version : List ℕ) → saidBy (with 49 0 0 0 0 0 0) version ≡ versionLine version
+pub version-said : (version : List ℕ) → saidBy (with 53 0 0 0 0 0 0) version ≡ versionLine version
 unfolding saidBy filledIn pieceOf takenBy
 version-said version = refl
+
+-- an index that was written
+pub index-said : (records at : ℕ) (e : End) → saidBy (indexAs records at e) [] ≡ indexLine records at e
+unfolding saidBy filledIn pieceOf takenBy
+index-said records at end.Whole = refl
+index-said records at end.Waiting = refl
+index-said records at (end.Refused k) = refl
+
+-- one that was checked
+pub checked-said : (x : Checked) → saidBy (comparedAs x) [] ≡ checkedLine x
+unfolding saidBy filledIn pieceOf takenBy
+checked-said (checked.Fits records) = refl
+checked-said (checked.Differs k) = refl
+
+-- how much is read
+pub progress-said : (mebibytes : ℕ) → saidBy (with 63 mebibytes 0 0 0 0 0) [] ≡ progressLine mebibytes
+unfolding saidBy filledIn pieceOf takenBy
+progress-said mebibytes = refl
 
 module _ (i k e : ℕ) where
   signed-said : (z : ℤ) → saidBy (signedAs i e z) (k ∷ []) ≡ shownAs i k e (signWords z) (natAbs z ∷ [])

@@ -18,11 +18,16 @@ use Rattle.answering.specs.declared.Decoded.{Decoded}
 use Rattle.answering.specs.declared.Decoded.the-variants as decoded
 use Rattle.encoder.specs.declared.Encoded.{Encoded}
 use Rattle.encoder.specs.declared.Encoded.the-variants as encoded
+use Rattle.cues.specs.declared.index.End.{End}
+use Rattle.cues.specs.declared.index.End.the-variants as end
+use Rattle.cues.specs.declared.checked.Checked.{Checked}
+use Rattle.cues.specs.declared.checked.Checked.the-variants as checked
 use Rattle.telling.specs.Ascii.{ascii}
 use Rattle.telling.specs.Forms.{filledIn}
 use Rattle.telling.specs.Answers.{refusedForms, packetsForm, dirtyForm, stoppedForm, stoppedDirtyForm, waitingForm, writtenForm}
 use Rattle.telling.specs.Answers.{versionForm, refusedWords}
 use Rattle.telling.specs.Shown.{recordForm, startForm}
+use Rattle.telling.specs.Indexes.{wholeForm, indexWaitingForm, indexRefusedForm, fitsForm, differsForm, progressForm}
 use Rattle.telling.specs.Troubles.{troubleForm}
 use Rattle.telling.specs.declared.line.Line.{Line}
 use Rattle.telling.specs.declared.troubles.Trouble.{Trouble}
@@ -38,7 +43,9 @@ forms =
     ∷ troubleForm trouble.LookWords ∷ troubleForm trouble.NoFraming ∷ troubleForm trouble.OnePacket ∷ troubleForm trouble.NoOption
     ∷ troubleForm trouble.Twice ∷ troubleForm trouble.NoNumber ∷ troubleForm trouble.ManyRecords ∷ troubleForm trouble.NoName
     ∷ troubleForm trouble.LongName ∷ troubleForm trouble.NoFile ∷ troubleForm trouble.OneFile ∷ troubleForm trouble.TooLarge
-    ∷ troubleForm trouble.NoTable ∷ versionForm ∷ startForm ∷ dirtyForm ∷ stoppedForm ∷ stoppedDirtyForm ∷ [])
+    ∷ troubleForm trouble.NoTable ∷ troubleForm trouble.IndexWords ∷ troubleForm trouble.CheckWords ∷ troubleForm trouble.CueWords
+    ∷ troubleForm trouble.Shorter ∷ versionForm ∷ startForm ∷ dirtyForm ∷ stoppedForm ∷ stoppedDirtyForm ∷ wholeForm ∷ indexWaitingForm
+    ∷ indexRefusedForm ∷ fitsForm ∷ differsForm ∷ progressForm ∷ [])
 
 -- what a line says, with a text
 unfoldable pub saidBy : Line → List ℕ → List ℕ
@@ -54,12 +61,12 @@ refusedAs refusal = with (numberOf refusal) (numberOf refusal) (offsetOf refusal
 
 -- packets that were read, with their dirty padding or, where there is none, without
 abbrev pub packetsAs : ℕ → ℕ → ℕ → ℕ → Line
-packetsAs packets count left dirty = cond (eqb dirty 0) (with 22 packets count left 0 0 0) (with 51 packets count left dirty 0 0)
+packetsAs packets count left dirty = cond (eqb dirty 0) (with 22 packets count left 0 0 0) (with 55 packets count left dirty 0 0)
 
 -- packets that were read before a refused frame, in the same way
 abbrev pub stoppedAs : ℕ → ℕ → ℕ → ℕ → ℕ → Line
 stoppedAs packets count left dirty frame =
-    cond (eqb dirty 0) (with 52 packets count left frame 0 0) (with 53 packets count left dirty frame 0)
+    cond (eqb dirty 0) (with 56 packets count left frame 0 0) (with 57 packets count left dirty frame 0)
 
 -- a decoder's answer
 abbrev pub decodedAs : ℕ → ℕ → Decoded → Line
@@ -111,8 +118,19 @@ lookedAs i e (looked.Refused refusal) = refusedAs refusal
 
 -- what `start_of` answers
 abbrev pub startedAs : Started → Line
-startedAs (started.At start) = with 50 start 0 0 0 0 0
+startedAs (started.At start) = with 54 start 0 0 0 0 0
 startedAs (started.Refused refusal) = refusedAs refusal
+
+-- an index that was written
+abbrev pub indexAs : ℕ → ℕ → End → Line
+indexAs records at end.Whole = with 58 records 0 0 0 0 0
+indexAs records at end.Waiting = with 59 records at 0 0 0 0
+indexAs records at (end.Refused k) = with 60 records at (numberOf k) 0 0 0
+
+-- one that was checked
+abbrev pub comparedAs : Checked → Line
+comparedAs (checked.Fits records) = with 61 records 0 0 0 0 0
+comparedAs (checked.Differs k) = with 62 k 0 0 0 0 0
 
 -- the place of a trouble among the others
 abbrev pub placeOf : Trouble → ℕ
@@ -132,6 +150,10 @@ placeOf trouble.NoFile = 12
 placeOf trouble.OneFile = 13
 placeOf trouble.TooLarge = 14
 placeOf trouble.NoTable = 15
+placeOf trouble.IndexWords = 16
+placeOf trouble.CheckWords = 17
+placeOf trouble.CueWords = 18
+placeOf trouble.Shorter = 19
 
 -- a trouble: its form stands at its place after the others
 abbrev pub troubleAs : Trouble → ℕ → Line

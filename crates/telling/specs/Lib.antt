@@ -3,6 +3,7 @@ pub mod Decimal
 pub mod Forms
 pub mod Answers
 pub mod Shown
+pub mod Indexes
 pub mod Troubles
 pub mod CodePut
 pub mod CodeTable

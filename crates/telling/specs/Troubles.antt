@@ -7,10 +7,11 @@ use Rattle.telling.specs.declared.troubles.Trouble.{Trouble}
 use Rattle.telling.specs.declared.troubles.Trouble.the-variants.{NoCommand, DecodeWords, EncodeWords, LookWords, NoFraming}
 use Rattle.telling.specs.declared.troubles.Trouble.the-variants.{OnePacket, NoOption, Twice, NoNumber, ManyRecords, NoName}
 use Rattle.telling.specs.declared.troubles.Trouble.the-variants.{LongName, NoFile, OneFile, TooLarge, NoTable}
+use Rattle.telling.specs.declared.troubles.Trouble.the-variants.{IndexWords, CheckWords, CueWords, Shorter}
 
 -- what each trouble is, of a word or the name of a file and a number of bytes
 abbrev pub troubleForm : Trouble → String
-troubleForm NoCommand = "osc: the first word is not decode, encode, look, help or --version: ~\n"
+troubleForm NoCommand = "osc: the first word is not decode, encode, look, index, check, cue, help or --version: ~\n"
 troubleForm DecodeWords = "osc: decode takes udp|tcp|tcp-vec|tcp2|tcp2-vec INPUT TABLE [--depth N] [--records N]\n"
 troubleForm EncodeWords = "osc: encode takes udp|tcp|tcp2 TABLE SOURCE OUTPUT\n"
 troubleForm LookWords = "osc: look takes TABLE INDEX\n"
@@ -26,6 +27,10 @@ troubleForm NoFile = "osc: ~: not a file that can be replaced\n"
 troubleForm OneFile = "osc: ~: the output is the same file, or cannot be told from it\n"
 troubleForm TooLarge = "osc: ~: the file is too large: it has at least % bytes\n"
 troubleForm NoTable = "osc: ~: a table has a multiple of 20 bytes, and this has % bytes\n"
+troubleForm IndexWords = "osc: index takes RECORDING INDEX\n"
+troubleForm CheckWords = "osc: check takes RECORDING INDEX\n"
+troubleForm CueWords = "osc: cue takes RECORDING INDEX K TABLE\n"
+troubleForm Shorter = "osc: ~: the file became shorter while it was read\n"
 
 -- the same with its word and its number
 abbrev pub troubleLine : Trouble → ℕ → List ℕ → List ℕ

@@ -4,11 +4,15 @@ mod lines; // lines.rt: a text cut into lines
 mod line; // line.rt: a line before it is written
 mod answers; // answers.rt: the line for an answer of the library
 mod shown; // shown.rt: the line for a record that is looked at
+mod indexes; // indexes.rt: the line for a cue index
 mod troubles; // troubles.rt: the line for trouble with a word or a file
 
 pub use answers::tell_decoded;
 pub use answers::tell_encoded;
 pub use answers::tell_version;
+pub use indexes::tell_checked;
+pub use indexes::tell_index;
+pub use indexes::tell_progress;
 pub use shown::tell_record;
 pub use shown::tell_start;
 pub use troubles::Trouble;

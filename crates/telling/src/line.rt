@@ -17,7 +17,7 @@ pub struct Line {
 }
 
 // The forms, a line to each: those of the refusals stand at their numbers, and a line whose number no refusal has is empty.
-const FORMS: [u8; 2320] = *b"
+const FORMS: [u8; 2659] = *b"
 refused %: decode input over 65,535 bytes, or encoded result (prefix included) over it, or frame length over 65,531
 refused %: a packet of no bytes
 
@@ -50,7 +50,7 @@ record %: ~ seconds % fraction %, end %
 record %: ~ bits 0x$, end %
 record %: ~ bits 0x$$, end %
 record %: ~ % % % %, end %
-osc: the first word is not decode, encode, look, help or --version: ~
+osc: the first word is not decode, encode, look, index, check, cue, help or --version: ~
 osc: decode takes udp|tcp|tcp-vec|tcp2|tcp2-vec INPUT TABLE [--depth N] [--records N]
 osc: encode takes udp|tcp|tcp2 TABLE SOURCE OUTPUT
 osc: look takes TABLE INDEX
@@ -66,11 +66,21 @@ osc: ~: not a file that can be replaced
 osc: ~: the output is the same file, or cannot be told from it
 osc: ~: the file is too large: it has at least % bytes
 osc: ~: a table has a multiple of 20 bytes, and this has % bytes
+osc: index takes RECORDING INDEX
+osc: check takes RECORDING INDEX
+osc: cue takes RECORDING INDEX K TABLE
+osc: ~: the file became shorter while it was read
 osc ~
 start %
 packets: %, records: %, bytes left: %, dirty padding bytes: %
 stopped: packets: %, records: %, bytes left: %, ~, frame at offset %
 stopped: packets: %, records: %, bytes left: %, dirty padding bytes: %, ~, frame at offset %
+index: % records, whole
+index: % records, stopped at %: waiting
+index: % records, stopped at %: refused %
+index fits: % records
+refused 25: record %
+osc: % MiB read
 ";
 
 pub const PACKETS: usize = 22;
@@ -98,15 +108,27 @@ pub const FOUR: usize = 32;
 // The first of the forms of troubles, which stand in the order of `Trouble`.
 pub const TROUBLES: usize = 33;
 
-pub const VERSION: usize = 49;
+pub const VERSION: usize = 53;
 
-pub const START: usize = 50;
+pub const START: usize = 54;
 
-pub const DIRTY: usize = 51;
+pub const DIRTY: usize = 55;
 
-pub const STOPPED: usize = 52;
+pub const STOPPED: usize = 56;
 
-pub const STOPPED_DIRTY: usize = 53;
+pub const STOPPED_DIRTY: usize = 57;
+
+pub const INDEX_WHOLE: usize = 58;
+
+pub const INDEX_WAITING: usize = 59;
+
+pub const INDEX_REFUSED: usize = 60;
+
+pub const INDEX_FITS: usize = 61;
+
+pub const INDEX_DIFFERS: usize = 62;
+
+pub const PROGRESS: usize = 63;
 
 // A line of a form and as many numbers as one has.
 pub fn formed(form: usize, a: u64, b: u64, c: u64, d: u64, e: u64, f: u64) -> Line

@@ -27,11 +27,15 @@ pub enum Trouble {
     OneFile,
     TooLarge,
     NoTable,
+    IndexWords,
+    CheckWords,
+    CueWords,
+    Shorter,
 }
 
 // The place of a trouble among the others.
 fn place_of(trouble: Trouble) -> usize
-    ensures { λ r. ⌜ (r ≡ placeOf trouble) × (r < 16) ⌝ }
+    ensures { λ r. ⌜ (r ≡ placeOf trouble) × (r < 20) ⌝ }
 {
     match trouble {
         Trouble::NoCommand => 0,
@@ -50,6 +54,10 @@ fn place_of(trouble: Trouble) -> usize
         Trouble::OneFile => 13,
         Trouble::TooLarge => 14,
         Trouble::NoTable => 15,
+        Trouble::IndexWords => 16,
+        Trouble::CheckWords => 17,
+        Trouble::CueWords => 18,
+        Trouble::Shorter => 19,
     }
 }
 

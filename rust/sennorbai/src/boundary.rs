@@ -13,6 +13,11 @@
 //! A step over a stream has in bits 0 to 31 of its answer the bytes that were used, and in bits 56 to 63 only a refusal of the call. As
 //! more it has the number of a refused frame's refusal in bits 48 to 63: that frame stands right after the used bytes.
 //!
+//! A step that writes a cue index has in bits 32 to 55 the records written and in bits 0 to 31 the bytes used; as more it has 1 where
+//! the next frame is not all there, and the number of a refused frame's refusal in bits 48 to 63. A check has in bits 0 to 55 the number of
+//! the next record, or that of the first that differs with 25 in bits 56 to 63. A cue has its records in bits 32 to 55 and its length in
+//! bits 0 to 31, and its offset beside it.
+//!
 //! The functions of the crate's root take these answers apart and are what a program should call.
 #![allow(unsafe_code)]
 
@@ -71,6 +76,17 @@ mod c {
             depth: u64,
             more: *mut u64,
         ) -> u64;
+        #[rustfmt::skip]
+        pub fn osc_index_step(bytes: *const u8, len: usize, base: u64, out: *mut u8, out_len: usize, more: *mut u64) -> u64;
+        #[rustfmt::skip]
+        pub fn osc_index_check_step(
+            fresh: *const u8,
+            fresh_len: usize,
+            given: *const u8,
+            given_len: usize,
+            from: u64,
+        ) -> u64;
+        pub fn osc_cue(index: *const u8, len: usize, k: u64, offset: *mut u64) -> u64;
         #[rustfmt::skip]
         pub fn osc_encode(
             table: *const u8,
@@ -140,6 +156,21 @@ pub fn decode_tcp_vec2(msg: &[u8], table: &mut [u8], depth: u64, more: &mut u64)
 /// `osc_read_portion`: the packets of the whole frames among `bytes`, which were kept of a TCP stream and came after that, by edition 2.
 pub fn read_portion(bytes: &[u8], table: &mut [u8], depth: u64, more: &mut u64) -> u64 {
     unsafe { c::osc_read_portion(bytes.as_ptr(), bytes.len(), table.as_mut_ptr(), table.len(), depth, more) }
+}
+
+/// `osc_index_step`: the cue index of the whole frames among `bytes`, which stand at offset `base` of a recording in edition 2.
+pub fn index_step(bytes: &[u8], base: u64, out: &mut [u8], more: &mut u64) -> u64 {
+    unsafe { c::osc_index_step(bytes.as_ptr(), bytes.len(), base, out.as_mut_ptr(), out.len(), more) }
+}
+
+/// `osc_index_check_step`: the records written afresh against as many bytes of an index, of which the first is number `record`.
+pub fn index_check_step(fresh: &[u8], given: &[u8], record: u64) -> u64 {
+    unsafe { c::osc_index_check_step(fresh.as_ptr(), fresh.len(), given.as_ptr(), given.len(), record) }
+}
+
+/// `osc_cue`: the record of number `k` in an index.
+pub fn cue(index: &[u8], k: u64, offset: &mut u64) -> u64 {
+    unsafe { c::osc_cue(index.as_ptr(), index.len(), k, offset) }
 }
 
 /// `osc_encode`: the packet of `count` records.

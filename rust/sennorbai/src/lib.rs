@@ -1,8 +1,8 @@
 //! Open Sound Control for the recorder: safe Rust over the proved static library.
 //!
 //! A packet is read into a table that the caller lends, and a table is written back into bytes that the caller lends. Nothing
-//! is allocated, and only a [`StreamReader`] keeps anything from one call to the next. Every call ends in an answer or in one of
-//! document 01's numbered [`Refusal`]s, which changes no lent byte.
+//! is allocated but by the modules of the feature `std`, and only a [`StreamReader`] keeps anything from one call to the next. Every call
+//! ends in an answer or in one of document 01's numbered [`Refusal`]s, which changes no lent byte.
 //!
 //! - [`decode_udp`], [`decode_tcp`] and [`decode_tcp_vec`] read. They give a [`Packet`] or [`Packets`], whose [`Record`]s
 //!   are read as typed [`Value`]s: texts are `&str` and blobs `&[u8]`, both parts of the input. [`Record::start`] and
@@ -13,7 +13,9 @@
 //!   rest until more has come.
 //! - [`Builder`] makes a [`Table`] from values. [`Table::check`] reads a table from anywhere.
 //! - [`encode`], [`encode_tcp`] and [`encode_string`] write.
-//! - `rosc_compat` (feature `std`, which is on by default) has the types and signatures of the crate rosc 0.11.4.
+//! - `index` (feature `std`, which is on by default) writes and checks a cue index of a recording, and looks cues up in one that was
+//!   checked.
+//! - `rosc_compat` (feature `std`) has the types and signatures of the crate rosc 0.11.4.
 //!
 //! ```
 //! use sennorbai::{decode_udp, encode, Value, DEEPEST};
@@ -36,7 +38,7 @@
 //!
 //! Depth counts bundles and arrays together: a bundle is one level and so is an array, along the deepest path of a tree; a message
 //! adds none. A decoder is told how deep its trees may be, at most [`DEEPEST`]; an encoder takes a tree of that depth and none
-//! deeper. So no call goes deeper than that either: each ends within 35,776 bytes of stack, whatever it is given.
+//! deeper. So no call goes deeper than that either: each ends within 35,632 bytes of stack, whatever it is given.
 #![cfg_attr(not(feature = "std"), no_std)]
 #![deny(missing_docs, unsafe_code)]
 
@@ -45,6 +47,8 @@ mod builder;
 mod decode;
 mod edition;
 mod encode;
+#[cfg(feature = "std")]
+pub mod index;
 mod limits;
 mod refusal;
 #[cfg(feature = "std")]

@@ -11,7 +11,7 @@ use Rattle.refusal.specs.declared.Fault.the-variants.{Empty}
 use Rattle.refusal.specs.declared.Refusal.the-variants.{Unreadable, BadTable, OutputShort, PadOverflow}
 use Rattle.wire.specs.Number.{number, bytes}
 use Rattle.wire.specs.declared.Padded.the-variants as padded
-use Rattle.node.specs.Forest.{size, depth}
+use Rattle.node.specs.Forest.{size, depth, snoc}
 use Rattle.node.specs.Records.{recordOf, recordsOf, kindAt, zerosAt, fieldAt}
 use Rattle.node.specs.Rules.{ownRules}
 use Rattle.node.specs.Tags.{among, classOf, sortOf}
@@ -19,19 +19,29 @@ use Rattle.values.specs.Value.{valueBy}
 use Rattle.values.specs.Look.{lookAt}
 use Rattle.values.specs.declared.value.OscType.the-variants.{Blob, Double}
 use Rattle.values.specs.declared.look.Looked.the-variants as looked
-use Rattle.heads.specs.Heads.{prefixOf}
-use Rattle.packet.specs.Packet.{packetAt, readPacket}
+use Rattle.text.specs.Text.{readText}
+use Rattle.argument.specs.Argument.{readArg}
+use Rattle.arguments.specs.Arguments.{readTags}
+use Rattle.heads.specs.Heads.{prefixOf, lengthOf}
+use Rattle.packet.specs.FirstText.{startOf}
+use Rattle.packet.specs.Packet.{readMessage, packetBy, packetAt, readPacket}
 use Rattle.edition.specs.declared.Edition.the-variants.{Rosc}
-use Rattle.framing.specs.Framing.{udp, readFrame, tcp, tcpVec}
+use Rattle.framing.specs.Framing.{udp, readFrame, cutFrame, tcp, tcpVec}
 use Rattle.framing.specs.declared.Framing.the-variants.{Udp, Tcp, TcpVec}
 use Rattle.answering.specs.Limits.{decodeOrder, decoded, forestOf, tabled}
 use Rattle.answering.specs.declared.Decoded.{Decoded}
 use Rattle.answering.specs.declared.Decoded.the-variants as decodes
+use Rattle.cues.specs.Cues.{cueOf, entryOf, indexAt}
+use Rattle.cues.specs.Checks.{comparedAt}
+use Rattle.cues.specs.declared.index.Indexed.the-variants as indexed
+use Rattle.cues.specs.declared.checked.Checked.the-variants.{Differs}
+use Rattle.cues.specs.declared.lookup.CueAt.the-variants as found
 use Rattle.strings.specs.Atomic.{oscString, oscBlob}
 use Rattle.writers.specs.Osc as osc
 use Rattle.encoder.specs.Outcome.{bytesOutcome, treeOutcome, malformed, formed}
 use Rattle.encoder.specs.declared.Encoded.the-variants as encodes
-use Rattle.answers.specs.Calls.{Meets, Ending, decode, encode, pad, look, text-of, refuses, byEncoded, Fruitless}
+use Rattle.answers.specs.Calls.{Meets, Ending, decode, index-step, compare, cue-at, encode, pad, look, text-of, refuses, byEncoded}
+use Rattle.answers.specs.Calls.{Fruitless}
 use Rattle.answers.specs.Demands.{tableAfter}
 use Rattle.table.proofs.Examples as p3
 use Rattle.answers.proofs.Calls.Listed.{listed}
@@ -69,6 +79,25 @@ written = formed p3.message p3.five p3.p3-tree refl
 -- 2^64 - 1 has no next multiple of 4
 last : Meets (pad 0xffff_ffff_ffff_ffff) (record { answer = padded.Refused PadOverflow; lent = tt })
 last = refl
+
+-- ---- a cue index, of P3's packet in a frame
+
+-- its record is refused with 12 where the output has a byte less
+room-short : Meets (index-step (0 ∷ 0 ∷ 0 ∷ 12 ∷ p3.packet) 0 (replicate 15 9))
+    (record { answer = indexed.Refused OutputShort; lent = replicate 15 9 })
+unfolding number bytes size depth snoc classOf sortOf readText readArg readTags startOf readMessage packetBy packetAt readPacket lengthOf
+    cutFrame cueOf indexAt
+room-short = record { answers = refl; leaves = refl }
+
+-- a byte after its record is a part, and differs as record 1
+byte-more : Meets (compare (entryOf 0 16 2) (entryOf 0 16 2 ++ (0 ∷ []))) (record { answer = Differs 1; lent = tt })
+unfolding bytes comparedAt
+byte-more = refl
+
+-- it has no cue 1
+no-cue : Meets (cue-at (entryOf 0 16 2) 1) (record { answer = found.Refused BadTable; lent = tt })
+unfolding bytes
+no-cue = refl
 
 -- ---- the kinds that need care, over the packets and tables of crates/table/proofs/Examples.antt
 

@@ -2,9 +2,11 @@
 use mathlib.Core.Path.{_≡_, refl, sym, subst}
 use mathlib.Core.Bool.{Bool, true, false, _&&_}
 use mathlib.Core.List.{List, []}
-use Prim.Native.Nat.{ℕ, _<_}
+use Prim.Native.Nat.{ℕ, _+_, _/_, _<_}
 use lib.Dec.{eqb, ltb}
 use lib.ListN.{length}
+use Rattle.refusal.specs.Refusal.{numberOf}
+use Rattle.refusal.specs.declared.Refusal.{Refusal}
 use Rattle.wire.specs.Pad.{padOf}
 use Rattle.utf8.specs.Derive.{utf8}
 use Rattle.wire.specs.Limits.{longest, deepest}
@@ -26,14 +28,24 @@ use Rattle.answering.specs.declared.Decoded.{Decoded}
 use Rattle.answering.specs.declared.Decoded.the-variants.{Packets, Waiting, Refused, Stopped}
 use Rattle.portions.specs.Portions.{portionOf}
 use Rattle.portions.specs.declared.Portion.{Portion}
+use Rattle.cues.specs.Cues.{longestRecording, entrySize, Index, index, indexOf, writtenOf, indexedAs, indexAnswer, cueIn}
+use Rattle.cues.specs.Refusals.{cueOrder}
+use Rattle.cues.specs.declared.index.End.the-variants as end
+use Rattle.cues.specs.declared.index.Indexed.{Indexed}
+use Rattle.cues.specs.declared.checked.Checked.{Checked}
+use Rattle.cues.specs.declared.checked.Checked.the-variants as checked
+use Rattle.cues.specs.declared.lookup.CueAt.{CueAt}
 use Rattle.strings.specs.Atomic.{oscString}
 use Rattle.writers.specs.Osc.{writePacket}
 use Rattle.encoder.specs.Outcome.{encodeOrder, Outcome, bytesOutcome, treeOutcome, Encodes, malformed, formed, stringOutcome}
-use Rattle.answers.specs.Calls.{decode, read-portion, encode, encode-tcp, encode-string, pad, look, start-of, text-of, byDecoded}
-use Rattle.answers.specs.Calls.{byPortion, byEncoded, byPadded, byLooked, byStarted, numbersOf, mayWait, Listed, AnswersListed}
+use Rattle.answers.specs.Calls.{decode, read-portion, index-step, compare, cue-at, encode, encode-tcp, encode-string, pad, look}
+use Rattle.answers.specs.Calls.{start-of, text-of, byDecoded, byPortion, byIndexed, byChecked, byCueAt, byEncoded, byPadded, byLooked}
+use Rattle.answers.specs.Calls.{byStarted, numbersOf, mayWait, Listed, AnswersListed}
 use Rattle.wire.proofs.Choices.{by-test, by-le}
 use Rattle.decoder.proofs.Chosen.{by-decoded, by-bounded}
 use Rattle.decoder.proofs.Numbers.{Among, rule-among, nine, limits}
+use Rattle.cues.proofs.Indexes.{IndexIn, index-in}
+use Rattle.cues.proofs.Numbers.{refused-among}
 
 -- ---- decoders
 
@@ -71,6 +83,41 @@ portion-listed (Packets count left dirty) n h = tt
 portion-listed (Stopped count left dirty k at) n h = h
 portion-listed Waiting n h = tt
 portion-listed (Refused k) n h = h
+
+-- ---- a cue index
+
+-- what is known of a refused frame
+abbrev FrameListed : ℕ → Refusal → Type 0
+FrameListed m k = among (numberOf k) cueOrder ≡ true
+
+module _ (bytes : List ℕ) (base : ℕ) (out : List ℕ) where
+  -- the answer of a step that writes an index
+  abbrev Indexing : Indexed → Type 0
+  Indexing r = Listed (numbersOf (index-step bytes base out)) false cueOrder (byIndexed r)
+
+  written-listed : (i : Index) → IndexIn FrameListed base (length bytes) i → Indexing (indexedAs base i)
+  written-listed (index written at end.Whole) w = tt
+  written-listed (index written at end.Waiting) w = tt
+  written-listed (index written at (end.Refused k)) w = w .3
+
+  index-listed : Indexing (indexAnswer base bytes (length out))
+  index-listed =
+      by-le Indexing (length bytes) longest
+      (λ _. by-le Indexing (base + length bytes) longestRecording
+      (λ _. by-le Indexing (length (writtenOf (indexOf base bytes))) (length out)
+      (λ _. written-listed (indexOf base bytes) (index-in FrameListed refused-among base bytes)) (λ _. refl)) (λ _. refl)) (λ _. refl)
+
+-- the answer of a check
+checked-listed : (fresh given : List ℕ) (r : Checked) → Listed (numbersOf (compare fresh given)) false [] (byChecked r)
+checked-listed fresh given (checked.Fits n) = tt
+checked-listed fresh given (checked.Differs k) = refl
+
+-- that of a cue by its number
+abbrev Cueing : List ℕ → ℕ → CueAt → Type 0
+Cueing w k r = Listed (numbersOf (cue-at w k)) false [] (byCueAt r)
+
+cue-listed : (w : List ℕ) (k : ℕ) → Cueing w k (cueIn w k)
+cue-listed w k = by-test (Cueing w k) (ltb k (length w / entrySize)) (λ _. tt) (λ _. refl)
 
 -- ---- encoders
 
@@ -124,18 +171,21 @@ start-listed t i = by-test (Starting t i) (ltb i (capacity t)) (λ h. tt) (λ h.
 
 -- ---- every call
 
--- every answer is a result, Waiting from `decode_tcp`, a refusal that documents 01 and 02 list for the call, or of a list of edition 2 the
--- packets before a refused frame, whose refusal they list
+-- every answer is a result, Waiting from `decode_tcp`, a refusal that documents 01 and 02 list for the call, with 25 a record's number, or
+-- of a list or an index of edition 2 what comes before a refused frame, whose refusal they list
 pub listed : AnswersListed
 listed (decode framing msg table limit) e m = decoded-listed framing _ limit msg table (m .answered)
 listed (read-portion bytes table limit) e m =
     let r = decoded (tcpVec2 limit) (capacity table) limit bytes in
     subst Stepping (sym (m .answers))
     (portion-listed r (length bytes) (decoded-listed (TcpVec Standard) (capacity table) limit bytes table refl))
+listed (index-step bytes base out) e m = subst (Indexing bytes base out) (sym (m .answers)) (index-listed bytes base out)
+listed (compare fresh w) e m = checked-listed fresh w (e .answer)
+listed (cue-at w k) e m = subst (Cueing w k) (sym m) (cue-listed w k)
 listed (encode table count source out) e m = encodes-listed m
 listed (encode-tcp edition table count source out) e m = encodes-listed m
 listed (encode-string text out) e m = subst (Encoding (numbersOf (encode-string text out))) (sym m) (string-listed text out)
 listed (pad pos) e m = subst (Padding pos) (sym m) (pad-listed pos)
-listed (look table index) e m = subst (Looking table index) (sym m) (look-listed table index)
-listed (start-of table index) e m = subst (Starting table index) (sym m) (start-listed table index)
+listed (look table i) e m = subst (Looking table i) (sym m) (look-listed table i)
+listed (start-of table i) e m = subst (Starting table i) (sym m) (start-listed table i)
 listed (text-of value packet label) e m = tt

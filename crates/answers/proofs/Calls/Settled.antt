@@ -14,16 +14,23 @@ use Rattle.answering.specs.declared.Decoded.{Decoded}
 use Rattle.answering.specs.declared.Decoded.the-variants.{Packets, Waiting, Refused, Stopped}
 use Rattle.portions.specs.Portions.{portionOf, stepOf, tableBy}
 use Rattle.portions.specs.declared.Portion.{Portion}
+use Rattle.cues.specs.Cues.{indexOf, writtenOf, indexAnswer, indexLeaves, cueIn}
+use Rattle.cues.specs.Checks.{compared}
+use Rattle.cues.specs.declared.index.End.the-variants as end
+use Rattle.cues.specs.declared.index.Indexed.{Indexed}
+use Rattle.cues.specs.declared.index.Indexed.the-variants as indexed
 use Rattle.writers.specs.Osc.{writePacket}
 use Rattle.encoder.specs.Outcome.{Outcome, bytesOutcome, treeOutcome, Encodes, malformed, formed, unframed, framedBy}
 use Rattle.encoder.specs.Outcome.{stringOutcome}
 use Rattle.strings.specs.Atomic.{oscString}
-use Rattle.answers.specs.Calls.{Call, decode, read-portion, encode, encode-tcp, encode-string, pad, look, start-of, text-of, Ending}
-use Rattle.answers.specs.Calls.{Answer, Lent, byDecoded, byPortion, byEncoded, Fruitless, Settled, Met, NothingChanged}
+use Rattle.answers.specs.Calls.{Call, decode, read-portion, index-step, compare, cue-at, encode, encode-tcp, encode-string, pad, look}
+use Rattle.answers.specs.Calls.{start-of, text-of, Ending, Answer, Lent, byDecoded, byPortion, byIndexed, byEncoded, Fruitless}
+use Rattle.answers.specs.Calls.{Settled, Met, NothingChanged}
 use Rattle.answers.specs.Demands.{answerTo, tableAfter}
 use Rattle.wire.proofs.Choices.{by-test, by-le}
 use Rattle.table.proofs.Theorem.{formed-tree}
 use Rattle.decoder.proofs.Only.{decodes-only, decodes-met}
+use Rattle.cues.proofs.Only.{indexes-only, indexes-met}
 use Rattle.encoder.proofs.Only.{encodes-only}
 
 -- ---- no second ending
@@ -39,6 +46,9 @@ outcome-one e = (ap (λ (o : Outcome). o .answer) e, ap (λ (o : Outcome). o .ou
 pub settled : Settled
 settled (decode framing msg table limit) e e' m m' = let x = decodes-only m m' in ending (x .0) (x .1)
 settled (read-portion bytes table limit) e e' m m' = ending (m .answers ∙ sym (m' .answers)) (m .leaves ∙ sym (m' .leaves))
+settled (index-step bytes base out) e e' m m' = let x = indexes-only m m' in ending (x .0) (x .1)
+settled (compare fresh index) e e' m m' = ending (m ∙ sym m') refl
+settled (cue-at index k) e e' m m' = ending (m ∙ sym m') refl
 settled (encode table count source out) e e' m m' =
     let x = outcome-one (encodes-only unframed _ _ _ _ _ _ m m') in ending (x .0) (x .1)
 settled (encode-tcp edition table count source out) e e' m m' =
@@ -63,6 +73,11 @@ met (decode framing msg table limit) n =
     decodes-met
 met (read-portion bytes table limit) n =
     n (record { answer = stepOf limit bytes table; lent = tableBy limit bytes table }) (record { answers = refl; leaves = refl })
+met (index-step bytes base out) n =
+    let r = indexAnswer base bytes (length out) in
+    n (record { answer = r; lent = indexLeaves r (writtenOf (indexOf base bytes)) out }) indexes-met
+met (compare fresh index) n = n (record { answer = compared fresh index; lent = tt }) refl
+met (cue-at index k) n = n (record { answer = cueIn index k; lent = tt }) refl
 met (encode table count source out) n =
     encodes-met unframed table count source out (λ r m. n (record { answer = r .answer; lent = r .out }) m)
 met (encode-tcp edition table count source out) n =
@@ -87,6 +102,13 @@ portion-same (Packets count left dirty) m f table n = absurd n
 portion-same (Stopped count left dirty k at) m f table n = absurd n
 portion-same Waiting m f table n = absurd n
 portion-same (Refused k) m f table n = refl
+
+-- a step over a recording that writes no index leaves the output as it was
+indexed-same : (r : Indexed) (written out : List ℕ) → Fruitless (byIndexed r) → indexLeaves r written out ≡ out
+indexed-same (indexed.Written records used end.Whole) written out n = absurd n
+indexed-same (indexed.Written records used end.Waiting) written out n = absurd n
+indexed-same (indexed.Written records used (end.Refused k)) written out n = absurd n
+indexed-same (indexed.Refused k) written out n = refl
 
 -- an outcome of an encoder that gives no result leaves the output as it was
 abbrev Same : List ℕ → Outcome → Type 0
@@ -118,6 +140,9 @@ nothing-changed (decode framing msg table limit) e m n = m .left ∙ decoded-sam
 nothing-changed (read-portion bytes table limit) e m n =
     m .leaves ∙ portion-same (answerTo (tcpVec2 limit) limit bytes table) (length bytes) (forestOf (tcpVec2 limit bytes)) table
     (subst (λ (r : Portion). Fruitless (byPortion r)) (m .answers) n)
+nothing-changed (index-step bytes base out) e m n = m .leaves ∙ indexed-same (e .answer) (writtenOf (indexOf base bytes)) out n
+nothing-changed (compare fresh index) e m n = refl
+nothing-changed (cue-at index k) e m n = refl
 nothing-changed (encode table count source out) e m n = encodes-same m n
 nothing-changed (encode-tcp edition table count source out) e m n = encodes-same m n
 nothing-changed (encode-string text out) e m n = subst (Same out) (sym m) (string-same text out) n

@@ -17,12 +17,15 @@ pub enum Call {
     Tcp2 = 9,
     TcpVec2 = 10,
     EncodeTcp2 = 11,
-    /// The step over a stream; there are no recorded answers of it.
+    /// The step over a stream, and the calls of a cue index; there are no recorded answers of them.
     Portion = 12,
+    IndexStep = 13,
+    IndexCheck = 14,
+    Cue = 15,
 }
 
 // Each call has a name in the counts.
-const _: () = assert!(Call::Portion as usize + 1 == CALLS.len());
+const _: () = assert!(Call::Cue as usize + 1 == CALLS.len());
 
 /// The decoders that the crate has too.
 pub const DECODERS: [Call; 3] = [Call::Udp, Call::Tcp, Call::TcpVec];
@@ -40,9 +43,13 @@ impl Call {
     pub fn encodes(self) -> bool {
         matches!(self, Call::Encode | Call::EncodeTcp | Call::EncodeTcp2)
     }
+    /// Whether it says something beside its answer.
+    pub fn says_more(self) -> bool {
+        self.decodes() || matches!(self, Call::IndexStep | Call::Cue)
+    }
 }
 
-/// A call: depth, count, position or index as its number; the bytes that it may write; the slices that it reads.
+/// A call: depth, count, position, index or offset as its number; the bytes that it may write; the slices that it reads.
 #[derive(Clone, Debug)]
 pub struct Asked {
     pub call: Call,
@@ -84,8 +91,8 @@ fn hex(bytes: &[u8]) -> String {
     bytes.iter().take(400).map(|b| format!("{b:02X}")).collect()
 }
 
-/// What the boundary must answer, what a decoder must say beside it, and the bytes that must stand at the front of the room; all
-/// others stay as they were.
+/// What the boundary must answer, what it must say beside that, and the bytes that must stand at the front of the room; all others stay
+/// as they were.
 #[derive(Clone, Debug)]
 pub struct Due {
     pub answer: u64,
@@ -107,7 +114,7 @@ impl Due {
     /// Whether a refused frame ended a list: only then are bytes left beside a refusal. Of a step its number stands beside the answer.
     pub fn stopped(&self, call: Call) -> bool {
         match call {
-            Call::Portion => self.more >> 48 > 0,
+            Call::Portion | Call::IndexStep => self.more >> 48 > 0,
             _ => call.decodes() && self.refusal(call) > 0 && self.answer as u32 > 0,
         }
     }
@@ -117,7 +124,7 @@ impl Due {
         match call {
             Call::Pad if self.answer == 14 => 14,
             Call::Pad => 0,
-            Call::Portion if self.stopped(call) => (self.more >> 48) as u8,
+            Call::Portion | Call::IndexStep if self.stopped(call) => (self.more >> 48) as u8,
             _ => (self.answer >> 56) as u8,
         }
     }

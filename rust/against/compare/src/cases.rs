@@ -1,6 +1,7 @@
 //! Cases: a call, what is due, and what it shows.
 
 use crate::ask::{Asked, Call, Due, DECODERS};
+use crate::cues::{Index, ENTRY};
 use crate::judge::{self, Found};
 use crate::met::{Met, Rule, Seen};
 use crate::peers::Peers;
@@ -10,7 +11,7 @@ use crate::short::Stage;
 use crate::standard::Stream;
 use crate::streams::Writers;
 use crate::table::RECORD;
-use crate::{edges, inputs, short, soiled, spoil, standard, streams};
+use crate::{cues, edges, inputs, recordings, short, soiled, spoil, standard, streams};
 use rosc::{OscMessage, OscPacket, OscType};
 
 /// Of the streams in portions, one in so many is long.
@@ -40,6 +41,7 @@ impl Case {
             Call::Pad => judge::pad(asked, due, seen),
             Call::Look => judge::look(asked, due, seen),
             Call::Start => judge::start(asked, due, seen),
+            Call::IndexStep | Call::IndexCheck | Call::Cue => cues::judge(asked, due, seen),
         }
         if call.encodes() || call == Call::EncodeString {
             self.asked.room = self.due.wrote.len() + 8;
@@ -130,6 +132,23 @@ impl Case {
         }
         let places = portions::places(r, self.asked.first.len(), &marks);
         portions::steps(&self.asked, &self.due, &marks, &places, &mut self.seen)
+    }
+
+    /// A random recording for one step that writes its index; and the steps over it through buffers, the checks of its index and the
+    /// cues that are looked up in it.
+    pub fn cues(&mut self, r: &mut Random, peers: &Peers) -> Vec<Step> {
+        self.seen = Seen::default();
+        self.asked.begin(Call::IndexStep);
+        streams::recording(r, peers, &mut self.asked.first);
+        let index = Index::of(&self.asked.first, &mut self.seen);
+        self.asked.number = recordings::base(r, self.asked.first.len());
+        self.asked.room = recordings::room(r, ENTRY * index.cues.len());
+        index.step(&self.asked, 0, &mut self.due, &mut self.seen);
+        let mut steps = recordings::row(r, &self.asked, &index, &mut self.seen);
+        steps.extend(recordings::too_long(&self.asked, &index, &mut self.seen));
+        steps.extend(recordings::checks(r, &index, &mut self.seen));
+        steps.extend(recordings::lookups(r, &index, &mut self.seen));
+        steps
     }
 
     fn find(&mut self) -> Found {

@@ -1,7 +1,8 @@
 //! Feeds rosc and the port the same inputs and compares every result: accept or refuse and the class of refusal, tree, bytes
 //! left, bytes written and bytes not written. Which field was short, where it began and how many bytes of padding are not zero is
 //! judged by a reader of its own; the padding is counted over rosc's packets too. Edition 2 of TCP framing, which rosc does not have, is
-//! judged by a model of its own that hands rosc each frame alone; streams in portions by what that model makes of the whole stream.
+//! judged by a model of its own that hands rosc each frame alone; streams in portions by what that model makes of the whole stream, and a
+//! cue index by what it makes of the recording's frames.
 //!
 //!     cargo run --release --offline -p compare -- --cases N --seed S
 //!
@@ -15,6 +16,7 @@
 mod ask;
 mod cases;
 mod compat;
+mod cues;
 mod edges;
 mod fields;
 mod inputs;
@@ -28,6 +30,7 @@ mod portions;
 mod random;
 mod reached;
 mod record;
+mod recordings;
 mod rules;
 mod run;
 mod short;

@@ -226,6 +226,57 @@ rules! {
     CutField 1 "in portions: ended by a short field, after bytes consumed",
     CutLate 1 "in portions: ended by a frame that came in several",
     CutAgain 1 "in portions: ended, and more bytes come",
+    IndexNone 1 "cue index: a recording of no bytes",
+    IndexWhole 1 "cue index: all frames accepted, nothing left",
+    IndexWaitsLength 1 "cue index: the last frame is 1 to 3 bytes",
+    IndexWaitsPart 1 "cue index: the last frame is not all there",
+    IndexFirst 1 "cue index: the first frame is refused",
+    IndexLater 1 "cue index: a later frame is refused",
+    IndexOver 1 "cue index: a good frame after the refused one",
+    Index3276 1 "cue index: a frame with 3,276 records",
+    Index3277 1 "cue index: refused, a frame with 3,277 records",
+    IndexDepth64 1 "cue index: a frame of depth 64",
+    IndexDepth65 1 "cue index: refused, a frame of depth 65",
+    IndexDeepMany 1 "cue index: refused as too deep, and it has too many records",
+    IndexLongest 10 "cue index: a frame of length 65,528",
+    IndexFar 10 "cue index: records after 65,535 bytes",
+    IndexMany 10 "cue index: 5,461 records of one buffer",
+    IndexInput65535 10 "cue index: a buffer of 65,535 bytes",
+    IndexInput65536 10 "cue index: a buffer of 65,536 bytes",
+    IndexUpper 1 "cue index: offsets of 2^32 and more",
+    IndexTop 1 "cue index: the recording has 2^63 - 1 bytes",
+    IndexTooFar 1 "cue index: the recording has 2^63 bytes",
+    IndexWraps 1 "cue index: the offset and the bytes are 2^64 and more",
+    IndexRoom 1 "cue index: output exact",
+    IndexLess 1 "cue index: output one less",
+    IndexNoRoom 1 "cue index: no output, and records to write",
+    IndexNothing 1 "cue index, in buffers: one of no bytes",
+    IndexBetween 1 "cue index, in buffers: cut between frames",
+    IndexLength 1 "cue index, in buffers: cut in a length",
+    IndexPacket 1 "cue index, in buffers: cut in a packet",
+    IndexSeveral 1 "cue index, in buffers: records of several",
+    IndexLate 1 "cue index, in buffers: refused, a frame that came in several",
+    CheckNone 1 "index check: no bytes, and the index has none",
+    CheckSame 1 "index check: the same",
+    CheckOffset 1 "index check: another offset",
+    CheckLength 1 "index check: another length",
+    CheckRecords 1 "index check: another number of records",
+    CheckMissing 1 "index check: a record is missing",
+    CheckPart 1 "index check: a part of a record",
+    CheckExtra 1 "index check: a record too many",
+    CheckExtraPart 1 "index check: a part of a record too many",
+    CheckParts 1 "index check, in parts: the same in several",
+    CheckLater 1 "index check, in parts: differs after the first",
+    CheckAfter 1 "index check, in parts: more after the last",
+    CheckTop 1 "index check: from record 2^55 - 1 on",
+    CheckOver 1 "index check: from record 2^55 on",
+    CueFirst 1 "cue: the first of several",
+    CueLast 1 "cue: the last of several",
+    CuePast 1 "cue: the one after the last",
+    CuePart 1 "cue: a part of a record after the last",
+    CueFar 1 "cue: a number whose place would be over 2^64",
+    CueMost 1 "cue: 2^24 - 1 records",
+    CueOver 1 "cue: 2^24 records",
     LibloWhole 1 "liblo: as written",
     LibloRead 1 "liblo: as written, all of it read",
     LibloDamaged 1 "liblo: damaged",
@@ -237,11 +288,11 @@ rules! {
 }
 
 // Each rule has a bit of what a case has shown.
-const _: () = assert!(RULES.len() <= 256);
+const _: () = assert!(RULES.len() <= 384);
 
 /// What one case has shown: a bit for each rule.
 #[derive(Clone, Copy, Debug, Default, PartialEq, Eq)]
-pub struct Seen([u128; 2]);
+pub struct Seen([u128; 3]);
 
 impl Seen {
     pub fn note(&mut self, rule: Rule) {
@@ -258,7 +309,7 @@ impl Seen {
     }
     /// The rules, each by its number.
     pub fn rules(self) -> impl Iterator<Item = usize> {
-        self.0.into_iter().zip([0, 128]).flat_map(|(mut left, first)| {
+        self.0.into_iter().zip([0, 128, 256]).flat_map(|(mut left, first)| {
             std::iter::from_fn(move || {
                 let rule = left.trailing_zeros() as usize;
                 left &= left.wrapping_sub(1);
@@ -272,7 +323,7 @@ impl Seen {
 pub const KINDS: &[u8] = b"/#sbifhdtcrmTFNI[";
 
 /// The calls by name, in the order of their numbers.
-pub const CALLS: [&str; 13] = [
+pub const CALLS: [&str; 16] = [
     "udp",
     "tcp",
     "tcp_vec",
@@ -286,14 +337,17 @@ pub const CALLS: [&str; 13] = [
     "tcp_vec2",
     "encode_tcp2",
     "read_portion",
+    "index_step",
+    "index_check_step",
+    "cue",
 ];
 
 /// How many of the calls `rosc_compat` has: the first.
 const SHARED: usize = 7;
 
-/// Numbers of refusals, 0 for an answer; the crate's 3 is met by no call of the boundary.
-const REFUSALS: usize = 22;
-const NONE_GIVES: usize = 3;
+/// Numbers of refusals, 0 for an answer; the crate's 3, and those of Ticket 3, are met by no call of the boundary.
+const REFUSALS: usize = 26;
+const NONE_GIVES: &[usize] = &[3, 22, 23, 24];
 
 /// What the decoders of edition 2 may give, each of which is to be met: those of one frame, and of a list those of the call and of the
 /// frame that ended it. There is no 20: a frame ends at a multiple of 4, so that no padding in it is short.
@@ -301,6 +355,11 @@ const TCP2: (usize, &[usize]) = (9, &[1, 2, 4, 5, 6, 7, 8, 9, 10, 13, 15, 16, 17
 const TCP_VEC2: (usize, &[usize]) = (10, &[1, 10, 13]);
 const READ_PORTION: (usize, &[usize]) = (12, &[1, 10, 13]);
 const STOPS: &[usize] = &[1, 2, 4, 5, 6, 7, 8, 9, 15, 16, 17, 18, 19, 21];
+/// The same of the calls of a cue index; what ends one may also be a frame with too many records.
+const INDEX_STEP: (usize, &[usize]) = (13, &[1, 12]);
+const INDEX_CHECK: (usize, &[usize]) = (14, &[1, 25]);
+const CUE: (usize, &[usize]) = (15, &[11]);
+const INDEX_STOPS: &[usize] = &[1, 2, 4, 5, 6, 7, 8, 9, 10, 15, 16, 17, 18, 19, 21];
 
 /// How often each call gave each number.
 type Answers = [[u64; REFUSALS]; CALLS.len()];
@@ -356,7 +415,7 @@ impl Met {
     /// Every count with its name and how many times more seldom than usual it may be met.
     fn lines(&self) -> Vec<(String, u64, u64)> {
         let mut lines = Vec::new();
-        for refusal in (1..REFUSALS).filter(|refusal| *refusal != NONE_GIVES) {
+        for refusal in (1..REFUSALS).filter(|refusal| !NONE_GIVES.contains(refusal)) {
             let times = self.answers.iter().chain(&self.stops).map(|call| call[refusal]).sum();
             lines.push((format!("refusal {refusal}"), 1, times));
         }
@@ -374,9 +433,10 @@ impl Met {
         lines
     }
 
-    /// The refusals of the decoders of edition 2, each by itself.
+    /// The refusals of the decoders of edition 2 and of a cue index, each by itself.
     fn standard_lines(&self) -> Vec<(String, u64, u64)> {
-        let refused = [TCP2, TCP_VEC2, READ_PORTION].into_iter().flat_map(|(call, numbers)| {
+        let calls = [TCP2, TCP_VEC2, READ_PORTION, INDEX_STEP, INDEX_CHECK, CUE];
+        let refused = calls.into_iter().flat_map(|(call, numbers)| {
             // An input that is too long is rare among the steps.
             let seldom = move |number: usize| if (call, number) == (READ_PORTION.0, 1) { 10 } else { 1 };
             let line = move |number: usize| {
@@ -384,8 +444,10 @@ impl Met {
             };
             numbers.iter().copied().map(line)
         });
-        let stopped = [(TCP_VEC2.0, "stopped"), (READ_PORTION.0, "ended")].into_iter().flat_map(|(call, word)| {
-            STOPS.iter().map(move |number| (format!("{}: {word} by {number}", CALLS[call]), 1, self.stops[call][*number]))
+        let ends = [(TCP_VEC2.0, "stopped", STOPS), (READ_PORTION.0, "ended", STOPS), (INDEX_STEP.0, "ended", INDEX_STOPS)];
+        let stopped = ends.into_iter().flat_map(|(call, word, numbers)| {
+            let line = move |number: &usize| (format!("{}: {word} by {number}", CALLS[call]), 1, self.stops[call][*number]);
+            numbers.iter().map(line)
         });
         refused.chain(stopped).collect()
     }

@@ -45,9 +45,9 @@ impl Bench {
         self.room.extend_from_slice(&self.pattern[there..]);
     }
 
-    /// The answer, and what a decoder has said beside it; 0 of another call.
+    /// The answer, and what was said beside it; 0 of a call that says nothing there.
     fn call(&mut self, asked: &Asked) -> (u64, u64) {
-        let mut more = if asked.call.decodes() { u64::MAX } else { 0 };
+        let mut more = if asked.call.says_more() { u64::MAX } else { 0 };
         let first = &self.first[GUARD..GUARD + asked.first.len()];
         let second = &self.second[GUARD..GUARD + asked.second.len()];
         let room = &mut self.room[GUARD..GUARD + asked.room];
@@ -65,6 +65,9 @@ impl Bench {
             Call::TcpVec2 => boundary::decode_tcp_vec2(first, room, asked.number, &mut more),
             Call::EncodeTcp2 => boundary::encode_tcp2(first, asked.number, second, room),
             Call::Portion => boundary::read_portion(first, room, asked.number, &mut more),
+            Call::IndexStep => boundary::index_step(first, asked.number, room, &mut more),
+            Call::IndexCheck => boundary::index_check_step(first, second, asked.number),
+            Call::Cue => boundary::cue(first, asked.number, &mut more),
         };
         (answer, more)
     }

@@ -3,7 +3,7 @@
 //! and ends by the records given.
 
 use crate::ask::{Asked, Call, Due};
-use crate::met::{Rule, Seen};
+use crate::met::{Met, Rule, Seen};
 use crate::port::Bench;
 use crate::random::Random;
 use crate::standard::Mark;
@@ -21,6 +21,12 @@ pub struct Step {
 }
 
 impl Step {
+    /// Counts its answer.
+    pub fn count(&self, met: &mut Met) {
+        let call = self.asked.call;
+        met.count(call as usize, self.due.refusal(call), self.due.stopped(call), Seen::default());
+    }
+
     /// Asks the port; the words say what differs.
     pub fn differs(&self, bench: &mut Bench) -> Option<String> {
         bench.differs(&self.asked, &self.due).map(|words| format!("{words}: {}, a step over", self.asked.shown()))

@@ -16,12 +16,13 @@ use std::time::{Duration, Instant};
 const BATCH: u64 = 1000;
 const WORKERS: usize = 2;
 /// Of every twenty batches, nine are of short inputs and one of those for edition 2, as long as there are any; three more are of random
-/// inputs for edition 2, one of streams in portions, and the others of random inputs for the other calls.
+/// inputs for edition 2, one of streams in portions, one of cue indexes, and the others of random inputs for the other calls.
 const ROUND: u64 = 20;
 const SHORT: Range<u64> = 0..9;
 const SHORT_STANDARD: Range<u64> = 9..10;
 const STANDARD: Range<u64> = 10..13;
 const PORTIONS: Range<u64> = 13..14;
+const CUES: Range<u64> = 14..15;
 /// Of the random cases, one in so many is for `rosc_compat` and not for the boundary.
 const COMPAT: usize = 8;
 /// The crate recurses over nested input: its threads have room for that.
@@ -100,6 +101,12 @@ impl Plan {
         } else if nth(PORTIONS, batch, n).is_some() {
             let steps = case.portions(r, &self.peers);
             case.count(&mut found.met);
+            let whole = bench.differs(&case.asked, &case.due);
+            return whole.or_else(|| steps.iter().find_map(|step| step.differs(bench)));
+        } else if nth(CUES, batch, n).is_some() {
+            let steps = case.cues(r, &self.peers);
+            case.count(&mut found.met);
+            steps.iter().for_each(|step| step.count(&mut found.met));
             let whole = bench.differs(&case.asked, &case.due);
             return whole.or_else(|| steps.iter().find_map(|step| step.differs(bench)));
         } else {

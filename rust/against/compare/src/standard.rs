@@ -196,6 +196,28 @@ impl Stream {
     }
 }
 
+/// What stands at the front of some bytes, limits apart.
+#[derive(Clone, Copy, Debug, PartialEq, Eq)]
+pub enum Front {
+    /// A frame whose packet is read: its bytes, prefix included, how deep it is, and its records.
+    Read { size: usize, depth: u64, records: usize },
+    /// A frame that is not all there.
+    Waiting,
+    /// A frame that is refused, with this number.
+    Refused(u8),
+}
+
+/// The frame at the front of some bytes, which may be more than an input has.
+pub fn front(bytes: &[u8]) -> Front {
+    let mut stream = Stream::default();
+    stream.next(bytes, &mut Vec::new());
+    match (stream.refused, stream.frames.first()) {
+        (Some(refused), _) => Front::Refused(refused.number),
+        (None, None) => Front::Waiting,
+        (None, Some(frame)) => Front::Read { size: stream.at, depth: frame.depth.both, records: frame.records },
+    }
+}
+
 /// Notes a bundle that edition 1 would let take the frame after it, which is read here.
 fn note_kept(stream: &mut Stream, input: &[u8], table: &[u8]) {
     let mut first = 0;

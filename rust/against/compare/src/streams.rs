@@ -184,3 +184,68 @@ pub fn input(r: &mut Random, peers: &Peers, to: &mut Vec<u8>) -> Writers {
     }
     by
 }
+
+/// A packet with records on either side of what an index takes, 3,276, in bundles on either side of depth 64 or in none: a message with
+/// many tags, or a bundle of many messages.
+fn many_records(r: &mut Random) -> Vec<u8> {
+    let (records, levels) = (r.pick(&[3_275, 3_276, 3_276, 3_277, 3_277, 3_278]), r.pick(&[0, 0, 0, 1, 63, 64, 65, 65]));
+    let inside = records - levels;
+    let mut packet = Vec::new();
+    if levels > 0 && r.one_in(2) {
+        // The innermost bundle is among the levels.
+        (0..inside).for_each(|_| put(&mut packet, 8, b"/\0\0\0,\0\0\0"));
+    } else {
+        let tag = r.pick(b"TFNIi");
+        let mut message = [&b"/a\0\0,"[..], &vec![tag; inside - 1], &[0]].concat();
+        message.resize(message.len().next_multiple_of(4), 0);
+        message.resize(message.len() + if tag == b'i' { 4 * (inside - 1) } else { 0 }, 7);
+        if levels == 0 {
+            return message;
+        }
+        put(&mut packet, message.len() as u32, &message);
+    }
+    for level in 0..levels {
+        packet.splice(..0, *b"#bundle\0\0\0\0\0\0\0\0\x01");
+        if level + 1 < levels {
+            let size = packet.len() as u32;
+            packet.splice(..0, size.to_be_bytes());
+        }
+    }
+    packet
+}
+
+/// A recording for an index: mostly an input as others are, before which good frames may stand. Some have a frame at a limit of an index
+/// between others, some are of the shortest frames alone, and some are longer than a buffer.
+pub fn recording(r: &mut Random, peers: &Peers, to: &mut Vec<u8>) {
+    match r.below(1000) {
+        0..=1 => (0..r.pick(&[5_460, 5_461, 5_461, 5_462, 5_470])).for_each(|_| to.extend(SMALL[0])),
+        2..=6 => {
+            let bytes = LONGEST + r.below(2 * LONGEST);
+            push_far(r, to, peers, &mut Writers::default(), bytes);
+        }
+        7..=46 => push_limit(r, to),
+        turn => {
+            let good = if turn.is_multiple_of(2) { 1 + r.below(300) } else { 0 };
+            push_many(r, to, good);
+            input(r, peers, to);
+            return;
+        }
+    }
+    if r.one_in(5) {
+        to.truncate(r.below(to.len() + 1));
+    }
+}
+
+/// Appends a frame at a limit of an index, by its length or its records, between some good ones.
+fn push_limit(r: &mut Random, to: &mut Vec<u8>) {
+    let (before, after) = (r.below(100), r.below(100));
+    push_many(r, to, before);
+    if r.one_in(5) {
+        push_blob(to, r.pick(&[65_512, 65_516, 65_516, 65_520]));
+    } else {
+        let packet = many_records(r);
+        put(to, packet.len() as u32, &packet);
+    }
+    let whole = to.len();
+    push_many(r, to, whole + after);
+}

@@ -6,13 +6,14 @@ use native.Mathlib.Omega.{arith}
 use lib.ListN.{length, drop, length-append, length-drop}
 use lib.Seq.{drop-drop}
 use Rattle.refusal.specs.declared.Refusal.{Refusal}
 use Rattle.cues.specs.Cues.{cueOf, entrySize, Index, index, withEntry, entryOf, indexOf}
 use Rattle.cues.specs.declared.cue.Cue.{Cue}
 use Rattle.cues.specs.declared.cue.Cue.the-variants as cue
 use Rattle.cues.specs.declared.index.End.{End}
 use Rattle.cues.specs.declared.index.End.the-variants as end
+use Rattle.cues.proofs.Shortest.{shortestFrame}
 use Rattle.cues.proofs.Cues.{CueIn, cue-in}
 use Rattle.cues.proofs.Indexes.{index-eq, index-by, length-entry}
 
 -- the index of l, which stands at offset `base`: nothing, or a frame that is not accepted, or a frame and the index after it
 pub data Cued : ℕ → List ℕ → Index → Type 0 where
@@ -32,7 +33,7 @@ module _ (base : ℕ) (l : List ℕ) (some : 0 < length l) where
   entry-before u c (index w at why) e h r = given some e h r
 
   by-front : (x : Cue) → cueOf l ≡ x → CueIn (length l) x
-      → ((u : ℕ) → 5 ≤ u → Cued (base + u) (drop u l) (indexOf (base + u) (drop u l)))
+      → ((u : ℕ) → shortestFrame ≤ u → Cued (base + u) (drop u l) (indexOf (base + u) (drop u l)))
       → Cued base l (indexOf base l)
   by-front (cue.Given u c) e h go =
       subst (Cued base l) (sym (index-by base l some (sym e))) (entry-before u c (indexOf (base + u) (drop u l)) e h (go u (h .0)))

@@ -14,12 +14,11 @@ use Rattle.heads.specs.declared.Length.{Length}
 use Rattle.heads.specs.declared.Length.the-variants as cut
 use Rattle.packet.specs.Packet.{Out, fault, one, after, readPacket}
 use Rattle.framing.specs.Framing.{Frame, wait, read, refused, wholly, cutWith, cutFrame}
-use Rattle.cues.specs.Cues.{mostInACue, judgedCue, cueOf, index}
+use Rattle.cues.specs.Cues.{mostInACue, judgedCue, cueOf, index, MayContinue, KeptIsShort}
 use Rattle.cues.specs.declared.cue.Cue.{Cue}
 use Rattle.cues.specs.declared.cue.Cue.the-variants as cue
 use Rattle.cues.specs.declared.index.End.{End}
-use Rattle.recordings.specs.Recordings.{MayContinue, KeptIsShort}
-use Rattle.recordings.proofs.Cued.{Cued, whole, waits, refuses, given, entry-some, cued, cued-rest}
+use Rattle.cues.proofs.Cued.{Cued, whole, waits, refuses, given, entry-some, cued, cued-rest}
 
 -- a length that waits
 LengthShort : ℕ → Length → Type 0

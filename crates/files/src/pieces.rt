@@ -1,0 +1,129 @@
+// A file that is read in pieces: it is opened once, and each piece is put after the bytes that are still needed.
+use crate::beside::long_number_of;
+use crate::fail;
+use crate::input::Got;
+use crate::input::read_up;
+use crate::input::unread;
+use crate::one::is_output;
+ghost use Prim.Native.Nat.{_≤_};
+ghost use lib.ListN.{length};
+ghost use Rattle.io.specs.Counts.{Counts};
+ghost use Rattle.files.specs.Rest.{RestKept};
+
+// What became of a file that was to be opened.
+pub enum Opened {
+    // Its descriptor.
+    At(i32),
+    // It is the one to be written, or cannot be told from it.
+    Output,
+    // A call of the system failed, and it was said why.
+    Failed,
+}
+
+// Opens a file to read it.
+pub fn open(path: &[u8]) -> Opened {
+    let fd = os::open_read(path);
+    if fd < 0 {
+        fail(path);
+        return Opened::Failed;
+    }
+    Opened::At(fd)
+}
+
+// The same of a file that is not the one to be written, or can be told from it.
+pub fn open_apart(path: &[u8], output: &[u8]) -> Opened {
+    match open(path) {
+        Opened::At(fd) => {
+            if is_output(fd, output) {
+                libc::close(fd);
+                return Opened::Output;
+            }
+            Opened::At(fd)
+        }
+        Opened::Output => Opened::Output,
+        Opened::Failed => Opened::Failed,
+    }
+}
+
+// Reads on after the first `kept` bytes of the buffer, until it is full or the file ends, or says why it cannot. The count is that of all
+// bytes that stand there then, so that the file has ended where it is less than the buffer's length.
+pub fn read_on(fd: i32, path: &[u8], buf: &mut [u8], kept: usize) -> Got
+    requires { ⌜ kept ≤ length (now buf) ⌝ }
+    ensures { λ r. ⌜ Counts (r .count) (now (buf .exit)) ⌝ }
+{
+    let got = read_up(fd, &mut buf[kept..]);
+    if !got.is_read {
+        fail(path);
+    }
+    Got {
+        is_read: got.is_read,
+        count: kept + got.count,
+        is_output: false,
+    }
+}
+
+// Reads from an offset of the file until the buffer is full or the file ends, or says why it cannot.
+pub fn read_at(fd: i32, path: &[u8], offset: u64, buf: &mut [u8]) -> Got
+    ensures { λ r. ⌜ Counts (r .count) (now (buf .exit)) ⌝ }
+{
+    if libc::lseek(fd, place_of(offset), libc::SEEK_SET) < 0 {
+        fail(path);
+        return unread(false);
+    }
+    read_on(fd, path, buf, 0)
+}
+
+// An offset as the system has it, which has none that is negative or over 2^63 - 1.
+fn place_of(offset: u64) -> i64 {
+    if offset < 0x8000_0000_0000_0000 {
+        return offset as i64;
+    }
+    -1
+}
+
+// How long an open file is; 0 where the system does not tell. The next read begins at its start.
+pub fn length_of(fd: i32) -> u64 {
+    let end = libc::lseek(fd, 0, libc::SEEK_END);
+    libc::lseek(fd, 0, libc::SEEK_SET);
+    long_number_of(end)
+}
+
+// Whether an open file, which had `size` bytes, has lost some since: it is shorter now, or `total` bytes were read of it and it has
+// fewer, or it ended there. Of a file whose length the system does not tell, none is missed.
+pub fn is_shorter(fd: i32, size: u64, total: u64, is_end: bool) -> bool {
+    if size == 0 {
+        return false;
+    }
+    if is_end {
+        if total < size {
+            return true;
+        }
+    }
+    let now = length_of(fd);
+    if now < size {
+        return true;
+    }
+    now < total
+}
+
+// Moves the bytes from `from` up to `to` to the front of the buffer, where a read goes on after them, and answers how many they are.
+//
+// Ruled out: the bytes from one later on; those that stood at the front before.
+pub fn keep_rest(buf: &mut [u8], from: usize, to: usize) -> usize
+    requires { ⌜ (from ≤ to) × (to ≤ length (now buf)) ⌝ }
+    ensures { λ r. ⌜ RestKept from to (now (buf .entry)) (now (buf .exit)) r ⌝ }
+{
+    let mut i = 0;
+    let mut j = from;
+    while j < to {
+        buf[i] = buf[j];
+        i += 1;
+        j += 1;
+    }
+    i
+}
+
+// Closes it.
+pub fn close(fd: i32) {
+    libc::close(fd);
+}
