@@ -2,7 +2,7 @@
  *
  * No function allocates, keeps a pointer or has a state. Every pointer may be to any bytes, and a length may be 0;
  * slices that a call may write must not overlap the others. A call that is refused changes no byte of a slice. Each call ends within
- * 35,632 bytes of stack, whatever it is given (measured by c/stack.c on x86-64).
+ * 35,664 bytes of stack, whatever it is given (measured by c/stack.c on x86-64).
  *
  * A node table has records of OSC_RECORD bytes, big-endian: kind (1), three zero bytes, end (4), a (4), b (4), start (4).
  * The start is the offset, from the decoder's first input byte, where the item's data begins: a message's address, a bundle's
@@ -12,7 +12,7 @@
 #define SENNORBAI_OSC_H
 
 /* The version of the library and of this header. */
-#define SENNORBAI_VERSION "0.12.0"
+#define SENNORBAI_VERSION "0.12.1"
 
 #include <stddef.h>
 #include <stdint.h>

@@ -11,13 +11,13 @@ use Rattle.wire.proofs.Choices.{by-both}
 use Rattle.node.specs.Forest.{depth}
 use Rattle.argument.specs.Dirt.{dirtyIn}
 use Rattle.framing.specs.Framing.{Whole, trees, waiting, refusal, stopped, ruleOf}
-use Rattle.framing.specs.declared.Framing.{Framing}
-use Rattle.totals.specs.CodeTotals.{totalOf}
-use Rattle.totals.specs.declared.Total.{Total}
+use Rattle.edition.specs.declared.Framing.{Framing}
+use Rattle.rosc_inputs.specs.CodeTotals.{totalOf}
+use Rattle.rosc_inputs.specs.declared.Total.{Total}
 use Rattle.answering.specs.Limits.{limited, decoded}
 use Rattle.answering.specs.CodeAnswered.{answered}
-use Rattle.answering.specs.declared.Decoded.{Decoded}
-use Rattle.answering.specs.declared.Decoded.the-variants.{Refused}
+use Rattle.results.specs.declared.Decoded.{Decoded}
+use Rattle.results.specs.declared.Decoded.the-variants.{Refused}
 
 limited-is : (capacity limit : ℕ) (msg : List ℕ) (w : Whole)
     → limited capacity limit msg w ≡ answered capacity (totalOf limit (dirtyIn msg) w)

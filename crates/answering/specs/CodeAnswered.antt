@@ -3,10 +3,10 @@ use mathlib.Core.Bool.{cond}
 use Prim.Native.Nat.{ℕ}
 use lib.Dec.{leb}
 use Rattle.refusal.specs.declared.Refusal.the-variants.{TooDeep, TableFull}
-use Rattle.totals.specs.declared.Total.{Total}
-use Rattle.totals.specs.declared.Total.the-variants as total
-use Rattle.answering.specs.declared.Decoded.{Decoded}
-use Rattle.answering.specs.declared.Decoded.the-variants as decoded
+use Rattle.rosc_inputs.specs.declared.Total.{Total}
+use Rattle.rosc_inputs.specs.declared.Total.the-variants as total
+use Rattle.results.specs.declared.Decoded.{Decoded}
+use Rattle.results.specs.declared.Decoded.the-variants as decoded
 
 -- the answer to a first reading: 10 last
 abbrev pub answered : ℕ → Total → Decoded

@@ -12,11 +12,11 @@ use Rattle.node.specs.Forest.{Forest, nil, size, depth}
 use Rattle.node.specs.Records.{capacity, stored}
 use Rattle.argument.specs.Dirt.{dirtyIn}
 use Rattle.edition.specs.declared.Edition.the-variants.{Rosc, Standard}
-use Rattle.framing.specs.declared.Framing.{Framing}
-use Rattle.framing.specs.declared.Framing.the-variants.{Udp, Tcp, TcpVec}
+use Rattle.edition.specs.declared.Framing.{Framing}
+use Rattle.edition.specs.declared.Framing.the-variants.{Udp, Tcp, TcpVec}
 use Rattle.framing.specs.Framing.{Whole, trees, waiting, refusal, stopped}
-use Rattle.answering.specs.declared.Decoded.{Decoded}
-use Rattle.answering.specs.declared.Decoded.the-variants.{Packets, Waiting, Refused, Stopped}
+use Rattle.results.specs.declared.Decoded.{Decoded}
+use Rattle.results.specs.declared.Decoded.the-variants.{Packets, Waiting, Refused, Stopped}
 
 -- the refusals of a decoder by their numbers: "Decode order: 13, 1, then 2 to 8, then 9, then 10", 17 to 21 in the place of 3 (Ticket 2)
 abbrev pub decodeOrder : List ℕ

@@ -1,40 +1,18 @@
 // What a decoder answers to the first reading, within the limits.
 use edition::Edition;
-use framing::Framing;
+use edition::Framing;
 use refusal::Refusal;
-use totals::Total;
+use results::Decoded;
+use rosc_inputs::Total;
 ghost use mathlib.Core.Path.{_≡_};
 ghost use Prim.Native.Nat.{_≤_};
 ghost use lib.ListN.{length};
 ghost use Rattle.wire.specs.Limits.{longest};
 ghost use Rattle.argument.specs.Dirt.{dirtyIn};
 ghost use Rattle.framing.specs.Framing.{ruleOf};
-ghost use Rattle.totals.specs.CodeTotals.{totalOf};
+ghost use Rattle.rosc_inputs.specs.CodeTotals.{totalOf};
 ghost use Rattle.answering.specs.Limits.{decoded};
 ghost use Rattle.answering.specs.CodeAnswered.{answered};
-
-// What a decoder answers.
-pub enum Decoded {
-    // Of one packet or of a list of packets: records written, input bytes left over, and how many bytes of the padding of all that is kept
-    // are not zero.
-    Packets {
-        count: usize,
-        left: usize,
-        dirty: usize,
-    },
-    // The first frame is not all there: nothing was read.
-    Waiting,
-    Refused(Refusal),
-    // Of an edition 2 list: the records of the packets before a refused frame, which are written, the bytes from its prefix on, their dirty
-    // padding, why the frame is refused, and the offset of its prefix.
-    Stopped {
-        count: usize,
-        left: usize,
-        dirty: usize,
-        refusal: Refusal,
-        frame: usize,
-    },
-}
 
 // What a decoder answers: 13, then 1, then the first reading, and 10 last.
 //
@@ -92,14 +70,14 @@ fn measure_input(framing: Framing, msg: &[u8], depth: usize) -> Total
     ensures { λ r. ⌜ r ≡ totalOf depth (dirtyIn (now (msg .entry))) (ruleOf framing depth (now (msg .entry))) ⌝ }
 {
     match framing {
-        Framing::Udp => totals::measure_one(measure::measure_packet(msg, 0, depth), msg.len()),
+        Framing::Udp => rosc_inputs::measure_one(measure::measure_packet(msg, 0, depth), msg.len()),
         Framing::Tcp(edition) => match edition {
-            Edition::Rosc => totals::measure_tcp(msg, depth),
-            Edition::Standard => streams::measure_tcp2(msg, depth),
+            Edition::Rosc => rosc_inputs::measure_tcp(msg, depth),
+            Edition::Standard => standard_inputs::measure_tcp2(msg, depth),
         },
         Framing::TcpVec(edition) => match edition {
-            Edition::Rosc => totals::measure_tcp_vec(msg, depth),
-            Edition::Standard => streams::measure_tcp_vec2(msg, depth),
+            Edition::Rosc => rosc_inputs::measure_tcp_vec(msg, depth),
+            Edition::Standard => standard_inputs::measure_tcp_vec2(msg, depth),
         },
     }
 }

@@ -21,7 +21,7 @@ use Rattle.text.specs.Text.{reach, readText}
 use Rattle.text.specs.declared.Text.{Text}
 use Rattle.text.specs.declared.Text.the-variants.{Found, Lacks}
 use Rattle.argument.specs.Argument.{readArg, having, textArg, argItem}
-use Rattle.argument.specs.CodeGiven.{ArgGiven}
+use Rattle.argument.specs.CodeRead.{ArgRead}
 use Rattle.argument.specs.declared.Arg.{Arg}
 use Rattle.argument.specs.declared.Arg.the-variants.{Given}
 use Rattle.argument.proofs.Argued.{four-given, scalar-given, blob-given}
@@ -37,18 +37,18 @@ There Scalar l p = (4 ≤ length l) × (isScalar (number 4 l) ≡ true)
 There Unknown l p = ⊥
 
 -- an argument that is read only if n bytes are there
-having-given : (n : ℕ) (l : List ℕ) (k : Fault) (x : Arg) → ArgGiven (having n l k x) → (n ≤ length l) × ArgGiven x
-having-given n l k x = by-le (λ (y : Arg). ArgGiven y → (n ≤ length l) × ArgGiven x) n (length l) (λ h g. (h, g)) (λ _ g. absurd g)
+having-given : (n : ℕ) (l : List ℕ) (k : Fault) (x : Arg) → ArgRead (having n l k x) → (n ≤ length l) × ArgRead x
+having-given n l k x = by-le (λ (y : Arg). ArgRead y → (n ≤ length l) × ArgRead x) n (length l) (λ h g. (h, g)) (λ _ g. absurd g)
 
 -- an argument that is given has what is there for its class
-given-there : (tag : ℕ) (class : Class) (base : ℕ) (l : List ℕ) (p : ℕ) → ArgGiven (readArg tag class base l p) → There class l p
+given-there : (tag : ℕ) (class : Class) (base : ℕ) (l : List ℕ) (p : ℕ) → ArgRead (readArg tag class base l p) → There class l p
 unfolding readArg
 given-there tag Four base l p g = having-given 4 l _ _ g .0
 given-there tag Eight base l p g = having-given 8 l _ _ g .0
 given-there tag Bare base l p g = tt
 given-there tag String base l p g = by-text (readText l p) refl g
   where
-    by-text : (t : Text) → readText l p ≡ t → ArgGiven (textArg tag (base + p) p t) → TextFound l p
+    by-text : (t : Text) → readText l p ≡ t → ArgRead (textArg tag (base + p) p t) → TextFound l p
     by-text (Found n used) e g = (n, used, e)
     by-text (Lacks lack) e g = absurd g
 given-there tag Blob base l p g =
@@ -57,11 +57,11 @@ given-there tag Blob base l p g =
     (a .0, b .0, having-given (reach p (4 + number 4 l)) l _ _ (b .1) .0)
 given-there tag Scalar base l p g =
     let a = having-given 4 l _ _ g in
-    (a .0, by-test (λ (y : Arg). ArgGiven y → isScalar (number 4 l) ≡ true) (isScalar (number 4 l)) (λ e _. e) (λ _ g. absurd g) (a .1))
+    (a .0, by-test (λ (y : Arg). ArgRead y → isScalar (number 4 l) ≡ true) (isScalar (number 4 l)) (λ e _. e) (λ _ g. absurd g) (a .1))
 given-there tag Unknown base l p g = g
 
 -- the same of the class that a match found
-pub there : {class k : Class} (tag base : ℕ) (l : List ℕ) (p : ℕ) → class ≡ k → ArgGiven (readArg tag class base l p) → There k l p
+pub there : {class k : Class} (tag base : ℕ) (l : List ℕ) (p : ℕ) → class ≡ k → ArgRead (readArg tag class base l p) → There k l p
 there {class} tag base l p e g = subst (λ (c : Class). There c l p) e (given-there tag class base l p g)
 
 -- ---- the answers, for the class that a match found
@@ -73,7 +73,7 @@ with-numbers e w = rw (w .0, w .1) (sym e)
 
 module _ (tag base : ℕ) (l : List ℕ) (p : ℕ) where
   -- 4 bytes are there, which are the first field: plain ones, or a scalar number
-  pub four-again : (class : Class) → OneOf (0 ∷ 5 ∷ []) (tagOf the-type class) → ArgGiven (readArg tag class base l p)
+  pub four-again : (class : Class) → OneOf (0 ∷ 5 ∷ []) (tagOf the-type class) → ArgRead (readArg tag class base l p)
       → (4 ≤ length l) × ((x : ℕ) → x ≡ number 4 l → Given (argItem tag (base + p) x 0) 4 ≡ readArg tag class base l p)
   four-again Four h g = let w = given-there tag Four base l p g in (w, λ x e. four-given l tag base p w e)
   four-again Eight h g = absurd (miss (0 ∷ 5 ∷ []) 1 tt h)
@@ -93,7 +93,7 @@ module _ (tag base : ℕ) (l : List ℕ) (p : ℕ) where
       rw t at (blob-given l tag base p (w .0) e (omega (arith, w .1)) (omega (arith, w .2)))
 
   -- of an argument that is given, what the other classes leave over is one without data
-  pub bare-left : (class : Class) → OneOf (2 ∷ 6 ∷ []) (tagOf the-type class) → ArgGiven (readArg tag class base l p)
+  pub bare-left : (class : Class) → OneOf (2 ∷ 6 ∷ []) (tagOf the-type class) → ArgRead (readArg tag class base l p)
       → Given (argItem tag (base + p) 0 0) 0 ≡ readArg tag class base l p
   unfolding readArg
   bare-left Four h g = absurd (miss (2 ∷ 6 ∷ []) 0 tt h)

@@ -1,5 +1,5 @@
 pub mod Argument
 pub mod CodeClasses
-pub mod CodeGiven
+pub mod CodeRead
 pub mod CodeParts
 pub mod Dirt

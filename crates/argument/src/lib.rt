@@ -14,7 +14,7 @@ ghost use Rattle.wire.specs.Limits.{longest};
 ghost use Rattle.node.specs.declared.tags.Class.the-variants as class;
 ghost use Rattle.argument.specs.Argument.{argItem, readArg};
 ghost use Rattle.argument.specs.CodeClasses.{Checked};
-ghost use Rattle.argument.specs.CodeGiven.{ArgGiven};
+ghost use Rattle.argument.specs.CodeRead.{ArgRead};
 
 // What reading one argument gives.
 pub enum Arg {
@@ -135,7 +135,7 @@ pub struct GivenArg {
 // Ruled out: the high half of 8 bytes in both fields; an argument without data that takes bytes.
 pub fn read_osc_arg(tag: u8, class: Class, input: &[u8], base: usize, pos: usize) -> GivenArg
     requires { ⌜ base + pos + length (now input) ≤ longest ⌝ }
-    requires { ⌜ ArgGiven (readArg tag class base (now input) pos) ⌝ }
+    requires { ⌜ ArgRead (readArg tag class base (now input) pos) ⌝ }
     ensures { λ r. ⌜ readArg tag class base (now (input .entry)) pos ≡ Arg.Given (r .item) (r .used) ⌝ }
 {
     let start = (base + pos) as u32;

@@ -5,6 +5,7 @@ use Prim.Native.Nat.{ℕ, zero, suc, _+_, _-_, _*_, _^_, _<_, _≤_}
 use mathlib.Core.List.{List, [], _∷_, _++_}
 use native.Mathlib.Omega.{arith}
 use lib.ListN.{length, getD, take, drop, length-drop}
+use Rattle.wire.specs.Limits.{longest}
 use Rattle.wire.specs.Number.{bytes}
 use Rattle.wire.specs.Wrote.{Wrote}
 use Rattle.wire.proofs.Numbers.{length-bytes}
@@ -22,7 +23,7 @@ use Rattle.argument.specs.Argument.{readArg}
 use Rattle.arguments.specs.Arguments.{Args, refused, args, later, argTaken, Open, waits, arrayItem, act, readTags, readArgs}
 use Rattle.arguments.specs.CodeReadings.{keptOf, ArgsRoom}
 use Rattle.scan.specs.CodeScans.{tagBefore, back, AllClosed}
-use Rattle.argument.specs.CodeGiven.{ArgGiven}
+use Rattle.argument.specs.CodeRead.{ArgRead}
 use Rattle.argument.specs.declared.Arg.{Arg}
 use Rattle.argument.specs.declared.Arg.the-variants as arg
 use Rattle.scan.specs.declared.Back.{Back}
@@ -34,7 +35,7 @@ use Rattle.arguments.proofs.Frames.{held, link, layout, length-layout, 
 use Rattle.arguments.proofs.Frames.{while-open, once-closed, link-there}
 
 -- the tags ts and the data m at q are left, which ends at E; n records of F are written to the table T that was T₀, the first with
--- index i: those of a frame and of the frames that wait below it. The link to the open array is `top`
+-- index i: those of a frame and of the frames that wait below it. The link to the open array is `top`. The input is not too long
 pub record Filling (base : ℕ) (F : Forest) (i E : ℕ) (T₀ T ts m : List ℕ) (q n top : ℕ) : Type 0 where
   pub frame : Forest
   pub below : List Open
@@ -48,13 +49,15 @@ pub record Filling (base : ℕ) (F : Forest) (i E : ℕ) (T₀ T ts m : List ℕ
   pub linked : top ≡ link below
   pub table : Wrote (layout i frame below) T₀ T
   pub ends : q + length m ≡ E
+  pub low : base + E ≤ longest
   pub room : TableRoom F i T₀
 
 -- at the start nothing is written, and all is left
-pub filling-start : (base : ℕ) (ts m : List ℕ) (q i : ℕ) (T₀ : List ℕ) → ArgsRoom (readArgs base ts m q) i T₀ → AllClosed (back ts)
+pub filling-start : (base : ℕ) (ts m : List ℕ) (q i : ℕ) (T₀ : List ℕ) → base + q + length m ≤ longest
+    → ArgsRoom (readArgs base ts m q) i T₀ → AllClosed (back ts)
     → Filling base (keptOf (readArgs base ts m q)) i (q + length m) T₀ T₀ ts m q 0 0
 unfolding recordsOf size
-filling-start base ts m q i T₀ w closed =
+filling-start base ts m q i T₀ low w closed =
     by-both (readArgs base ts m q) (back ts) refl refl w closed (deep-law base ts m q nil [] (w .accepted)) (args-counted base ts m q)
   where
     by-both : (o : Args) (k : Back) → readArgs base ts m q ≡ o → back ts ≡ k → ArgsRoom o i T₀ → AllClosed k → Deep k 0
@@ -77,6 +80,7 @@ filling-start base ts m q i T₀ w closed =
           linked = refl;
           table = wrote-none T₀;
           ends = refl;
+          low = omega arith;
           room = r .room;
         }
 
@@ -220,6 +224,7 @@ module _ {base : ℕ} {F : Forest} {i E : ℕ} {T₀ T ts m : List ℕ} {q n top
             rw (layout-open i (w .frame) (arrayItem (base + q)) (w .below), ← w .linked)
             (wrote-next (recordOf (arrayItem (base + q)) top) (recordSize * n) (w .table) len v);
         ends = w .ends;
+        low = w .low;
         room = w .room;
       })
 
@@ -253,6 +258,7 @@ module _ {base : ℕ} {F : Forest} {i E : ℕ} {T₀ T ts m : List ℕ} {q n top
             rw (layout-leaf i (w .frame) (w .below) item, ← w .place)
             (wrote-next (recordOf item (i + n + 1)) (recordSize * n) (w .table) len v);
         ends = omega (arith, length-drop u m, w .ends);
+        low = w .low;
         room = w .room;
       })
 
@@ -291,14 +297,15 @@ module _ {base : ℕ} {F : Forest} {i E : ℕ} {T₀ T ts m : List ℕ} {q n top
                 (recordSize * held f b + 4)
                 (rw (while-open i (w .frame) f item b) at tb) (length-front i f item b) same (rw up at v));
             ends = w .ends;
+            low = w .low;
             room = w .room;
           })
 
   -- in what is accepted each argument is given
-  pub filling-given : {class : Class} → Leaf class ≡ sortOf (getD ts 0 0) → ArgGiven (readArg (getD ts 0 0) class base m q)
+  pub filling-given : {class : Class} → Leaf class ≡ sortOf (getD ts 0 0) → ArgRead (readArg (getD ts 0 0) class base m q)
   filling-given {class} e = by-arg (readArg (getD ts 0 0) class base m q) (turned e)
     where
-      by-arg : (x : Arg) → argTaken (λ m q f. readTags base (drop 1 ts) m q f (w .below)) m q (w .frame) x ≡ args F (w .used) → ArgGiven x
+      by-arg : (x : Arg) → argTaken (λ m q f. readTags base (drop 1 ts) m q f (w .below)) m q (w .frame) x ≡ args F (w .used) → ArgRead x
       by-arg (arg.Given item used) r = tt
       by-arg (arg.Refused fault) r = let z : _≡_ {A = ℕ} 0 1 = cc in absurd (omega arith)
 

@@ -1,8 +1,8 @@
 // The calls of the library, all in this file, and what they answer in one shape.
-use decoder::Decoded;
-use decoder::Edition;
-use encoder::Encoded;
+use edition::Edition;
 use refusal::Refusal;
+use results::Decoded;
+use results::Encoded;
 use runs::said::put_text;
 use values::look::Looked;
 use values::look::Started;

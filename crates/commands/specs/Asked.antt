@@ -5,10 +5,10 @@ use Prim.Native.Nat.{ℕ}
 use lib.Dec.{eqb}
 use Rattle.words.specs.declared.numeral.Numeral.{Numeral}
 use Rattle.words.specs.declared.numeral.Numeral.the-variants as numeral
-use Rattle.framing.specs.declared.Framing.{Framing}
-use Rattle.framing.specs.declared.Framing.the-variants.{Udp, Tcp, TcpVec}
-use Rattle.telling.specs.declared.troubles.Trouble.the-variants.{DecodeWords, EncodeWords, LookWords, NoFraming, OnePacket, NoNumber}
-use Rattle.telling.specs.declared.troubles.Trouble.the-variants.{IndexWords, CheckWords, CueWords}
+use Rattle.edition.specs.declared.Framing.{Framing}
+use Rattle.edition.specs.declared.Framing.the-variants.{Udp, Tcp, TcpVec}
+use Rattle.troubles.specs.declared.Trouble.the-variants.{DecodeWords, EncodeWords, LookWords, NoFraming, OnePacket, NoNumber}
+use Rattle.troubles.specs.declared.Trouble.the-variants.{IndexWords, CheckWords, CueWords}
 use Rattle.commands.specs.Words.{framingOf, numberOfWord}
 use Rattle.commands.specs.Options.{noOptions, chosenBy}
 use Rattle.commands.specs.declared.options.Options.{Options}

@@ -7,8 +7,9 @@ use Rattle.wire.specs.Limits.{deepest}
 use Rattle.node.specs.Records.{mostRecords}
 use Rattle.words.specs.declared.numeral.Numeral.{Numeral}
 use Rattle.words.specs.declared.numeral.Numeral.the-variants as numeral
-use Rattle.telling.specs.declared.troubles.Trouble.the-variants.{NoOption, Twice, NoNumber, ManyRecords}
-use Rattle.commands.specs.Words.{isWord, numberOfWord}
+use Rattle.troubles.specs.declared.Trouble.the-variants.{NoOption, Twice, NoNumber, ManyRecords}
+use Rattle.words.specs.Tables.{isWord}
+use Rattle.commands.specs.Words.{numberOfWord}
 use Rattle.commands.specs.declared.options.Options.{Options}
 use Rattle.commands.specs.declared.options.Chosen.{Chosen}
 use Rattle.commands.specs.declared.options.Chosen.the-variants.{As, Wrong}

@@ -1,47 +1,52 @@
 -- What single words mean.
-use mathlib.Core.Bool.{Bool, true, false, cond}
+use mathlib.Core.Bool.{cond}
 use mathlib.Core.List.{List, [], _∷_}
 use Prim.Native.Nat.{ℕ}
 use Prim.Native.String.{String}
-use lib.Dec.{eqb, ltb}
-use Rattle.wire.specs.Same.{sameBytes}
+use lib.Dec.{ltb}
+use Rattle.words.specs.Tables.{pairedWith, isWord}
 use Rattle.words.specs.Numeral.{numeralOf}
 use Rattle.words.specs.declared.numeral.Numeral.{Numeral}
 use Rattle.words.specs.declared.numeral.Numeral.the-variants as numeral
 use Rattle.edition.specs.declared.Edition.the-variants.{Rosc, Standard}
-use Rattle.framing.specs.declared.Framing.the-variants.{Udp, Tcp, TcpVec}
-use Rattle.telling.specs.Ascii.{ascii}
+use Rattle.edition.specs.declared.Framing.the-variants.{Udp, Tcp, TcpVec}
 use Rattle.commands.specs.declared.Command.{Command}
 use Rattle.commands.specs.declared.Command.the-variants as command
 use Rattle.commands.specs.declared.Framed.{Framed}
 use Rattle.commands.specs.declared.Framed.the-variants as framed
 
--- a word is this one
-abbrev pub isWord : List ℕ → String → Bool
-isWord word text = sameBytes word (ascii text)
+-- the words of the commands, and the command that each names
+abbrev pub commandWords : List (String × Command)
+commandWords =
+    ("decode", command.Decode)
+    ∷ ("encode", command.Encode)
+    ∷ ("look", command.Look)
+    ∷ ("index", command.Index)
+    ∷ ("check", command.Check)
+    ∷ ("cue", command.Cue)
+    ∷ ("help", command.Help)
+    ∷ ("--help", command.Help)
+    ∷ ("-h", command.Help)
+    ∷ ("--version", command.Version)
+    ∷ []
 
--- the command that a word names
+-- the command that stands beside the word; of another word none
 unfoldable pub commandOf : List ℕ → Command
-commandOf word =
-    cond (isWord word "decode") command.Decode
-    (cond (isWord word "encode") command.Encode
-    (cond (isWord word "look") command.Look
-    (cond (isWord word "index") command.Index
-    (cond (isWord word "check") command.Check
-    (cond (isWord word "cue") command.Cue
-    (cond (isWord word "help") command.Help
-    (cond (isWord word "--help") command.Help
-    (cond (isWord word "-h") command.Help
-    (cond (isWord word "--version") command.Version command.Unclear)))))))))
+commandOf word = pairedWith (isWord word) command.Unclear commandWords
 
--- the framing that a word names: a stream is of edition 1, the crate's, where the word has no 2
+-- the words of the framings: a stream is of edition 1, the crate's, where the word has no 2
+abbrev pub framingWords : List (String × Framed)
+framingWords =
+    ("udp", framed.As Udp)
+    ∷ ("tcp", framed.As (Tcp Rosc))
+    ∷ ("tcp-vec", framed.As (TcpVec Rosc))
+    ∷ ("tcp2", framed.As (Tcp Standard))
+    ∷ ("tcp2-vec", framed.As (TcpVec Standard))
+    ∷ []
+
+-- the framing that stands beside the word, likewise
 unfoldable pub framingOf : List ℕ → Framed
-framingOf word =
-    cond (isWord word "udp") (framed.As Udp)
-    (cond (isWord word "tcp") (framed.As (Tcp Rosc))
-    (cond (isWord word "tcp-vec") (framed.As (TcpVec Rosc))
-    (cond (isWord word "tcp2") (framed.As (Tcp Standard))
-    (cond (isWord word "tcp2-vec") (framed.As (TcpVec Standard)) framed.Unclear))))
+framingOf word = pairedWith (isWord word) framed.Unclear framingWords
 
 -- a number of at most nine digits; of a greater one none
 abbrev pub nineDigits : Numeral → Numeral

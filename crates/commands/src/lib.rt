@@ -1,9 +1,10 @@
 // What the words of the program `osc` mean: decided here, under contracts. The program itself reads, writes and says.
 mod options; // options.rt: the options of decode
 
-use decoder::Edition;
-use decoder::Framing;
-use telling::Trouble;
+use edition::Edition;
+use edition::Framing;
+use troubles::Trouble;
+use words::line::place_of;
 use words::numeral::Numeral;
 use words::numeral::decimal;
 ghost use mathlib.Core.Path.{_≡_};
@@ -16,7 +17,7 @@ pub use options::no_options;
 pub use options::options_of;
 
 // The version of the program and of the library that it calls.
-pub const VERSION: [u8; 6] = *b"0.12.0";
+pub const VERSION: [u8; 6] = *b"0.12.1";
 
 // The first word.
 pub enum Command {
@@ -77,72 +78,53 @@ pub enum CueAsked {
 
 // Whether a word is this one.
 fn is_word(word: &[u8], text: &[u8]) -> bool
-    ensures { λ r. ⌜ r ≡ sameBytes (now (word .entry)) (now (text .entry)) ⌝ }
+    ensures { λ r. ⌜ r ≡ sameBytes (now (text .entry)) (now (word .entry)) ⌝ }
 {
-    check::same(word, text)
+    check::same(text, word)
 }
 
-// The command that a word names.
+// The command that a word names: the words, and beside them what they name, whose last stands for every other word.
 //
 // Ruled out: decode for the word encode; a command for a word that only begins with its name.
 pub fn command_of(word: &[u8]) -> Command
     ensures { λ r. ⌜ r ≡ commandOf (now (word .entry)) ⌝ }
 {
-    if is_word(word, b"decode") {
-        return Command::Decode;
-    }
-    if is_word(word, b"encode") {
-        return Command::Encode;
-    }
-    if is_word(word, b"look") {
-        return Command::Look;
-    }
-    if is_word(word, b"index") {
-        return Command::Index;
-    }
-    if is_word(word, b"check") {
-        return Command::Check;
-    }
-    if is_word(word, b"cue") {
-        return Command::Cue;
-    }
-    if is_word(word, b"help") {
-        return Command::Help;
-    }
-    if is_word(word, b"--help") {
-        return Command::Help;
-    }
-    if is_word(word, b"-h") {
-        return Command::Help;
-    }
-    if is_word(word, b"--version") {
-        return Command::Version;
-    }
-    Command::Unclear
+    let at = place_of(
+        b"decode encode look index check cue help --help -h --version",
+        word,
+    );
+    let named = [
+        Command::Decode,
+        Command::Encode,
+        Command::Look,
+        Command::Index,
+        Command::Check,
+        Command::Cue,
+        Command::Help,
+        Command::Help,
+        Command::Help,
+        Command::Version,
+        Command::Unclear,
+    ];
+    named[at]
 }
 
-// The framing that a word names.
+// The framing that a word names, in the same way.
 //
 // Ruled out: tcp for the word tcp-vec; edition 1 for the word tcp2; a framing for every word.
 fn framing_of(word: &[u8]) -> Framed
     ensures { λ r. ⌜ r ≡ framingOf (now (word .entry)) ⌝ }
 {
-    if is_word(word, b"udp") {
-        return Framed::As(Framing::Udp);
-    }
-    if is_word(word, b"tcp") {
-        return Framed::As(Framing::Tcp(Edition::Rosc));
-    }
-    if is_word(word, b"tcp-vec") {
-        return Framed::As(Framing::TcpVec(Edition::Rosc));
-    }
-    if is_word(word, b"tcp2") {
-        return Framed::As(Framing::Tcp(Edition::Standard));
-    }
-    if is_word(word, b"tcp2-vec") {
-        return Framed::As(Framing::TcpVec(Edition::Standard));
-    }
-    Framed::Unclear
+    let at = place_of(b"udp tcp tcp-vec tcp2 tcp2-vec", word);
+    let named = [
+        Framed::As(Framing::Udp),
+        Framed::As(Framing::Tcp(Edition::Rosc)),
+        Framed::As(Framing::TcpVec(Edition::Rosc)),
+        Framed::As(Framing::Tcp(Edition::Standard)),
+        Framed::As(Framing::TcpVec(Edition::Standard)),
+        Framed::Unclear,
+    ];
+    named[at]
 }
 
 // The greatest number of nine digits.

@@ -2,7 +2,7 @@
 use crate::is_word;
 use crate::short_number;
 use node::record::MOST_RECORDS;
-use telling::Trouble;
+use troubles::Trouble;
 use wire::DEEPEST;
 use words::numeral::Numeral;
 ghost use mathlib.Core.Path.{_≡_};

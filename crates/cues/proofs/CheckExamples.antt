@@ -7,7 +7,7 @@ use lib.ListN.{length, take}
 use Rattle.wire.specs.Number.{bytes}
 use Rattle.cues.specs.Cues.{entryOf}
 use Rattle.cues.specs.Checks.{comparedAt, compared, InRecords, FirstAt, followedBy}
-use Rattle.cues.specs.declared.checked.Checked.the-variants.{Fits, Differs}
+use Rattle.results.specs.declared.Checked.the-variants.{Fits, Differs}
 use Rattle.cues.proofs.Checks.{fits-exactly, differs-first, check-in-parts}
 
 -- a frame of 16 bytes with 2 records at offset 0, one of 20 bytes with 3 after it, and the latter with 4

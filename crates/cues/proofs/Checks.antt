@@ -13,8 +13,8 @@ use Rattle.wire.specs.Same.{sameBytes}
 use Rattle.cues.specs.Cues.{entrySize}
 use Rattle.cues.specs.Checks.{comparedAt, compared, InRecords, FitsExactly, FirstAt}
 use Rattle.cues.specs.Checks.{DiffersFirst, numberedFrom, followedBy, CheckInParts}
-use Rattle.cues.specs.declared.checked.Checked.{Checked}
-use Rattle.cues.specs.declared.checked.Checked.the-variants.{Fits, Differs}
+use Rattle.results.specs.declared.Checked.{Checked}
+use Rattle.results.specs.declared.Checked.the-variants.{Fits, Differs}
 use Rattle.wire.proofs.Choices.{lt-or-le}
 use Rattle.wire.proofs.Same.{same-one, is-same}
 
@@ -280,7 +280,7 @@ ends-within f more g whole short rest = by-answer (compared f g) refl
         })
 
 -- nothing before
-numbered-none : (r : Checked) → numberedFrom 0 r ≡ r
+pub numbered-none : (r : Checked) → numberedFrom 0 r ≡ r
 numbered-none (Fits k) = ap Fits (omega arith)
 numbered-none (Differs k) = ap Differs (omega arith)
 

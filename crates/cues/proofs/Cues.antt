@@ -6,22 +6,32 @@ use native.Mathlib.Omega.{arith}
 use borrow.Author.Tests.{le-leb}
 use lib.Dec.{leb}
 use lib.ListN.{length}
+use Rattle.refusal.specs.Refusal.{movedBy}
+use Rattle.refusal.specs.declared.Fault.{Fault}
+use Rattle.refusal.specs.declared.Fault.the-variants.{Empty, Short, NotUtf8, BadStart, NotOpen, UnknownTag, NotScalar}
 use Rattle.refusal.specs.declared.Refusal.{Refusal}
+use Rattle.refusal.specs.declared.Refusal.the-variants.{Unreadable}
 use Rattle.wire.specs.Limits.{longest, deepest}
 use Rattle.wire.proofs.Choices.{by-le, by-both}
 use Rattle.node.specs.Forest.{size}
 use Rattle.packet.specs.Packet.{fault, one}
 use Rattle.framing.specs.Framing.{Frame, wait, read, refused, cutFrame, first, tcp2}
 use Rattle.framing.proofs.FrameKnot.{FrameIn, cut-in, Prefixed, cut-prefixed}
-use Rattle.totals.proofs.Totals.{one-tree, one-size}
-use Rattle.streams.proofs.Cuts.{Shallow, cut-shallow}
+use Rattle.rosc_inputs.proofs.Totals.{one-tree, one-size}
+use Rattle.standard_inputs.proofs.Cuts.{Shallow, cut-shallow}
 use Rattle.answering.specs.Limits.{limited, decoded}
-use Rattle.answering.specs.declared.Decoded.{Decoded}
-use Rattle.answering.specs.declared.Decoded.the-variants as answer
-use Rattle.cues.specs.Cues.{mostInACue, judgedCue, cueOf}
+use Rattle.results.specs.declared.Decoded.{Decoded}
+use Rattle.results.specs.declared.Decoded.the-variants as answer
+use Rattle.folding.specs.Folding.{Verdict}
+use Rattle.folding.specs.Frames.{judged}
+use Rattle.cues.specs.Cues.{mostInACue, recorded, recordAdds, judgedCue, cueOf}
 use Rattle.cues.specs.declared.cue.Cue.{Cue}
 use Rattle.cues.specs.declared.cue.Cue.the-variants as cue
 use Rattle.cues.proofs.Shortest.{shortestFrame, FrameLong, frame-long}
+
+-- the cue of a frame at the front of l
+abbrev pub cueBy : List ℕ → Frame → Cue
+cueBy l x = judgedCue (judged recorded recordAdds 0 l x)
 
 -- ---- what a frame is judged as lies in its input
 
@@ -31,36 +41,37 @@ CueIn m (cue.Given size records) = (shortestFrame ≤ size) × (size ≤ m) × (
 CueIn m cue.Waiting = Unit {0}
 CueIn m (cue.Refused k) = Unit {0}
 
-judged-in : (m : ℕ) (x : Frame) → FrameIn m x → FrameLong x → CueIn m (judgedCue x)
-judged-in m wait w v = tt
-judged-in m (read (fault k)) w v = tt
-judged-in m (read (one item f u)) w v =
-    by-le (CueIn m) (1 + size f) mostInACue (λ h. (v, omega arith, omega arith, h)) (λ _. tt)
-judged-in m (refused k) w v = tt
+judged-in : (l : List ℕ) (x : Frame) → FrameIn (length l) x → FrameLong x → CueIn (length l) (cueBy l x)
+judged-in l wait w v = tt
+judged-in l (read (fault k)) w v = tt
+judged-in l (read (one item f u)) w v =
+    by-le (λ (y : Verdict ℕ). CueIn (length l) (judgedCue y)) (1 + size f) mostInACue (λ h. (v, omega arith, omega arith, h)) (λ _. tt)
+judged-in l (refused k) w v = tt
 
 -- a frame lies in its input
 pub cue-in : {x : Cue} (l : List ℕ) → x ≡ cueOf l → CueIn (length l) x
 unfolding cueOf
 cue-in l e =
-    subst (CueIn (length l)) (sym e) (judged-in (length l) (cutFrame deepest 0 l) (cut-in deepest 0 l) (frame-long deepest 0 l))
+    subst (CueIn (length l)) (sym e) (judged-in l (cutFrame deepest 0 l) (cut-in deepest 0 l) (frame-long deepest 0 l))
 
 abbrev RefusedIn : ℕ → Cue → Type 0
 RefusedIn m (cue.Given size records) = Unit {0}
 RefusedIn m cue.Waiting = Unit {0}
 RefusedIn m (cue.Refused k) = 4 ≤ m
 
-judged-prefixed : (m : ℕ) (x : Frame) → FrameIn m x → Prefixed m x → RefusedIn m (judgedCue x)
-judged-prefixed m wait w p = tt
-judged-prefixed m (read (fault k)) w p = p
-judged-prefixed m (read (one item f u)) w p = by-le (RefusedIn m) (1 + size f) mostInACue (λ _. tt) (λ _. omega arith)
-judged-prefixed m (refused k) w p = p .0
+judged-prefixed : (l : List ℕ) (x : Frame) → FrameIn (length l) x → Prefixed (length l) x → RefusedIn (length l) (cueBy l x)
+judged-prefixed l wait w p = tt
+judged-prefixed l (read (fault k)) w p = p
+judged-prefixed l (read (one item f u)) w p =
+    by-le (λ (y : Verdict ℕ). RefusedIn (length l) (judgedCue y)) (1 + size f) mostInACue (λ _. tt) (λ _. omega arith)
+judged-prefixed l (refused k) w p = p .0
 
 -- a frame that is refused has its prefix
 pub cue-prefixed : (l : List ℕ) (k : Refusal) → cueOf l ≡ cue.Refused k → 4 ≤ length l
 unfolding cueOf
 cue-prefixed l k e =
     subst (RefusedIn (length l)) e
-    (judged-prefixed (length l) (cutFrame deepest 0 l) (cut-in deepest 0 l) (cut-prefixed deepest 0 l))
+    (judged-prefixed l (cutFrame deepest 0 l) (cut-in deepest 0 l) (cut-prefixed deepest 0 l))
 
 -- ---- what it is judged as, from the answer of the decoder
 
@@ -83,15 +94,27 @@ pub record Judges (n : ℕ) (d : Decoded) (x : Cue) : Type 0 where
   pub same : cueFrom n d ≡ x
   pub inside : LeftIn n d
 
-limited-judges : (n limit : ℕ) (msg : List ℕ) (x : Frame) → FrameIn n x → Shallow limit x
-    → Judges n (limited mostInACue limit msg (first n x)) (judgedCue x)
-limited-judges n limit msg wait w s = record { same = refl; inside = tt }
-limited-judges n limit msg (refused k) w s = record { same = refl; inside = tt }
-limited-judges n limit msg (read (fault k)) w s = record { same = refl; inside = tt }
-limited-judges n limit msg (read (one item f u)) w s =
+-- a fault that is told from its frame's prefix on
+moved-none : (k : Fault) → k ≡ movedBy 0 k
+moved-none Empty = refl
+moved-none (Short field at) = ap (Short field) (omega arith)
+moved-none NotUtf8 = refl
+moved-none BadStart = refl
+moved-none NotOpen = refl
+moved-none UnknownTag = refl
+moved-none NotScalar = refl
+
+limited-judges : (limit : ℕ) (msg : List ℕ) (x : Frame) → FrameIn (length msg) x → Shallow limit x
+    → Judges (length msg) (limited mostInACue limit msg (first (length msg) x)) (cueBy msg x)
+limited-judges limit msg wait w s = record { same = refl; inside = tt }
+limited-judges limit msg (refused k) w s = record { same = refl; inside = tt }
+limited-judges limit msg (read (fault k)) w s =
+    record { same = ap (λ (j : Fault). cue.Refused (Unreadable j)) (moved-none k); inside = tt }
+limited-judges limit msg (read (one item f u)) w s =
+    let n = length msg in
     let whole : n - (n - u) ≡ u = omega arith in
     rw (one-tree item f, one-size item f, le-leb _ _ s)
-    (by-both (λ (d : Decoded) (x : Cue). Judges n d x) (leb (1 + size f) mostInACue)
+    (by-both (λ (d : Decoded) (y : Verdict ℕ). Judges n d (judgedCue y)) (leb (1 + size f) mostInACue)
     (record { same = ap (λ (k : ℕ). cue.Given k (1 + size f)) whole; inside = omega arith })
     (record { same = refl; inside = tt }))
 
@@ -103,4 +126,4 @@ answer-judges msg h e =
     let given : decoded (tcp2 deepest) mostInACue deepest msg
     ≡ limited mostInACue deepest msg (first (length msg) (cutFrame deepest 0 msg)) = rw (decoded, le-leb (length msg) longest h) in
     subst (λ (d : Decoded). Judges (length msg) d (cueOf msg)) (sym (e ∙ given))
-    (limited-judges (length msg) deepest msg (cutFrame deepest 0 msg) (cut-in deepest 0 msg) (cut-shallow deepest 0 msg))
+    (limited-judges deepest msg (cutFrame deepest 0 msg) (cut-in deepest 0 msg) (cut-shallow deepest 0 msg))

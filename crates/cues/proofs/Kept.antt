@@ -1,6 +1,6 @@
 -- What an index leaves to wait is shorter than a buffer.
 use mathlib.Core.Path.{_≡_, refl, subst}
-use mathlib.Core.List.{List, []}
+use mathlib.Core.List.{List}
 use Prim.Native.Nat.{ℕ, _+_, _-_, _%_, _<_}
 use native.Mathlib.Omega.{arith}
 use lib.Dec.{leb}
@@ -14,11 +14,14 @@ use Rattle.heads.specs.declared.Length.{Length}
 use Rattle.heads.specs.declared.Length.the-variants as cut
 use Rattle.packet.specs.Packet.{Out, fault, one, after, readPacket}
 use Rattle.framing.specs.Framing.{Frame, wait, read, refused, wholly, cutWith, cutFrame}
-use Rattle.cues.specs.Cues.{mostInACue, judgedCue, cueOf, index, MayContinue, KeptIsShort}
-use Rattle.cues.specs.declared.cue.Cue.{Cue}
+use Rattle.folding.specs.Folding.{Verdict}
+use Rattle.folding.specs.Walks.{MayContinue}
+use Rattle.folding.proofs.Framed.{Framed, ends, lacks, fails, frame, framed, framed-in, framed-rest}
+use Rattle.cues.specs.Cues.{mostInACue, judgedCue, cueOf, indexing, index, KeptIsShort}
 use Rattle.cues.specs.declared.cue.Cue.the-variants as cue
-use Rattle.cues.specs.declared.index.End.{End}
-use Rattle.cues.proofs.Cued.{Cued, whole, waits, refuses, given, entry-some, cued, cued-rest}
+use Rattle.results.specs.declared.End.{End}
+use Rattle.cues.proofs.Cues.{cueBy}
+use Rattle.cues.proofs.Indexes.{index-inside, cued}
 
 -- a length that waits
 LengthShort : ℕ → Length → Type 0
@@ -64,20 +67,21 @@ pub waits-short : (l : List ℕ) → cueOf l ≡ cue.Waiting → length l < long
 unfolding cueOf FrameShort
 waits-short l e = by-frame (cutFrame deepest 0 l) (frame-short deepest 0 l) e
   where
-    by-frame : (x : Frame) → FrameShort (length l) x → judgedCue x ≡ cue.Waiting → length l < longest
+    by-frame : (x : Frame) → FrameShort (length l) x → cueBy l x ≡ cue.Waiting → length l < longest
     by-frame wait h q = h
     by-frame (read (fault k)) h q = let z : _≡_ {A = ℕ} 0 1 = cc in absurd (omega arith)
     by-frame (read (one item f u)) h q =
-        by-le (λ (y : Cue). y ≡ cue.Waiting → length l < longest) (1 + size f) mostInACue
+        by-le (λ (y : Verdict ℕ). judgedCue y ≡ cue.Waiting → length l < longest) (1 + size f) mostInACue
         (λ few p. let z : _≡_ {A = ℕ} 0 1 = cc in absurd (omega arith)) (λ few p. let z : _≡_ {A = ℕ} 0 1 = cc in absurd (omega arith)) q
     by-frame (refused k) h q = let z : _≡_ {A = ℕ} 0 1 = cc in absurd (omega arith)
 
-left-short : {base at : ℕ} {l w : List ℕ} {why : End} → Cued base l (index w at why) → w ≡ [] → MayContinue why → length l < longest
-left-short whole none g = omega arith
-left-short {l = l} (waits some e) none g = waits-short l e
-left-short (refuses some e) none g = absurd g
-left-short {base} (given {u = u} {c = c} {w = w} some e h r) none g = absurd (entry-some base u c w none)
+left-short : {base at : ℕ} {l w : List ℕ} {why : End} → Framed indexing base l (index w at why) → at ≡ base → MayContinue why
+    → length l < longest
+left-short ends none g = omega arith
+left-short {base} {l = l} (lacks some e) none g = waits-short l (cued base l e)
+left-short (fails some e) none g = absurd g
+left-short (frame some e h r) none g = absurd (omega (arith, framed-in r .0))
 
 -- what is kept leaves room in a buffer for a byte more
 pub kept-is-short : KeptIsShort
-kept-is-short base l w at why g e = left-short (cued-rest (subst (Cued base l) e (cued base l))) refl g
+kept-is-short base l w at why g e = left-short (framed-rest (subst (Framed indexing base l) e (framed indexing index-inside base l))) refl g

@@ -4,7 +4,7 @@ use mathlib.Core.List.{List}
 use Prim.Native.Nat.{ℕ}
 use lib.ListN.{length}
 use Rattle.cues.specs.Cues.{indexOf, writtenOf, indexAnswer, indexLeaves, Indexes}
-use Rattle.cues.specs.declared.index.Indexed.{Indexed}
+use Rattle.results.specs.declared.Indexed.{Indexed}
 
 module _ {l : List ℕ} {base : ℕ} {out : List ℕ} where
   -- two outcomes are one

@@ -13,18 +13,18 @@ use Rattle.refusal.specs.declared.Refusal.the-variants.{TooLong, OutputShort}
 use Rattle.wire.specs.Limits.{longest}
 use Rattle.wire.specs.Wrote.{Wrote, Filled}
 use Rattle.wire.proofs.Writers.{wrote-none, same-length, filled-lent}
-use Rattle.cues.specs.Cues.{longestRecording, cueOf, entrySize, entryOf, Index, index}
-use Rattle.cues.specs.Cues.{withEntry, byCue, indexOf, writtenOf, entriesOf}
+use Rattle.folding.specs.Folding.{withSum}
+use Rattle.cues.specs.Cues.{longestRecording, cueOf, entrySize, entryOf, indexing, Index, index, indexOf, writtenOf, entriesOf}
 use Rattle.cues.specs.Cues.{indexedAs, Indexes}
 use Rattle.cues.specs.CodeCues.{stretchBy, stretchOf, writtenIn, CanWrite}
 use Rattle.cues.specs.declared.cue.Cue.{Cue}
 use Rattle.cues.specs.declared.cue.Cue.the-variants as cue
-use Rattle.cues.specs.declared.index.End.the-variants as end
-use Rattle.cues.specs.declared.index.Indexed.the-variants as indexed
+use Rattle.results.specs.declared.End.the-variants as end
+use Rattle.results.specs.declared.Indexed.the-variants as indexed
 use Rattle.cues.specs.declared.index.Stretch.{Stretch}
 use Rattle.cues.proofs.Shortest.{shortestFrame}
 use Rattle.cues.proofs.Cues.{CueIn, cue-in}
-use Rattle.cues.proofs.Indexes.{index-none, index-by, length-entry, written-more, written-length}
+use Rattle.cues.proofs.Indexes.{index-none, indexBy, index-by, length-entry, written-more, written-length}
 
 -- ---- the first pass
 
@@ -39,7 +39,7 @@ after-none base l = go (indexOf base l)
     go (index written at why) = rw (zero-add (length written / entrySize))
 
 after-more : (n base : ℕ) (entry : List ℕ) (i : Index) → length entry ≡ entrySize
-    → stretchAfter n base (withEntry entry i) ≡ stretchAfter (n + 1) base i
+    → stretchAfter n base (withSum indexing entry i) ≡ stretchAfter (n + 1) base i
 after-more n base entry (index written at why) h =
     let more : n + length (entry ++ written) / entrySize ≡ n + 1 + length written / entrySize = simp length-append (omega arith) in
     ap (λ (k : ℕ). record { records = k; used = at - base; end = why }) more
@@ -64,7 +64,7 @@ module _ (l : List ℕ) (at n : ℕ) (w : Counting l at n) where
 
   module _ {rest : List ℕ} {x : Cue} (some : at < length l) (s : rest ≡ drop at l) (f : x ≡ cueOf rest) where
     by-next : {y : Cue} → x ≡ y → (base : ℕ)
-        → stretchOf base l ≡ stretchAfter n base (byCue (λ b m. indexOf b m) (base + at) (drop at l) y)
+        → stretchOf base l ≡ stretchAfter n base (indexBy (base + at) (drop at l) y)
     by-next z base =
         w .stretch-is base
         ∙ ap (stretchAfter n base) (index-by (base + at) (drop at l) (omega (arith, length-drop at l)) (sym z ∙ f ∙ ap cueOf s))
@@ -102,10 +102,10 @@ module _ (l : List ℕ) (at n : ℕ) (w : Counting l at n) where
 -- ---- the second pass
 
 -- the bytes of an index by its first frame, if there is one
-written-by : {x : Cue} (base : ℕ) (l : List ℕ) → x ≡ cueOf l → writtenIn l base ≡ writtenOf (byCue (λ b m. indexOf b m) base l x)
+written-by : {x : Cue} (base : ℕ) (l : List ℕ) → x ≡ cueOf l → writtenIn l base ≡ writtenOf (indexBy base l x)
 written-by {x} base [] e = ap writtenOf (index-none base [] (omega arith)) ∙ by-cue x (cue-in [] e)
   where
-    by-cue : (c : Cue) → CueIn 0 c → [] ≡ writtenOf (byCue (λ b m. indexOf b m) base [] c)
+    by-cue : (c : Cue) → CueIn 0 c → [] ≡ writtenOf (indexBy base [] c)
     by-cue (cue.Given size records) w = absurd (omega arith)
     by-cue cue.Waiting w = refl
     by-cue (cue.Refused k) w = refl

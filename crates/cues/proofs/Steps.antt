@@ -8,11 +8,12 @@ use lib.Seq.{take-append-le, take-all}
 use Rattle.wire.specs.Limits.{longest}
 use Rattle.wire.proofs.Choices.{by-le}
 use Rattle.refusal.specs.declared.Refusal.{Refusal}
+use Rattle.folding.specs.Walks.{MayContinue}
 use Rattle.cues.specs.Cues.{entrySize, mostEntries, longestRecording, Index, index, indexOf, writtenOf}
-use Rattle.cues.specs.Cues.{indexedAs, Indexes, MayContinue}
-use Rattle.cues.specs.declared.index.End.{End}
-use Rattle.cues.specs.declared.index.Indexed.{Indexed}
-use Rattle.cues.specs.declared.index.Indexed.the-variants as indexed
+use Rattle.cues.specs.Cues.{indexedAs, Indexes}
+use Rattle.results.specs.declared.End.{End}
+use Rattle.results.specs.declared.Indexed.{Indexed}
+use Rattle.results.specs.declared.Indexed.the-variants as indexed
 use Rattle.cues.proofs.Shortest.{shortestFrame}
 use Rattle.cues.proofs.Indexes.{IndexIn, index-in, written-length, written-fits}
 use Rattle.cues.proofs.Kept.{kept-is-short}

@@ -8,8 +8,8 @@ use lib.Dec.{eqb}
 use lib.ListN.{length, take, drop}
 use Rattle.wire.specs.Same.{sameBytes}
 use Rattle.cues.specs.Cues.{entrySize, indexOf, writtenOf}
-use Rattle.cues.specs.declared.checked.Checked.{Checked}
-use Rattle.cues.specs.declared.checked.Checked.the-variants.{Fits, Differs}
+use Rattle.results.specs.declared.Checked.{Checked}
+use Rattle.results.specs.declared.Checked.the-variants.{Fits, Differs}
 
 -- an index against the one that was written afresh, record by record: k is the number of the first of these, and there are at most n
 unfoldable pub comparedAt : ℕ → ℕ → List ℕ → List ℕ → Checked

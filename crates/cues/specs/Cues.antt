@@ -1,40 +1,50 @@
--- The cue index of a recording: document 02, Ticket 5, over edition 2 of Ticket 1. The definition is over the bytes of a whole recording,
--- or of a part of it that stands at some offset.
+-- The cue index of a recording: document 02, Ticket 5, over edition 2 of Ticket 1. It is a fold (crates/folding) over the bytes of a whole
+-- recording, or of a part of it that stands at some offset.
 use mathlib.Core.Path.{_≡_}
 use mathlib.Core.Bool.{cond}
-use mathlib.Core.List.{List, [], _∷_, _++_}
-use Prim.Native.Nat.{ℕ, zero, suc, _+_, _-_, _*_, _/_, _<_}
+use mathlib.Core.List.{List, [], _++_}
+use Prim.Native.Nat.{ℕ, _+_, _-_, _*_, _/_, _<_}
 use lib.Dec.{leb, ltb}
-use lib.ListN.{length, drop}
-use Rattle.refusal.specs.declared.Refusal.the-variants.{TooLong, Unreadable, TableFull, BadTable, OutputShort}
+use lib.ListN.{length, take, drop}
+use Rattle.refusal.specs.declared.Refusal.the-variants.{TooLong, BadTable, OutputShort}
 use Rattle.wire.specs.Limits.{longest, deepest}
 use Rattle.wire.specs.Number.{number, bytes}
 use Rattle.node.specs.Forest.{size}
-use Rattle.packet.specs.Packet.{fault, one}
-use Rattle.framing.specs.Framing.{Frame, wait, read, refused, cutFrame}
+use Rattle.folding.specs.Folding.{Verdict, takes, waits, refuses, Fold, Folding, foldOf, sumIn}
+use Rattle.folding.specs.Frames.{Reading, FrameAdds, judgeOf, overFrames}
+use Rattle.folding.specs.Walks.{Stepping}
 use Rattle.cues.specs.declared.cue.Cue.{Cue}
 use Rattle.cues.specs.declared.cue.Cue.the-variants as cue
-use Rattle.cues.specs.declared.index.End.{End}
-use Rattle.cues.specs.declared.index.End.the-variants as end
-use Rattle.cues.specs.declared.index.Indexed.{Indexed}
-use Rattle.cues.specs.declared.index.Indexed.the-variants as indexed
-use Rattle.cues.specs.declared.lookup.CueAt.{CueAt}
-use Rattle.cues.specs.declared.lookup.CueAt.the-variants as found
+use Rattle.results.specs.declared.End.{End}
+use Rattle.results.specs.declared.Indexed.{Indexed}
+use Rattle.results.specs.declared.Indexed.the-variants as indexed
+use Rattle.results.specs.declared.CueAt.{CueAt}
+use Rattle.results.specs.declared.CueAt.the-variants as found
+-- an index is a fold, and `index` makes one
+pub use Rattle.folding.specs.Folding.{folded as index}
+pub use Rattle.folding.specs.Walks.{MayContinue}
 
 -- "64 KiB tables hold 3,276 records, also in Ticket 5" (Ticket 10): a frame with more is not accepted
 abbrev pub mostInACue : ℕ
 mostInACue = 3276
 
--- a frame, as it is judged for an index: its bytes with the prefix, and the records of its table
-abbrev pub judgedCue : Frame → Cue
-judgedCue wait = cue.Waiting
-judgedCue (read (fault k)) = cue.Refused (Unreadable k)
-judgedCue (read (one item inside used)) = cond (leb (1 + size inside) mostInACue) (cue.Given used (1 + size inside)) (cue.Refused TableFull)
-judgedCue (refused k) = cue.Refused k
+-- how the frames of a recording are read: at depth 64, with 3,276 records, and each counted from its prefix
+abbrev pub recorded : Reading
+recorded = record { limit = deepest; from = λ base. 0; room = λ inside. leb (1 + size inside) mostInACue }
 
--- the frame at the front of l, at depth 64; "Waiting counts so" (as not accepted)
+-- the records of a frame's table
+abbrev pub recordAdds : FrameAdds ℕ
+recordAdds base own item inside = 1 + size inside
+
+-- a frame, as it is judged for an index: its bytes with the prefix, and the records of its table
+abbrev pub judgedCue : Verdict ℕ → Cue
+judgedCue (takes size records) = cue.Given size records
+judgedCue waits = cue.Waiting
+judgedCue (refuses k) = cue.Refused k
+
+-- the frame at the front of l; "Waiting counts so" (as not accepted)
 unfoldable pub cueOf : List ℕ → Cue
-cueOf l = judgedCue (cutFrame deepest 0 l)
+cueOf l = judgedCue (judgeOf recorded recordAdds 0 l)
 
 -- a recording has any length below 2^63: every offset is a number of 63 bits
 abbrev pub longestRecording : ℕ
@@ -52,38 +62,25 @@ mostEntries = 5461
 abbrev pub entryOf : ℕ → ℕ → ℕ → List ℕ
 entryOf offset size records = bytes 8 offset ++ (bytes 4 (size - 4) ++ bytes 4 records)
 
+-- the record of a frame, whose own bytes have its prefix
+abbrev pub entryAdds : FrameAdds (List ℕ)
+entryAdds base own item inside = entryOf base (length own) (1 + size inside)
+
+-- an index is a fold over the frames that are accepted: records end to end; "writing stops at the first frame not accepted and says where"
+abbrev pub indexing : Folding (List ℕ)
+indexing = overFrames recorded entryAdds [] (λ a b. a ++ b)
+
 -- an index: its bytes, the offset at which writing stopped, and why
-pub data Index : Type 0 where
-  index : (written : List ℕ) (at : ℕ) (why : End) → Index
-
--- a record before others
-abbrev pub withEntry : List ℕ → Index → Index
-withEntry entry (index written at why) = index (entry ++ written) at why
-
--- the index of l, which begins with this: "writing stops at the first frame not accepted and says where"
-abbrev pub byCue : (ℕ → List ℕ → Index) → ℕ → List ℕ → Cue → Index
-byCue go base l (cue.Given size records) = withEntry (entryOf base size records) (go (base + size) (drop size l))
-byCue go base l cue.Waiting = index [] base end.Waiting
-byCue go base l (cue.Refused k) = index [] base (end.Refused k)
-
--- the index of l, which stands at offset `base`: where no byte is left, the recording is whole
-abbrev pub byFront : (ℕ → List ℕ → Index) → ℕ → List ℕ → Index
-byFront go base [] = index [] base end.Whole
-byFront go base (x ∷ l) = byCue go base (x ∷ l) (cueOf (x ∷ l))
-
--- the same of at most n frames: the line for 0 is met only where no byte is left, and says there what the rule says (proofs/Indexes.antt:
--- index-eq)
-unfoldable pub indexAt : ℕ → ℕ → List ℕ → Index
-indexAt zero base l = index [] base end.Whole
-indexAt (suc n) base l = byFront (λ b m. indexAt n b m) base l
+abbrev pub Index : Type 0
+Index = Fold (List ℕ)
 
 -- the index of the bytes l of a recording, which stand at offset `base`; that of a whole recording begins at 0
 abbrev pub indexOf : ℕ → List ℕ → Index
-indexOf base l = indexAt (length l) base l
+indexOf base l = foldOf indexing base l
 
 -- its bytes
 abbrev pub writtenOf : Index → List ℕ
-writtenOf (index written at why) = written
+writtenOf = sumIn
 
 -- the number of its records
 abbrev pub entriesOf : Index → ℕ
@@ -114,11 +111,11 @@ pub record Indexes (l : List ℕ) (base : ℕ) (out : List ℕ) (r : Indexed) (a
   pub answers : r ≡ indexAnswer base l (length out)
   pub leaves : after ≡ indexLeaves r (writtenOf (indexOf base l)) out
 
--- no frame was refused: an index may go on with the bytes that come
-abbrev pub MayContinue : End → Type 0
-MayContinue end.Whole = Unit {0}
-MayContinue end.Waiting = Unit {0}
-MayContinue (end.Refused k) = ⊥
+-- what a step does by this contract, with any output: the records are the front of it
+abbrev pub IndexStep : Stepping (List ℕ)
+IndexStep base l written used why =
+    (n : ℕ) × (out : List ℕ) × (after : List ℕ) × Indexes l base out (indexed.Written n used why) after
+    × (written ≡ take (entrySize * n) after)
 
 -- what waits leaves room in a buffer for a byte more, so that every recording can be read
 abbrev pub KeptIsShort : Type 0

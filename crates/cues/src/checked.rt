@@ -1,21 +1,11 @@
 // The check of an index against the one that was written afresh.
 ghost use mathlib.Core.Path.{_≡_};
-ghost use Prim.Native.Nat.{_*_, max};
+ghost use Prim.Native.Nat.{_*_, _<_, max};
 ghost use lib.ListN.{length, take, drop};
 ghost use Rattle.cues.specs.Cues.{entrySize};
-ghost use Rattle.cues.specs.Checks.{compared};
+ghost use Rattle.cues.specs.Checks.{compared, numberedFrom};
 use crate::index::ENTRY_SIZE;
-
-// The number of the refusal of an index that differs.
-pub const INDEX_DIFFERS: u8 = 25;
-
-// What a check answers.
-pub enum Checked {
-    // The index is the one written afresh: so many records.
-    Fits(usize),
-    // The first record that differs, is missing or is one too many, from 0; a part counts as one.
-    Differs(usize),
-}
+use results::Checked;
 
 // Compares an index with the one that was written afresh.
 //
@@ -32,6 +22,19 @@ pub fn compare(fresh: &[u8], given: &[u8]) -> Checked
         k += 1;
     }
     Checked::Fits(k)
+}
+
+// The same for a part of an index, before which `from` records stand: they count in the number.
+//
+// Ruled out: the number of a record in its part told as that in the index; a record that differs told as one that fits.
+pub fn compare_from(from: usize, fresh: &[u8], given: &[u8]) -> Checked
+    requires { ⌜ from < 0x8000_0000_0000_0000 ⌝ }
+    ensures { λ r. ⌜ r ≡ numberedFrom from (compared (now (fresh .entry)) (now (given .entry))) ⌝ }
+{
+    match compare(fresh, given) {
+        Checked::Fits(k) => Checked::Fits(from + k),
+        Checked::Differs(k) => Checked::Differs(from + k),
+    }
 }
 
 // The bytes of record `k`, as many of them as there are.

@@ -1,8 +1,8 @@
 // One frame of a recording, as it is judged for an index.
-use answering::Decoded;
 use edition::Edition;
-use framing::Framing;
+use edition::Framing;
 use refusal::Refusal;
+use results::Decoded;
 ghost use mathlib.Core.Path.{_≡_};
 ghost use Prim.Native.Nat.{_≤_};
 ghost use lib.ListN.{length};

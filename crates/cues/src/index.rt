@@ -2,6 +2,8 @@
 use crate::cue::Cue;
 use crate::cue::cue_of;
 use refusal::Refusal;
+use results::End;
+use results::Indexed;
 ghost use mathlib.Core.Path.{_≡_};
 ghost use Prim.Native.Nat.{ℕ, _≤_};
 ghost use lib.ListN.{length};
@@ -18,27 +20,6 @@ pub const MOST_ENTRIES: usize = 5461;
 
 // The length that a recording has at most.
 pub const LONGEST_RECORDING: u64 = 0x7fff_ffff_ffff_ffff;
-
-// Why an index goes no further.
-pub enum End {
-    // The recording has no byte more.
-    Whole,
-    // The next frame is not all there.
-    Waiting,
-    // The next frame is refused.
-    Refused(Refusal),
-}
-
-// What a step over the bytes of a recording answers.
-pub enum Indexed {
-    // So many records were written, for the first `used` bytes, and why no more.
-    Written {
-        records: usize,
-        used: usize,
-        end: End,
-    },
-    Refused(Refusal),
-}
 
 // The frames of a buffer: how many are accepted, the bytes that they take, and why no more.
 pub struct Stretch {

@@ -1,19 +1,9 @@
 // A cue, looked up by its number in an index.
 use crate::index::ENTRY_SIZE;
 use refusal::Refusal;
+use results::CueAt;
 ghost use mathlib.Core.Path.{_≡_};
 ghost use Rattle.cues.specs.Cues.{cueIn};
-
-// What a record of an index says.
-pub enum CueAt {
-    // Where the frame's prefix stands, its length without the prefix, and the records of its table.
-    At {
-        offset: u64,
-        size: u32,
-        records: u32,
-    },
-    Refused(Refusal),
-}
 
 // The numbers of record `k`, from 0. Whether they are of a frame that is there, a check says.
 //

@@ -10,31 +10,32 @@ use Rattle.node.specs.Forest.{Forest, nil, node, size}
 use Rattle.node.specs.Records.{capacity}
 use Rattle.argument.specs.Dirt.{packetsPadding, dirtyIn}
 use Rattle.framing.specs.Framing.{Whole, trees, waiting, refusal, stopped, before, tcpVec2}
-use Rattle.framing.specs.declared.Framing.the-variants.{TcpVec}
+use Rattle.edition.specs.declared.Framing.the-variants.{TcpVec}
 use Rattle.framing.proofs.Lists.{vec2-remaining}
 use Rattle.answering.specs.Limits.{forestOf}
-use Rattle.answering.specs.declared.Decoded.{Decoded}
-use Rattle.answering.specs.declared.Decoded.the-variants.{Stopped}
+use Rattle.results.specs.declared.Decoded.{Decoded}
+use Rattle.results.specs.declared.Decoded.the-variants.{Stopped}
 use Rattle.decoder.specs.CodeFrames.{Accepted}
 use Rattle.decoder.proofs.Sizes.{vec2-accepted, WholeIn, vec2-in}
 use Rattle.decoder.proofs.Cuts.{restOf, rest-accepted}
 use Rattle.decoder.proofs.Offsets.{WholeLow, whole-low}
+use Rattle.folding.specs.Folding.{joinedBytes}
 use Rattle.portions.specs.Portions.{portionOf, tableBy}
-use Rattle.portions.specs.declared.Portion.the-variants as step
+use Rattle.results.specs.declared.Portion.the-variants as step
 use Rattle.table.specs.Tree.{Spans}
-use Rattle.answers.specs.Words.{Gives}
-use Rattle.answers.proofs.Answered.{held}
+use Rattle.calls.specs.Words.{Gives}
+use Rattle.calls.proofs.Answered.{held}
 use Rattle.osc10.specs.Words.{Bytes}
 use Rattle.osc10.proofs.Arguments.{join, join-end}
 use Rattle.osc10.proofs.Placed.{At, at-all, at-front, at-back, at-bytes}
 use Rattle.cutting.specs.Moved.{movedForest, movedRefusal, movedWhole, MovedRecords}
-use Rattle.cutting.specs.Cutting.{listAnswer, listTable, joinedBytes, Recorded, done, reads, ends, AnyPortions}
+use Rattle.cutting.specs.Cutting.{listAnswer, listTable, Recorded, done, reads, ends, AnyPortions}
 use Rattle.cutting.proofs.Shift.{size-moved}
 use Rattle.cutting.proofs.Records.{size-joined, spans-joined, spans-moved}
 use Rattle.cutting.proofs.Soil.{dirt-joined, framed-moved, list-framed}
-use Rattle.cutting.proofs.Fold.{joinedWhole, continued, cut-list}
+use Rattle.cutting.proofs.Fold.{joinedWhole, continued, joined-none, joined-twice, cut-list}
 use Rattle.cutting.proofs.Told.{toldAs, Roomy, told, roomy, given-told}
-use Rattle.cutting.proofs.Calls.{joined-trees, joined-stopped, forest-joined, told-gives, given-spans, vec2-cut, vec2-moved}
+use Rattle.cutting.proofs.Calls.{forest-joined, told-gives, given-spans, vec2-cut, vec2-moved}
 use Rattle.cutting.proofs.Calls.{vec2-longer}
 
 -- ---- what is kept waits
@@ -60,7 +61,6 @@ module _ (limit : ℕ) (msg : List ℕ) (f : Forest) (left : ℕ) (e : tcpVec2 l
   by-rest : (w : Whole) → tcpVec2 limit (drop used msg) ≡ w → Accepted w → trees f left ≡ joinedWhole f (movedWhole used w)
       → tcpVec2 limit (drop used msg) ≡ trees nil left
   by-rest (trees g l) z a q =
-      let p = q ∙ joined-trees f (movedForest used g) l in
       let same : f ≡ join f (movedForest used g) = cc in
       let lefts : l ≡ left = cc in
       let none : g ≡ nil = no-nodes g (omega (arith, ap size same, size-joined f (movedForest used g), size-moved used g)) in
@@ -68,7 +68,6 @@ module _ (limit : ℕ) (msg : List ℕ) (f : Forest) (left : ℕ) (e : tcpVec2 l
   by-rest waiting z a q = absurd a
   by-rest (refusal r) z a q = absurd a
   by-rest (stopped g l why at) z a q =
-      let p = q ∙ joined-stopped f (movedForest used g) l (movedRefusal used why) (used + at) in
       let z : _≡_ {A = ℕ} 0 1 = cc in absurd (omega arith)
 
   rest-waits : tcpVec2 limit (drop used msg) ≡ trees nil left
@@ -77,18 +76,13 @@ module _ (limit : ℕ) (msg : List ℕ) (f : Forest) (left : ℕ) (e : tcpVec2 l
   left-in : left ≤ length msg
   left-in = let h = subst (WholeIn (length msg)) e (vec2-in limit msg) in omega arith
 
--- ---- trees before trees before a list
-
-joined-twice : (f g : Forest) (w : Whole) → joinedWhole f (joinedWhole g w) ≡ joinedWhole (join f g) w
-unfolding joinedWhole join
-joined-twice nil g w = refl
-joined-twice (node item inside rest) g w = ap (before item inside) (joined-twice rest g w)
+-- ---- trees before a list
 
 joined-accepted : (f : Forest) (w : Whole) → Accepted w → Accepted (joinedWhole f w)
-joined-accepted f (trees g left) a = rw (joined-trees f g left) tt
+joined-accepted f (trees g left) a = tt
 joined-accepted f waiting a = absurd a
 joined-accepted f (refusal r) a = absurd a
-joined-accepted f (stopped g left why at) a = rw (joined-stopped f g left why at) tt
+joined-accepted f (stopped g left why at) a = tt
 
 -- ---- the loop
 
@@ -179,7 +173,7 @@ module _ (limit : ℕ) (stream whole : List ℕ) (total soil : ℕ) (b : Bytes s
       let last : tcpVec2 limit stream ≡ trees first (length kept)
       = is ∙ ap (λ (l : List ℕ). joinedWhole first (restOf limit (length pre) l)) (append-nil kept)
       ∙ ap (joinedWhole first) (vec2-moved limit (length pre) kept ∙ ap (movedWhole (length pre)) waits)
-      ∙ joined-trees first nil (length kept) ∙ ap (λ (f : Forest). trees f (length kept)) (join-end first) in
+      ∙ ap (λ (f : Forest). trees f (length kept)) (join-end first) in
       subst (λ (r : Decoded). Recorded limit total t (length pre) (size first) (dirtyIn stream first) kept [] r)
       (sym (given-told limit stream whole total soil g ∙ ap (toldAs stream) last)) done
 
@@ -257,7 +251,7 @@ module _ (limit : ℕ) (stream whole : List ℕ) (total soil : ℕ) (b : Bytes s
     -- the step meets a refused frame, which ends the whole stream too
     module _ (f : Forest) (left : ℕ) (why : Refusal) (at : ℕ) (e : tcpVec2 limit msg ≡ stopped f left why at) where
       last : tcpVec2 limit stream ≡ stopped (join first (movedForest k f)) (left + length more) (movedRefusal k why) (k + at)
-      last = in-step e ∙ joined-stopped first (movedForest k f) (left + length more) (movedRefusal k why) (k + at)
+      last = in-step e
 
       last-forests : forestOf (tcpVec2 limit stream) ≡ join first (join (movedForest k f) nil)
       last-forests = ap forestOf last ∙ ap (join first) (sym (join-end (movedForest k f)))
@@ -306,7 +300,8 @@ module _ (limit : ℕ) (stream whole : List ℕ) (total soil : ℕ) (b : Bytes s
 
 -- Ticket 14: reading a stream in any portions, keeping the unread remainder each time, gives the packets of the whole stream
 pub any-portions : AnyPortions
-unfolding joinedWhole tcpVec2 size packetsPadding
+unfolding tcpVec2 size packetsPadding
 any-portions limit portions whole total soil b g =
     let stream = joinedBytes portions in
-    loop limit stream whole total soil b g portions [] [] nil refl (vec2-remaining limit stream) refl
+    loop limit stream whole total soil b g portions [] [] nil refl
+    (vec2-remaining limit stream ∙ sym (joined-none (restOf limit 0 stream))) refl

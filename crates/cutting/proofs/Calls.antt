@@ -13,18 +13,18 @@ use Rattle.node.specs.Forest.{Forest, nil, node, size}
 use Rattle.node.specs.Records.{capacity}
 use Rattle.argument.specs.Dirt.{dirtyIn}
 use Rattle.framing.specs.Framing.{Whole, trees, waiting, refusal, stopped, before, tcpVec2}
-use Rattle.framing.specs.declared.Framing.the-variants.{TcpVec}
+use Rattle.edition.specs.declared.Framing.the-variants.{TcpVec}
 use Rattle.framing.proofs.Lists.{vec2-remaining}
 use Rattle.answering.specs.Limits.{forestOf}
-use Rattle.answering.specs.declared.Decoded.{Decoded}
-use Rattle.answering.specs.declared.Decoded.the-variants.{Packets, Waiting, Refused, Stopped}
+use Rattle.results.specs.declared.Decoded.{Decoded}
+use Rattle.results.specs.declared.Decoded.the-variants.{Packets, Waiting, Refused, Stopped}
 use Rattle.decoder.specs.CodeFrames.{Accepted}
 use Rattle.decoder.proofs.Sizes.{vec2-accepted}
 use Rattle.decoder.proofs.Cuts.{restOf, rest-accepted}
 use Rattle.table.specs.Tree.{Spans}
-use Rattle.answers.specs.Words.{Gives, Allowed}
-use Rattle.answers.proofs.Answered.{held}
-use Rattle.answers.proofs.Longer.Stay.{list-stays}
+use Rattle.calls.specs.Words.{Gives, Allowed}
+use Rattle.calls.proofs.Answered.{held}
+use Rattle.calls.proofs.Longer.Stay.{list-stays}
 use Rattle.osc10.specs.Words.{Bytes}
 use Rattle.osc10.proofs.Arguments.{join}
 use Rattle.given.proofs.Encodable.Tables.{gives-trees}
@@ -35,20 +35,6 @@ use Rattle.cutting.proofs.Records.{size-joined, spans-joined, spans-mov
 use Rattle.cutting.proofs.Soil.{dirt-joined, dirt-moved, dirt-longer}
 use Rattle.cutting.proofs.Fold.{joinedWhole, continued, cut-list}
 use Rattle.cutting.proofs.Told.{toldAs, Roomy, told, roomy, given-told}
-
--- ---- trees before a list
-
--- trees before a list that is read as trees, or stops
-pub joined-trees : (f g : Forest) (left : ℕ) → joinedWhole f (trees g left) ≡ trees (join f g) left
-unfolding joinedWhole join
-joined-trees nil g left = refl
-joined-trees (node item inside rest) g left = ap (before item inside) (joined-trees rest g left)
-
-pub joined-stopped : (f g : Forest) (left : ℕ) (why : Refusal) (at : ℕ)
-    → joinedWhole f (stopped g left why at) ≡ stopped (join f g) left why at
-unfolding joinedWhole join
-joined-stopped nil g left why at = refl
-joined-stopped (node item inside rest) g left why at = ap (before item inside) (joined-stopped rest g left why at)
 
 -- ---- what an answer with records shows
 
@@ -77,10 +63,10 @@ given-spans limit msg table total soil b g = gives-trees (TcpVec Standard) msg b
 
 -- trees before a list that is given are those of both
 pub forest-joined : (f : Forest) (w : Whole) → Accepted w → forestOf (joinedWhole f w) ≡ join f (forestOf w)
-forest-joined f (trees g left) a = ap forestOf (joined-trees f g left)
+forest-joined f (trees g left) a = refl
 forest-joined f waiting a = absurd a
 forest-joined f (refusal r) a = absurd a
-forest-joined f (stopped g left why at) a = ap forestOf (joined-stopped f g left why at)
+forest-joined f (stopped g left why at) a = refl
 
 -- a list further on is given too, with its trees moved
 moved-accepted : (k : ℕ) (w : Whole) → Accepted w → Accepted (movedWhole k w)
@@ -243,14 +229,14 @@ module _ (limit : ℕ) (msg more whole part rest : List ℕ) (total soil : ℕ) 
         let counts : size (join f (movedForest k g')) ≡ size f + size g'
         = omega (arith, size-joined f (movedForest k g'), size-moved k g') in
         let dirt : dirtyIn stream (join f (movedForest k g')) ≡ dirtyIn msg f + dirtyIn tail g' = rw z at tail-dirt in
-        rw (joined-trees f (movedForest k g') l, counts, dirt)
+        rw (counts, dirt)
     tail-answer waiting z a = absurd a
     tail-answer (refusal x) z a = absurd a
     tail-answer (stopped g' l x y) z a =
         let counts : size (join f (movedForest k g')) ≡ size f + size g'
         = omega (arith, size-joined f (movedForest k g'), size-moved k g') in
         let dirt : dirtyIn stream (join f (movedForest k g')) ≡ dirtyIn msg f + dirtyIn tail g' = rw z at tail-dirt in
-        rw (joined-stopped f (movedForest k g') l (movedRefusal k x) (k + y), counts, dirt)
+        rw (counts, dirt)
 
     tail-records : MovedRecords k (size f) (size (forestOf (tcpVec2 limit tail))) (listTable limit tail rest)
         (listTable limit stream whole)

@@ -19,30 +19,16 @@ use Rattle.packet.specs.FirstText.{startOf}
 use Rattle.packet.specs.Packet.{readMessage, packetBy, packetAt, readPacket}
 use Rattle.framing.specs.Framing.{cutFrame, framesAt, tcpVec2}
 use Rattle.answering.specs.Limits.{decoded}
-use Rattle.answering.specs.declared.Decoded.the-variants.{Packets, Stopped}
+use Rattle.results.specs.declared.Decoded.the-variants.{Packets, Stopped}
 use Rattle.table.proofs.Examples.{small-bytes}
-use Rattle.answers.specs.Words.{Gives}
-use Rattle.answers.proofs.Answered.{packets-give}
-use Rattle.answers.proofs.Room.Examples.{blank}
-use Rattle.cutting.specs.Cutting.{listAnswer, listTable, YieldsRest, CutChangesNothing, joinedBytes, Recorded}
+use Rattle.calls.specs.Words.{Gives}
+use Rattle.calls.proofs.Answered.{packets-give}
+use Rattle.calls.proofs.Room.Examples.{blank}
+use Rattle.folding.specs.Folding.{joinedBytes}
+use Rattle.folding.proofs.Examples.{whole-number, text-front, text-rest, short}
+use Rattle.cutting.specs.Cutting.{listAnswer, listTable, YieldsRest, CutChangesNothing, Recorded}
 use Rattle.cutting.proofs.Calls.{every-cut}
 use Rattle.cutting.proofs.AnyPortions.{any-portions}
-
--- the frame of a message with the number 7, 16 bytes: 0000000C 2F610000 2C690000 00000007
-abbrev pub whole-number : List ℕ
-whole-number = 0 ∷ 0 ∷ 0 ∷ 12 ∷ 0x2F ∷ 0x61 ∷ 0 ∷ 0 ∷ 0x2C ∷ 0x69 ∷ 0 ∷ 0 ∷ 0 ∷ 0 ∷ 0 ∷ 7 ∷ []
-
--- the first ten bytes of the frame of a message with a text, and the rest of it: 0000000C 2F620001 2C73 and 0000 68690000; a byte of the
--- address's padding is not zero
-abbrev pub text-front : List ℕ
-text-front = 0 ∷ 0 ∷ 0 ∷ 12 ∷ 0x2F ∷ 0x62 ∷ 0 ∷ 1 ∷ 0x2C ∷ 0x73 ∷ []
-
-abbrev pub text-rest : List ℕ
-text-rest = 0 ∷ 0 ∷ 0x68 ∷ 0x69 ∷ 0 ∷ 0 ∷ []
-
--- a frame whose address has no end: 00000004 2F616263
-abbrev pub short : List ℕ
-short = 0 ∷ 0 ∷ 0 ∷ 4 ∷ 0x2F ∷ 0x61 ∷ 0x62 ∷ 0x63 ∷ []
 
 -- ---- three frames, cut inside the second
 

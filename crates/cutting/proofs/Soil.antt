@@ -29,12 +29,12 @@ use Rattle.packet.proofs.Items.{packet-start}
 use Rattle.framing.specs.Framing.{Frame, wait, read, refused, cutFrame, afterFrame, listed, stops}
 use Rattle.framing.proofs.FrameKnot.{FrameIn, cut-in}
 use Rattle.framing.proofs.Lists as lists
-use Rattle.totals.proofs.FrameExtents.{dirt-before}
+use Rattle.rosc_inputs.proofs.FrameExtents.{dirt-before}
 use Rattle.answering.specs.Limits.{forestOf}
 use Rattle.decoder.specs.CodeFrames.{packetCutBy, packetCut}
 use Rattle.decoder.proofs.Cuts.{restOf, rest-by, rest-forest}
 use Rattle.decoder.proofs.FrameFills.{given-packet}
-use Rattle.answers.proofs.Longer.Dirt.{DirtStays}
+use Rattle.calls.proofs.Longer.Dirt.{DirtStays}
 use Rattle.osc10.proofs.Arguments.{join}
 use Rattle.given.specs.Encodable.{rangedKind}
 use Rattle.cutting.specs.Moved.{movedItem, movedForest}

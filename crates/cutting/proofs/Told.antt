@@ -10,12 +10,12 @@ use Rattle.node.specs.Records.{capacity}
 use Rattle.argument.specs.Dirt.{dirtyIn}
 use Rattle.framing.specs.Framing.{Whole, trees, waiting, refusal, stopped, tcpVec2}
 use Rattle.answering.specs.Limits.{limited, decoded, forestOf}
-use Rattle.answering.specs.declared.Decoded.{Decoded}
-use Rattle.answering.specs.declared.Decoded.the-variants.{Packets, Waiting, Refused, Stopped}
+use Rattle.results.specs.declared.Decoded.{Decoded}
+use Rattle.results.specs.declared.Decoded.the-variants.{Packets, Waiting, Refused, Stopped}
 use Rattle.decoder.specs.CodeFrames.{Accepted}
 use Rattle.decoder.proofs.Chosen.{by-decoded, by-bounded}
 use Rattle.decoder.proofs.Sizes.{vec2-accepted, vec2-shallow}
-use Rattle.answers.specs.Words.{Gives}
+use Rattle.calls.specs.Words.{Gives}
 use Rattle.cutting.specs.Cutting.{listAnswer}
 
 -- a list of msg as it is told where no limit refuses it

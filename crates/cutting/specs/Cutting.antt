@@ -8,12 +8,13 @@ use lib.ListN.{length, take, drop}
 use Rattle.refusal.specs.declared.Refusal.{Refusal}
 use Rattle.node.specs.Records.{recordSize, capacity}
 use Rattle.framing.specs.Framing.{tcpVec2}
-use Rattle.answering.specs.declared.Decoded.{Decoded}
-use Rattle.answering.specs.declared.Decoded.the-variants.{Packets, Waiting, Refused, Stopped}
+use Rattle.results.specs.declared.Decoded.{Decoded}
+use Rattle.results.specs.declared.Decoded.the-variants.{Packets, Waiting, Refused, Stopped}
+use Rattle.folding.specs.Folding.{joinedBytes}
 use Rattle.portions.specs.Portions.{stepOf, tableBy}
-use Rattle.portions.specs.declared.Portion.the-variants as step
-use Rattle.answers.specs.Words.{Gives}
-use Rattle.answers.specs.Demands.{answerTo, tableAfter}
+use Rattle.results.specs.declared.Portion.the-variants as step
+use Rattle.calls.specs.Words.{Gives}
+use Rattle.calls.specs.Demands.{answerTo, tableAfter}
 use Rattle.osc10.specs.Words.{Bytes}
 use Rattle.cutting.specs.Moved.{movedRefusal, MovedRecords}
 
@@ -72,11 +73,6 @@ EveryCut =
     → CutChangesNothing limit msg more whole part rest total
 
 -- ---- a stream in portions
-
--- portions end to end
-unfoldable pub joinedBytes : List (List ℕ) → List ℕ
-joinedBytes [] = []
-joinedBytes (portion ∷ later) = portion ++ joinedBytes later
 
 -- what a recorder meets that repeats the step: before it k bytes were consumed, with `count` records and so much dirty padding, and it
 -- holds what was kept. It adds the next portion, has a table with room, and keeps the bytes from `used` on. t is the table of the whole

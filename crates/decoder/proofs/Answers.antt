@@ -12,11 +12,11 @@ use Rattle.packet.specs.Packet.{Out, fault, one, readPacket}
 use Rattle.fill.specs.CodeFill.{treeOf, Known}
 use Rattle.framing.specs.Framing.{Whole, trees, waiting, refusal, stopped, single, udp, Frame, wait, read, refused, readFrame, first, tcp}
 use Rattle.framing.specs.Framing.{ruleOf}
-use Rattle.framing.specs.declared.Framing.{Framing}
+use Rattle.edition.specs.declared.Framing.{Framing}
 use Rattle.answering.specs.Limits.{limited, decoded, forestOf, tabled}
 use Rattle.argument.specs.Dirt.{dirtyIn}
-use Rattle.answering.specs.declared.Decoded.{Decoded}
-use Rattle.answering.specs.declared.Decoded.the-variants.{Packets, Waiting, Refused, Stopped}
+use Rattle.results.specs.declared.Decoded.{Decoded}
+use Rattle.results.specs.declared.Decoded.the-variants.{Packets, Waiting, Refused, Stopped}
 use Rattle.decoder.specs.CodeFrames.{framePacket, Accepted, Fillable}
 use Rattle.decoder.proofs.Chosen.{by-decoded, by-bounded}
 use Rattle.decoder.proofs.Sizes.{nodes-in, whole-in}

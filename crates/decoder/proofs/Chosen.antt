@@ -9,8 +9,8 @@ use Rattle.wire.proofs.Choices.{by-le}
 use Rattle.argument.specs.Dirt.{dirtyIn}
 use Rattle.framing.specs.Framing.{Whole, trees}
 use Rattle.answering.specs.Limits.{bounded, limited, decoded}
-use Rattle.answering.specs.declared.Decoded.{Decoded}
-use Rattle.answering.specs.declared.Decoded.the-variants.{Packets, Refused}
+use Rattle.results.specs.declared.Decoded.{Decoded}
+use Rattle.results.specs.declared.Decoded.the-variants.{Packets, Refused}
 
 module _ (P : Decoded → Type 0) where
   -- 13, then 1, then what the rule gives

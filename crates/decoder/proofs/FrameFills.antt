@@ -5,7 +5,7 @@ use mathlib.Core.Logic.{_⊎_, inl, inr}
 use Prim.Native.Nat.{ℕ, _+_, _-_, _*_, _<_, _≤_}
 use native.Mathlib.Nat.{zero-add}
 use native.Mathlib.Omega.{arith}
-use lib.Dec.{eqb, leb}
+use lib.Dec.{leb}
 use lib.ListN.{length, take, drop, length-drop}
 use lib.Seq.{drop-drop}
 use borrow.Rule.Slice.PartMut.{midOf, putMid}
@@ -13,7 +13,7 @@ use Rattle.refusal.specs.declared.Fault.the-variants as faults
 use Rattle.refusal.specs.declared.Field.the-variants.{Head}
 use Rattle.refusal.specs.declared.Refusal.{Refusal}
 use Rattle.wire.proofs.Choices.{by-eq, by-test, lt-or-le}
-use Rattle.wire.proofs.Parts.{tail, length-lent}
+use Rattle.wire.proofs.Parts.{length-lent}
 use Rattle.node.specs.Forest.{Forest, nil, node, size, depth}
 use Rattle.node.specs.declared.record.Item.{Item}
 use Rattle.node.specs.Records.{recordSize, mostRecords, stored, TableRoom}
@@ -160,6 +160,13 @@ pub record Listing (rest : ℕ → List ℕ → Whole) (all : Forest) (msg T₀ 
   pub counted : c + size (forestOf (rest at (drop at msg))) ≡ size all
   pub left : completed T c c (forestOf (rest at (drop at msg))) ≡ stored 0 all T₀
 
+-- the table that is lent after c records, and the whole table once it has come back
+abbrev pub lent : List ℕ → ℕ → List ℕ
+lent T c = midOf (recordSize * c) (length T - recordSize * c) T
+
+abbrev pub returned : List ℕ → ℕ → List ℕ → List ℕ
+returned T c Y = putMid (recordSize * c) (length T - recordSize * c) T Y
+
 -- what is left of a list of edition 1
 abbrev pub remaining : ℕ → List ℕ → Whole
 remaining = lists.remaining (λ b m. readFrame b m) refuses
@@ -212,7 +219,7 @@ module _ (frame : ℕ → List ℕ → Frame) (stop : ℕ → ℕ → Refusal �
     (w : Listing (lists.remaining frame stop) all msg T₀ T at c) (some : at < length msg) where
   -- the table that is lent for the next frame
   abbrev later : List ℕ
-  later = midOf (recordSize * c) (length T - recordSize * c) T
+  later = lent T c
 
   here : lists.remaining frame stop at (drop at msg) ≡ listed frame stop at (drop at msg)
   here = lists.remaining-list frame stop at (drop at msg) (omega (arith, length-drop at msg))
@@ -265,17 +272,17 @@ module _ (frame : ℕ → List ℕ → Frame) (stop : ℕ → ℕ → Refusal �
 
   listing-tree : {item : Item} {u : ℕ} {g : Forest} {x : Reread} {Y : List ℕ} → frame at (drop at msg) ≡ read (one item g u)
       → Fills (framePacket (frame at (drop at msg))) 0 c later x Y
-      → Listing (lists.remaining frame stop) all msg T₀ (putMid (recordSize * c) (length T - recordSize * c) T Y) (at + u)
+      → Listing (lists.remaining frame stop) all msg T₀ (returned T c Y) (at + u)
       (c + (1 + size g))
   unfolding size
   listing-tree {item} {u} {g} {x} {Y} e f =
       let N = node item g nil in
       let rest = lists.remaining frame stop (at + u) (drop (at + u) msg) in
-      let put : putMid (recordSize * c) (length T - recordSize * c) T Y ≡ completed T c c N
+      let put : returned T c Y ≡ completed T c c N
       = lent-stored T c c N (f .table ∙ ap (λ (y : Frame). stored c (treeOf (framePacket y)) later) e) in
       let every : size (forestOf (lists.remaining frame stop at (drop at msg))) ≡ 1 + size g + size (forestOf rest) = ap size
       (forest-tree e) in
-      let long : length (putMid (recordSize * c) (length T - recordSize * c) T Y) ≡ length T
+      let long : length (returned T c Y) ≡ length T
       = ap length put ∙ length-completed T c c N (omega (arith, w .fits)) in
       record {
         accepted = accepted-rest item g rest (subst Accepted (here-tree e) (w .accepted));
@@ -291,11 +298,11 @@ module _ (frame : ℕ → List ℕ → Frame) (stop : ℕ → ℕ → Refusal �
   -- the next frame was written
   pub listing-on : {n next : ℕ} {x : Reread} {Y : List ℕ} → Fills (framePacket (frame at (drop at msg))) 0 c later x Y
       → x ≡ Wrote n next
-      → Listing (lists.remaining frame stop) all msg T₀ (putMid (recordSize * c) (length T - recordSize * c) T Y) (at + next) (c + n)
+      → Listing (lists.remaining frame stop) all msg T₀ (returned T c Y) (at + next) (c + n)
   listing-on {n} {next} {x} {Y} f z = by-frame (frame at (drop at msg)) refl (sym z ∙ f .answered)
     where
       by-frame : (y : Frame) → frame at (drop at msg) ≡ y → Wrote n next ≡ reread 0 (framePacket y)
-          → Listing (lists.remaining frame stop) all msg T₀ (putMid (recordSize * c) (length T - recordSize * c) T Y) (at + next) (c + n)
+          → Listing (lists.remaining frame stop) all msg T₀ (returned T c Y) (at + next) (c + n)
       by-frame wait e h = let z : _≡_ {A = ℕ} 0 1 = cc in absurd (omega arith)
       by-frame (refused k) e h = let z : _≡_ {A = ℕ} 0 1 = cc in absurd (omega arith)
       by-frame (read (fault k)) e h = let z : _≡_ {A = ℕ} 0 1 = cc in absurd (omega arith)
@@ -306,18 +313,18 @@ module _ (frame : ℕ → List ℕ → Frame) (stop : ℕ → ℕ → Refusal �
 module _ (msg T₀ T : List ℕ) (at c : ℕ) (w : Listing remaining (forestOf (tcpVec msg)) msg T₀ T at c) (some : at < length msg) where
   -- the next frame of edition 1 waits
   pub listing-waits : {x : Reread} {Y : List ℕ}
-      → Fills (framePacket (readFrame at (drop at msg))) 0 c (midOf (recordSize * c) (length T - recordSize * c) T) x Y → x ≡ Nothing
-      → putMid (recordSize * c) (length T - recordSize * c) T Y ≡ stored 0 (forestOf (tcpVec msg)) T₀
+      → Fills (framePacket (readFrame at (drop at msg))) 0 c (lent T c) x Y → x ≡ Nothing
+      → returned T c Y ≡ stored 0 (forestOf (tcpVec msg)) T₀
   listing-waits {x} {Y} f z = by-frame (readFrame at (drop at msg)) refl (frame-unrefused at (drop at msg)) (sym z ∙ f .answered)
     where
       here' : remaining at (drop at msg) ≡ listed (λ b m. readFrame b m) refuses at (drop at msg)
       here' = lists.remaining-list _ refuses at (drop at msg) (omega (arith, length-drop at msg))
 
       by-frame : (y : Frame) → readFrame at (drop at msg) ≡ y → Unrefused y → Nothing ≡ reread 0 (framePacket y)
-          → putMid (recordSize * c) (length T - recordSize * c) T Y ≡ stored 0 (forestOf (tcpVec msg)) T₀
+          → returned T c Y ≡ stored 0 (forestOf (tcpVec msg)) T₀
       by-frame wait e u h =
           lent-stored T c c nil (f .table
-          ∙ ap (λ (y : Frame). stored c (treeOf (framePacket y)) (midOf (recordSize * c) (length T - recordSize * c) T)) e)
+          ∙ ap (λ (y : Frame). stored c (treeOf (framePacket y)) (lent T c)) e)
           ∙ ap (λ (y : Whole). completed T c c (forestOf y)) (sym (here' ∙ lists.list-by _ refuses frame-in at (drop at msg) e)) ∙ w .left
       by-frame (refused k) e u h = absurd u
       by-frame (read (fault k)) e u h =
@@ -327,12 +334,12 @@ module _ (msg T₀ T : List ℕ) (at c : ℕ) (w : Listing remaining (forestOf (
 -- ---- the next frame of edition 2
 
 -- where records are left to be written, the next frame is all there and is given
-record Next (limit : ℕ) (msg : List ℕ) (at : ℕ) : Type 0 where
-  some : at < length msg
-  same : framePacket (cutFrame limit at (drop at msg)) ≡ packetCut at (drop at msg)
-  written : (p : ℕ) → Nothing ≡ reread p (packetCut at (drop at msg)) → ⊥
+pub record Next (limit : ℕ) (msg : List ℕ) (at : ℕ) : Type 0 where
+  pub some : at < length msg
+  pub same : framePacket (cutFrame limit at (drop at msg)) ≡ packetCut at (drop at msg)
+  pub written : (p : ℕ) → Nothing ≡ reread p (packetCut at (drop at msg)) → ⊥
 
-next-given : (limit : ℕ) (msg : List ℕ) (at : ℕ) → 0 < size (forestOf (remaining2 limit at (drop at msg))) → Next limit msg at
+pub next-given : (limit : ℕ) (msg : List ℕ) (at : ℕ) → 0 < size (forestOf (remaining2 limit at (drop at msg))) → Next limit msg at
 unfolding size
 next-given limit msg at h = by-rest (lt-or-le 0 (length (drop at msg)))
   where
@@ -376,50 +383,3 @@ next-given limit msg at h = by-rest (lt-or-le 0 (length (drop at msg)))
           ap (λ (y : Whole). size (forestOf y))
               (lists.remaining-none (λ b m. cutFrame limit b m) stops at (drop at msg) none),
         ))
-
-module _ (limit : ℕ) (msg T₀ T : List ℕ) (at c : ℕ) {count : ℕ}
-    (w : Listing (remaining2 limit) (forestOf (tcpVec2 limit msg)) msg T₀ T at c) (e : size (forestOf (tcpVec2 limit msg)) ≡ count) where
-  -- all that was counted is written
-  pub cuts-end : count ≤ c → T ≡ stored 0 (forestOf (tcpVec2 limit msg)) T₀
-  cuts-end h = listing-end msg T₀ T at c w (no-nodes _ (omega (arith, w .counted)))
-
-  module _ (h : c < count) where
-    next : Next limit msg at
-    next = next-given limit msg at (omega (arith, w .counted))
-
-    -- the next frame begins in the input
-    pub cuts-some : at < length msg
-    cuts-some = next .some
-
-    -- the table has room for it
-    pub cuts-fit : TableRoom (treeOf (packetCut at (take (length msg - at) (drop at msg)))) c
-        (midOf (recordSize * c) (length T - recordSize * c) T)
-    cuts-fit =
-        rw (tail msg at) (subst (λ (o : Out). TableRoom (treeOf o) c (midOf (recordSize * c) (length T - recordSize * c) T)) (next .same)
-        (next-fits (λ b m. cutFrame limit b m) stops (cut-in limit) msg T₀ T at c w (next .some)))
-
-    module _ {x : Reread} {Y : List ℕ}
-        (f : Fills (packetCut at (take (length msg - at) (drop at msg))) 0 c (midOf (recordSize * c) (length T - recordSize * c) T) x Y)
-      where
-        here-fills : Fills (framePacket (cutFrame limit at (drop at msg))) 0 c (midOf (recordSize * c) (length T - recordSize * c) T) x Y
-        here-fills = rw (next .same) (rw (tail msg at) at f)
-
-        -- it is written
-        pub cuts-written : x ≡ Nothing → ⊥
-        cuts-written z = next .written 0 (sym z ∙ (rw (tail msg at) at f) .answered)
-
-        -- it takes its prefix, and its records fit
-        pub cuts-in : {n used : ℕ} → x ≡ Wrote n used → (4 ≤ used) × (at + used ≤ length msg) × (c + n ≤ mostRecords)
-        cuts-in z = next-in (λ b m. cutFrame limit b m) stops (cut-in limit) msg T₀ T at c w (next .some) here-fills z
-
-        -- the frames after it are left
-        pub cuts-on : {n used : ℕ} → x ≡ Wrote n used
-            → Listing (remaining2 limit) (forestOf (tcpVec2 limit msg)) msg T₀ (putMid (recordSize * c) (length T - recordSize * c) T Y)
-            (at + used) (c + n)
-        cuts-on z = listing-on (λ b m. cutFrame limit b m) stops (cut-in limit) msg T₀ T at c w (next .some) here-fills z
-
--- `&msg[at..]` is what is left
-pub fills-tail : {p i : ℕ} {x : Reread} {T Y : List ℕ} (msg : List ℕ) (at : ℕ)
-    → Fills (framePacket (readFrame at (take (length msg - at) (drop at msg)))) p i T x Y
-    → Fills (framePacket (readFrame at (drop at msg))) p i T x Y
-fills-tail msg at f = rw (tail msg at) at f

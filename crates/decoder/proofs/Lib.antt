@@ -1,6 +1,7 @@
 pub mod Chosen
 pub mod Examples
 pub mod FrameFills
+pub mod FrameTurns
 pub mod Offsets
 pub mod Only
 pub mod Sizes

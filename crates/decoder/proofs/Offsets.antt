@@ -16,19 +16,13 @@ use Rattle.packet.specs.Packet.{Out, fault, one, readPacket}
 use Rattle.packet.proofs.Faults.{OutLow, packet-low}
 use Rattle.framing.specs.Framing.{Whole, trees, waiting, refusal, stopped, single, udp, Frame, wait, read, refused, readFrame}
 use Rattle.framing.specs.Framing.{cutFrame, first, tcp, tcp2, before, afterFrame, framesAt, refuses, stops, tcpVec, tcpVec2, ruleOf}
-use Rattle.framing.specs.declared.Framing.{Framing}
-use Rattle.framing.specs.declared.Framing.the-variants.{Udp, Tcp, TcpVec}
+use Rattle.edition.specs.declared.Framing.{Framing}
+use Rattle.edition.specs.declared.Framing.the-variants.{Udp, Tcp, TcpVec}
 use Rattle.edition.specs.declared.Edition.the-variants.{Rosc, Standard}
 use Rattle.framing.proofs.FrameKnot.{FrameIn, frame-in, cut-in, Prefixed, cut-prefixed}
 use Rattle.framing.proofs.FrameStarts.{Unrefused, frame-unrefused}
-
--- the field that a refusal tells begins no later than m. A list that stops does so at a frame that has its prefix, and what is left is
--- from there on
-abbrev pub WholeLow : ℕ → Whole → Type 0
-WholeLow m (trees f left) = Unit {0}
-WholeLow m waiting = Unit {0}
-WholeLow m (refusal k) = offsetOf k ≤ m
-WholeLow m (stopped f left k at) = (offsetOf k ≤ m) × (at + left ≡ m) × (4 ≤ left)
+use Rattle.decoder.specs.Offsets.{OffsetsLow}
+pub use Rattle.decoder.specs.Offsets.{WholeLow}
 
 -- ---- one packet
 
@@ -103,7 +97,7 @@ cut-low base m (read (fault k)) w u = (moved-low base m k w, refl, u)
 cut-low base m (read (one item f used)) w u = w .1
 
 -- what any input is read as tells no place after it
-pub whole-low : (framing : Framing) (limit : ℕ) (msg : List ℕ) → WholeLow (length msg) (ruleOf framing limit msg)
+pub whole-low : OffsetsLow
 unfolding udp tcp tcp2 tcpVec tcpVec2
 whole-low Udp limit msg =
     let same : 0 + length msg ≡ length msg = omega arith in

@@ -5,7 +5,7 @@ use Prim.Native.Nat.{ℕ}
 use Rattle.node.specs.Records.{capacity}
 use Rattle.framing.specs.Framing.{Whole}
 use Rattle.answering.specs.Limits.{decoded, forestOf, tabled, Decodes}
-use Rattle.answering.specs.declared.Decoded.{Decoded}
+use Rattle.results.specs.declared.Decoded.{Decoded}
 
 module _ {rule : List ℕ → Whole} {msg table : List ℕ} {limit : ℕ} where
   -- two outcomes are one, by whatever rule: so of `decode`, `decode_udp`, `decode_tcp` and `decode_tcp_vec`

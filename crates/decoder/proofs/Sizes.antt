@@ -12,8 +12,8 @@ use Rattle.packet.specs.Packet.{Out, fault, one, readPacket}
 use Rattle.framing.specs.Framing.{Whole, trees, waiting, refusal, stopped, single, udp, Frame, wait, read, refused, readFrame, cutFrame}
 use Rattle.framing.specs.Framing.{first}
 use Rattle.framing.specs.Framing.{tcp, tcp2, before, afterFrame, framesAt, listed, refuses, stops, tcpVec, tcpVec2, ruleOf}
-use Rattle.framing.specs.declared.Framing.{Framing}
-use Rattle.framing.specs.declared.Framing.the-variants.{Udp, Tcp, TcpVec}
+use Rattle.edition.specs.declared.Framing.{Framing}
+use Rattle.edition.specs.declared.Framing.the-variants.{Udp, Tcp, TcpVec}
 use Rattle.edition.specs.declared.Edition.the-variants.{Rosc, Standard}
 use Rattle.refusal.specs.declared.Refusal.{Refusal}
 use Rattle.refusal.specs.declared.Refusal.the-variants.{TableFull}
@@ -21,7 +21,7 @@ use mathlib.Core.Path.{_≡_}
 use Rattle.answering.specs.Limits.{forestOf}
 use Rattle.packet.proofs.Within.{Within, packet-in}
 use Rattle.framing.proofs.FrameKnot.{FrameIn, frame-in, cut-in}
-use Rattle.streams.proofs.Cuts.{Shallow, cut-shallow}
+use Rattle.standard_inputs.proofs.Cuts.{Shallow, cut-shallow}
 
 -- m bytes give no more nodes than they have, less those that are left, and are not refused for want of room
 abbrev pub WholeIn : ℕ → Whole → Type 0

@@ -1,1 +1,4 @@
+pub mod Cases
 pub mod CodeFrames
+pub mod Examples
+pub mod Offsets

@@ -2,12 +2,12 @@
 // then, where the table has room, its records are written.
 mod frames; // frames.rt: the second reading of a whole input
 
-pub use answering::Decoded;
 pub use edition::Edition;
-pub use framing::Framing;
+pub use edition::Framing;
 use node::record;
+pub use results::Decoded;
 ghost use Rattle.framing.specs.Framing.{udp, ruleOf};
-ghost use Rattle.framing.specs.declared.Framing.the-variants.{Tcp, TcpVec};
+ghost use Rattle.edition.specs.declared.Framing.the-variants.{Tcp, TcpVec};
 ghost use Rattle.answering.specs.Limits.{Decodes};
 
 // Common MTU size for ethernet.

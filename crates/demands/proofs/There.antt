@@ -10,11 +10,11 @@ use Rattle.node.specs.Forest.{Forest}
 use Rattle.node.specs.declared.record.Item.{Item}
 use Rattle.framing.specs.Framing.{udp}
 use Rattle.answering.specs.Limits.{Decodes}
-use Rattle.answering.specs.declared.Decoded.{Decoded}
+use Rattle.results.specs.declared.Decoded.{Decoded}
 use Rattle.writers.specs.Osc.{writePacket}
 use Rattle.encoder.specs.Outcome.{Outcome, Encodes, unframed}
-use Rattle.encoder.specs.declared.Encoded.{Encoded}
-use Rattle.encoder.specs.declared.Encoded.the-variants.{Written, Refused}
+use Rattle.results.specs.declared.Encoded.{Encoded}
+use Rattle.results.specs.declared.Encoded.the-variants.{Written, Refused}
 use Rattle.standards.specs.Trip.{Playable}
 use Rattle.demands.specs.There.{Returns}
 use Rattle.standards.proofs.Osc10.Written.{outcome-is, written-all}

@@ -7,8 +7,8 @@ use Rattle.node.specs.Forest.{Forest}
 use Rattle.node.specs.Records.{capacity}
 use Rattle.node.specs.declared.record.Item.{Item}
 use Rattle.writers.specs.Osc.{writePacket}
-use Rattle.answering.specs.declared.Decoded.{Decoded}
-use Rattle.answering.specs.declared.Decoded.the-variants.{Packets}
+use Rattle.results.specs.declared.Decoded.{Decoded}
+use Rattle.results.specs.declared.Decoded.the-variants.{Packets}
 use Rattle.standards.specs.Trip.{SameTable, Playable}
 
 -- what comes back: the same count with nothing left over and no dirty padding, and the same table over the bytes that were written

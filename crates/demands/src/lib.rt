@@ -1,9 +1,9 @@
 // The order's demands, of the code itself: functions over the public calls, whose contracts are what the theorems speak of. The theorems
-// are in crates/answers (demands 1 and 3), crates/standards (demand 2) and crates/given (what the decoders give).
+// are in crates/calls (demands 1 and 3), crates/standards (demand 2) and crates/given (what the decoders give).
 mod entry_points; // entry_points.rt: each public call meets what the theorems of demand 1 speak of
 
-use decoder::Decoded;
-use encoder::Encoded;
+use results::Decoded;
+use results::Encoded;
 ghost use Rattle.demands.specs.There.{Returns};
 
 // Writes the packet of a table and reads it back from what was written, at depth 64, as playback does.

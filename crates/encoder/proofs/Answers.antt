@@ -26,16 +26,18 @@ use Rattle.table.specs.Tree.{Spans, Obeys, IsTree, Row}
 use Rattle.table.proofs.Spanned.{spans-size, spans-unique}
 use Rattle.table.proofs.Theorem.{formed-tree}
 use Rattle.strings.specs.Atomic.{oscString}
-use Rattle.writers.specs.Osc.{writeElement}
+use Rattle.writers.specs.Osc.{writeElement, longestElement}
 use Rattle.encoder.specs.Outcome.{Outcome, refuse, bytesOutcome, unframed, lengthBefore, framedBy, treeOutcome}
 use Rattle.encoder.specs.Outcome.{stringOutcome}
 use Rattle.edition.specs.declared.Edition.{Edition}
 use Rattle.encoder.specs.Outcome.{Encodes, malformed, formed}
-use Rattle.writers.specs.CodeWriters.{packetAt, Ready, WritesPacket, longestElement}
-use Rattle.survey.specs.CodeSurvey.{ShallowTree, Surveys}
-use Rattle.encoder.specs.CodePrepare.{Unsure, AfterNo, Writable, Prepares}
+use Rattle.writers.specs.CodeWriters.{packetAt, Ready, WritesPacket}
+use Rattle.survey.specs.Surveys.{ShallowTree, Surveys}
+use Rattle.encoder.specs.CodePrepare.{Unsure, Writable, Prepares}
+use Rattle.encoder.specs.AfterNo.{AfterNo}
+use Rattle.encoder.specs.AfterNo as afterNo
 use Rattle.encoder.specs.CodePrepare as prepare
-use Rattle.encoder.specs.declared.Encoded.the-variants.{Written}
+use Rattle.results.specs.declared.Encoded.the-variants.{Written}
 use Rattle.encoder.specs.declared.Prepared.{Prepared}
 use Rattle.encoder.specs.declared.Prepared.the-variants.{Length, Refused}
 use Rattle.node.specs.Tags.{messageKind}
@@ -162,7 +164,7 @@ module _ {t : List ℕ} {count : ℕ} {source : List ℕ} {n : ℕ} (w : Surveys
 module _ (t : List ℕ) (count : ℕ) (source : List ℕ) {b : Bool} (d : Decides b (WellFormed t count source)) where
   -- a table that is not well formed is refusal 11
   pub bad-table : not b ≡ true → AfterNo t count source BadTable
-  bad-table e = prepare.malformed (λ w. false≢true (sym (not-true b e) ∙ d .complete w)) refl
+  bad-table e = afterNo.malformed (λ w. false≢true (sym (not-true b e) ∙ d .complete w)) refl
 
   module _ (e : not b ≡ false) where
     well : WellFormed t count source
@@ -185,14 +187,14 @@ module _ (t : List ℕ) (count : ℕ) (source : List ℕ) {b : Bool} (d : Decide
     module _ {x : Bool} (q : (F : Forest) → Spans t 0 count F → x ≡ ltb deepest (depth F)) where
       -- a tree that is too deep is refusal 9
       pub too-deep : x ≡ true → AfterNo t count source TooDeep
-      too-deep y = prepare.deep inside tree (ltb-true deepest (depth root) (sym (q root (tree .spans)) ∙ y)) refl
+      too-deep y = afterNo.deep inside tree (ltb-true deepest (depth root) (sym (q root (tree .spans)) ∙ y)) refl
 
       -- any other, where the survey is not sure, is refusal 1
       pub too-long : x ≡ false → Unsure t count source → AfterNo t count source TooLong
       too-long y n =
           let s : ShallowTree t count source inside
           = record { tree = tree; shallow = ltb-false deepest (depth root) (sym (q root (tree .spans)) ∙ y) } in
-          prepare.long inside s (n inside s) refl
+          afterNo.long inside s (n inside s) refl
 
 -- ---- the calls
 
@@ -227,10 +229,10 @@ module _ (frame : ℕ → List ℕ → List ℕ) (k : Keeps frame) (t : List ℕ
 
   -- what is refused before a byte is written is refused
   pub refused : {r : Prepared} {x : Refusal} → Prepares t count source r → r ≡ Refused x → Encodes frame t count source out (refuse x out)
-  refused {r} {x} (prepare.no y (prepare.malformed n e) q) p = let z : x ≡ BadTable = cc in malformed n (rw z)
-  refused {r} {x} (prepare.no y (prepare.deep inside tree h e) q) p =
+  refused {r} {x} (prepare.no y (afterNo.malformed n e) q) p = let z : x ≡ BadTable = cc in malformed n (rw z)
+  refused {r} {x} (prepare.no y (afterNo.deep inside tree h e) q) p =
       let z : x ≡ TooDeep = cc in formed (itemAt t 0) inside tree (rw z (outcome-deep inside h))
-  refused {r} {x} (prepare.no y (prepare.long inside w h e) q) p =
+  refused {r} {x} (prepare.no y (afterNo.long inside w h e) q) p =
       let z : x ≡ TooLong = cc in formed (itemAt t 0) inside (w .tree) (rw z (outcome-long inside w h))
   refused {r} {x} (prepare.ready inside w n e z) p = let y : _≡_ {A = ℕ} 0 1 = cc in absurd (omega arith)
 

@@ -20,10 +20,10 @@ use Rattle.table.specs.Formed.{rangeOk, allowed}
 use Rattle.table.specs.Tree.{IsTree}
 use Rattle.table.proofs.Spanned.{spans-unique}
 use Rattle.table.proofs.Examples as example
-use Rattle.survey.specs.CodeSurvey.{unsure, Surveys}
+use Rattle.survey.specs.Surveys.{unsure, Surveys}
 use Rattle.survey.proofs.Exact.{no-length}
 use Rattle.survey.proofs.Examples as survey
-use Rattle.encoder.specs.CodePrepare.{NoOutcome}
+use Rattle.encoder.specs.AfterNo.{NoOutcome}
 use Rattle.encoder.proofs.NoLeads.{encode-no, encode-tcp-no}
 use Rattle.encoder.proofs.Fours.{encode-fours, encode-tcp-fours, encode-string-fours}
 

@@ -16,7 +16,7 @@ use Rattle.writers.specs.Osc.{writePacket}
 use Rattle.edition.specs.declared.Edition.{Edition}
 use Rattle.encoder.specs.Outcome.{Outcome, refuse, bytesOutcome, unframed, lengthBefore, framedBy, treeOutcome, stringOutcome}
 use Rattle.encoder.specs.Outcome.{Encodes, malformed, formed, InFours}
-use Rattle.encoder.specs.declared.Encoded.the-variants.{Written}
+use Rattle.results.specs.declared.Encoded.the-variants.{Written}
 use Rattle.strings.proofs.Lengths.{string-even}
 use Rattle.writers.proofs.Lengths.{packet-even, element-even}
 use Rattle.node.specs.Tags.{messageKind}

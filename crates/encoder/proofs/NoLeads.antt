@@ -13,20 +13,20 @@ use Rattle.node.specs.Forest.{Forest, nil, node, depth}
 use Rattle.node.specs.Tags.{among}
 use Rattle.node.specs.Records.{itemAt}
 use Rattle.table.specs.Tree.{Spans, IsTree}
-use Rattle.writers.specs.CodeWriters.{longestElement}
-use Rattle.survey.specs.CodeSurvey.{ShallowTree, Surveys}
+use Rattle.writers.specs.Osc.{longestElement}
+use Rattle.survey.specs.Surveys.{ShallowTree, Surveys}
 use Rattle.edition.specs.declared.Edition.{Edition}
 use Rattle.encoder.specs.Outcome.{Outcome, unframed, framedBy, treeOutcome, Encodes, malformed, formed}
-use Rattle.encoder.specs.CodePrepare.{AfterNo, NoOutcome}
-use Rattle.encoder.specs.CodePrepare as prepare
+use Rattle.encoder.specs.AfterNo.{AfterNo, NoOutcome}
+use Rattle.encoder.specs.AfterNo as afterNo
 use Rattle.encoder.proofs.Answers.{Keeps, unframed-keeps, framed-keeps, outcome-deep, outcome-long, survey-no}
 
 -- its number is one of three
 pub no-number : {t : List ℕ} {count : ℕ} {source : List ℕ} {x : Refusal} → AfterNo t count source x
     → among (numberOf x) (11 ∷ 9 ∷ 1 ∷ []) ≡ true
-no-number (prepare.malformed n e) = rw e
-no-number (prepare.deep inside tree h e) = rw e
-no-number (prepare.long inside w h e) = rw e
+no-number (afterNo.malformed n e) = rw e
+no-number (afterNo.deep inside tree h e) = rw e
+no-number (afterNo.long inside w h e) = rw e
 
 module _ (frame : ℕ → List ℕ → List ℕ) (k : Keeps frame) {t : List ℕ} {count : ℕ} {source out : List ℕ} {n : ℕ}
     (w : Surveys t count source n) (h : longestElement < n) where
@@ -36,7 +36,7 @@ module _ (frame : ℕ → List ℕ → List ℕ) (k : Keeps frame) {t : List ℕ
       ⊎-elim
       (λ d. record {
         refusal = TooDeep;
-        after = prepare.deep inside tree d refl;
+        after = afterNo.deep inside tree d refl;
         is = e ∙ sym (outcome-deep frame k t count source out inside d);
       })
       (λ d.
@@ -44,7 +44,7 @@ module _ (frame : ℕ → List ℕ → List ℕ) (k : Keeps frame) {t : List ℕ
       let l = survey-no w h inside s in
       record {
         refusal = TooLong;
-        after = prepare.long inside s l refl;
+        after = afterNo.long inside s l refl;
         is = e ∙ sym (outcome-long frame k t count source out inside s l);
       })
       (lt-or-le deepest (depth (node (itemAt t 0) inside nil)))
@@ -52,7 +52,7 @@ module _ (frame : ℕ → List ℕ → List ℕ) (k : Keeps frame) {t : List ℕ
   -- where the survey is not sure, an encoder refuses the table with 11, 9 or 1, in that order
   pub no-leads : {r : Outcome} → Encodes frame t count source out r → NoOutcome t count source out r
   unfolding Spans
-  no-leads (malformed m e) = record { refusal = BadTable; after = prepare.malformed m refl; is = e }
+  no-leads (malformed m e) = record { refusal = BadTable; after = afterNo.malformed m refl; is = e }
   no-leads (formed item inside tree e) =
       let i : item ≡ itemAt t 0 = sym (tree .spans .0) in
       tree-no inside (rw i at tree) (rw i at e)

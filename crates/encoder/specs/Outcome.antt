@@ -17,11 +17,11 @@ use Rattle.table.specs.Formed.{WellFormed}
 use Rattle.table.specs.Tree.{IsTree}
 use Rattle.strings.specs.Atomic.{oscString}
 use Rattle.writers.specs.Osc.{writeElement, writePacket}
-use Rattle.encoder.specs.declared.Encoded.{Encoded}
+use Rattle.results.specs.declared.Encoded.{Encoded}
 use Rattle.node.specs.Tags.{messageKind}
 use Rattle.wire.specs.Limits.{longest, deepest}
 use Rattle.node.specs.declared.record.Item.{Item}
-use Rattle.encoder.specs.declared.Encoded.the-variants.{Written, Refused}
+use Rattle.results.specs.declared.Encoded.the-variants.{Written, Refused}
 
 -- the refusals of `encode` and `encode_tcp` by their numbers: "Encode order: 11, 9 (limit 64), 1, 12"
 abbrev pub encodeOrder : List ℕ

@@ -4,6 +4,7 @@ use node::record::kind_at;
 use node::tags::MESSAGE;
 use refusal::Fault;
 use refusal::Refusal;
+pub use results::Encoded;
 use strings::encode_string_into;
 use survey::survey;
 use table::deeper_than;
@@ -18,17 +19,11 @@ use writers::encode_packet;
 ghost use mathlib.Core.Path.{_≡_};
 ghost use Rattle.writers.specs.Osc.{writeElement};
 ghost use Rattle.encoder.specs.Outcome.{unframed, lengthBefore, framedBy, Encodes, EncodesString};
-ghost use Rattle.encoder.specs.CodePrepare.{Unsure, AfterNo, Writable, Writes, Prepares};
+ghost use Rattle.encoder.specs.CodePrepare.{Unsure, Writable, Writes, Prepares};
+ghost use Rattle.encoder.specs.AfterNo.{AfterNo};
 
 // The longest text that is not too long with its 1 to 4 NULs.
 const LONGEST_TEXT: usize = LONGEST - 4;
-
-// What an encoder answers.
-pub enum Encoded {
-    // The number of bytes written.
-    Written(usize),
-    Refused(Refusal),
-}
 
 // What is known of a packet before a byte of it is written.
 enum Prepared {

@@ -1,11 +1,12 @@
--- What is kept of a buffer while a file is read on.
+-- What a read does to a buffer, in whose front bytes are kept.
 use mathlib.Core.Path.{_≡_}
 use mathlib.Core.List.{List}
-use Prim.Native.Nat.{ℕ, _+_, _-_, _<_, _≤_}
-use lib.ListN.{length, getD}
+use Prim.Native.Nat.{ℕ, _≤_}
+use lib.ListN.{take}
+use Rattle.io.specs.Counts.{Counts}
 
--- the first r bytes of a buffer are those that stood from `from` up to `to`
-pub record RestKept (from to : ℕ) (buf after : List ℕ) (r : ℕ) : Type 0 where
-  pub count : r ≡ to - from
-  pub fits : r ≤ length after
-  pub bytes : (k : ℕ) → k < r → getD after k 0 ≡ getD buf (from + k) 0
+-- the first `kept` bytes stay, and are counted with those that were read after them
+pub record ReadsOn (kept : ℕ) (buf after : List ℕ) (count : ℕ) : Type 0 where
+  pub stays : take kept after ≡ take kept buf
+  pub more : kept ≤ count
+  pub counts : Counts count after

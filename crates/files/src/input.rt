@@ -83,6 +83,8 @@ pub fn read(path: &[u8], buf: &mut [u8]) -> Got
 }
 
 // The same of a file that is not the one to be written, or can be told from it.
+//
+// Ruled out: a count past the buffer's end; the length of the whole file where the buffer holds less of it.
 pub fn read_apart(path: &[u8], output: &[u8], buf: &mut [u8]) -> Got
     ensures { λ r. ⌜ Counts (r .count) (now (buf .exit)) ⌝ }
 {

@@ -20,7 +20,6 @@ pub use output::write;
 pub use pieces::Opened;
 pub use pieces::close;
 pub use pieces::is_shorter;
-pub use pieces::keep_rest;
 pub use pieces::length_of;
 pub use pieces::open;
 pub use pieces::open_apart;

@@ -139,6 +139,8 @@ fn write_begun(fd: i32, path: &[u8], bytes: &[u8]) -> bool {
 }
 
 // Writes a file whole or not at all.
+//
+// Ruled out: a file said to be written under a name of 4,075 bytes; a name of 4,074 bytes refused for its length.
 pub fn write(path: &[u8], bytes: &[u8]) -> Stored
     ensures { λ r. ⌜ ToldName (now (path .entry)) r ⌝ }
 {

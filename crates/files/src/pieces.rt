@@ -8,7 +8,7 @@ use crate::one::is_output;
 ghost use Prim.Native.Nat.{_≤_};
 ghost use lib.ListN.{length};
 ghost use Rattle.io.specs.Counts.{Counts};
-ghost use Rattle.files.specs.Rest.{RestKept};
+ghost use Rattle.files.specs.Rest.{ReadsOn};
 
 // What became of a file that was to be opened.
 pub enum Opened {
@@ -47,9 +47,11 @@ pub fn open_apart(path: &[u8], output: &[u8]) -> Opened {
 
 // Reads on after the first `kept` bytes of the buffer, until it is full or the file ends, or says why it cannot. The count is that of all
 // bytes that stand there then, so that the file has ended where it is less than the buffer's length.
+//
+// Ruled out: bytes that were kept and are read over; a count that leaves them out, or goes past the buffer's end.
 pub fn read_on(fd: i32, path: &[u8], buf: &mut [u8], kept: usize) -> Got
     requires { ⌜ kept ≤ length (now buf) ⌝ }
-    ensures { λ r. ⌜ Counts (r .count) (now (buf .exit)) ⌝ }
+    ensures { λ r. ⌜ ReadsOn kept (now (buf .entry)) (now (buf .exit)) (r .count) ⌝ }
 {
     let got = read_up(fd, &mut buf[kept..]);
     if !got.is_read {
@@ -63,6 +65,8 @@ pub fn read_on(fd: i32, path: &[u8], buf: &mut [u8], kept: usize) -> Got
 }
 
 // Reads from an offset of the file until the buffer is full or the file ends, or says why it cannot.
+//
+// Ruled out: a count past the buffer's end; the offset counted with the bytes that are read.
 pub fn read_at(fd: i32, path: &[u8], offset: u64, buf: &mut [u8]) -> Got
     ensures { λ r. ⌜ Counts (r .count) (now (buf .exit)) ⌝ }
 {
@@ -104,23 +108,6 @@ pub fn is_shorter(fd: i32, size: u64, total: u64, is_end: bool) -> bool {
         return true;
     }
     now < total
-}
-
-// Moves the bytes from `from` up to `to` to the front of the buffer, where a read goes on after them, and answers how many they are.
-//
-// Ruled out: the bytes from one later on; those that stood at the front before.
-pub fn keep_rest(buf: &mut [u8], from: usize, to: usize) -> usize
-    requires { ⌜ (from ≤ to) × (to ≤ length (now buf)) ⌝ }
-    ensures { λ r. ⌜ RestKept from to (now (buf .entry)) (now (buf .exit)) r ⌝ }
-{
-    let mut i = 0;
-    let mut j = from;
-    while j < to {
-        buf[i] = buf[j];
-        i += 1;
-        j += 1;
-    }
-    i
 }
 
 // Closes it.

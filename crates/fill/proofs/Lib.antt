@@ -1,1 +1,4 @@
+pub mod Contents
+pub mod Elements
 pub mod Fills
+pub mod Messages

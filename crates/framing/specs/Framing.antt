@@ -18,8 +18,8 @@ use Rattle.heads.specs.declared.Prefix.the-variants as prefix
 use Rattle.heads.specs.declared.Length.{Length}
 use Rattle.heads.specs.declared.Length.the-variants as cut
 use Rattle.edition.specs.declared.Edition.the-variants.{Rosc, Standard}
-use Rattle.framing.specs.declared.Framing.{Framing}
-use Rattle.framing.specs.declared.Framing.the-variants.{Udp, Tcp, TcpVec}
+use Rattle.edition.specs.declared.Framing.{Framing}
+use Rattle.edition.specs.declared.Framing.the-variants.{Udp, Tcp, TcpVec}
 
 -- what an input is read as, before the table's room: trees and the bytes left over; nothing yet; a refusal; of an edition 2 list the trees
 -- before a refused frame, the bytes from its prefix on, why it is refused, and its offset

@@ -10,13 +10,13 @@ use Rattle.node.specs.Tags.{messageKind, bundleKind, among, isScalar}
 use Rattle.node.specs.Records.{recordSize, mostRecords, zerosAt, itemAt}
 use Rattle.node.specs.declared.record.Item.{Item}
 use Rattle.framing.specs.Framing.{trees, ruleOf}
-use Rattle.framing.specs.declared.Framing.{Framing}
+use Rattle.edition.specs.declared.Framing.{Framing}
 use Rattle.answering.specs.Limits.{forestOf}
-use Rattle.answering.specs.declared.Decoded.the-variants.{Packets}
+use Rattle.results.specs.declared.Decoded.the-variants.{Packets}
 use Rattle.table.specs.Formed.{WellFormed}
 use Rattle.table.specs.Tree.{Spans, Obeys}
-use Rattle.answers.specs.Words.{Gives}
-use Rattle.answers.specs.Demands.{tableAfter, answerTo}
+use Rattle.calls.specs.Words.{Gives}
+use Rattle.calls.specs.Demands.{tableAfter, answerTo}
 use Rattle.osc10.specs.Words.{Bytes, bytesNamed}
 
 -- a kind whose two numbers are a range: address, blob, text

@@ -8,9 +8,9 @@ use Rattle.node.specs.Tags.{messageKind, among}
 use Rattle.node.specs.Records.{startAt, itemAt}
 use Rattle.node.specs.declared.record.Item.{Item}
 use Rattle.framing.specs.Framing.{ruleOf}
-use Rattle.framing.specs.declared.Framing.{Framing}
-use Rattle.answers.specs.Words.{Gives}
-use Rattle.answers.specs.Demands.{answerTo, tableAfter}
+use Rattle.edition.specs.declared.Framing.{Framing}
+use Rattle.calls.specs.Words.{Gives}
+use Rattle.calls.specs.Demands.{answerTo, tableAfter}
 use Rattle.osc10.specs.Words.{Bytes}
 
 -- "for a message its address", and so for a text; "for a blob its size", which stands before its bytes

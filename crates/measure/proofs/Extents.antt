@@ -1,15 +1,14 @@
 -- What the first reading answers at each of its ways out.
 use mathlib.Core.Path.{_≡_, refl, ap, sym, _∙_, subst}
 use mathlib.Core.Bool.{Bool, true, false, cond}
-use mathlib.Core.List.{List, _++_}
+use mathlib.Core.List.{List}
 use Prim.Native.Nat.{ℕ, _+_, _-_, _*_, _<_, _≤_, max}
 use native.Mathlib.Nat.{add-assoc}
 use native.Mathlib.Omega.{arith}
 use borrow.Author.Tests.{le-leb, lt-leb, leb-true, leb-false}
 use lib.Dec.{leb, leb·zero}
-use lib.ListN.{length, take, drop, replicate}
+use lib.ListN.{length, take, drop}
 use Rattle.refusal.specs.declared.Fault.{Fault}
-use Rattle.refusal.specs.declared.Fault.the-variants as faults
 use Rattle.wire.proofs.Choices.{by-test, by-le, by-both}
 use Rattle.wire.proofs.Parts.{tail}
 use Rattle.node.specs.Forest.{Forest, nil, node, size, depth, level}
@@ -22,7 +21,7 @@ use Rattle.argument.specs.CodeParts.{StandsAt, between, dirtOf}
 use Rattle.argument.specs.Dirt.{textPadding, typesAt, typesPadding}
 use Rattle.argument.proofs.Dirt.{text-padding, types-padding, dirt-node, dirt-nil}
 use Rattle.argument.proofs.Pads.{dirt-few}
-use Rattle.argument.proofs.Stands.{stands-on, stands-take, stands-somewhere}
+use Rattle.argument.proofs.Stands.{stands-on, stands-take}
 use Rattle.arguments.specs.Arguments.{Args, refused, args, readArgs}
 use Rattle.arguments.specs.CodeReadings.{measured}
 use Rattle.arguments.specs.declared.Measured.{Measured}
@@ -43,7 +42,7 @@ use Rattle.packet.proofs.Items.{HasItem, message-item, bundle-item}
 use Rattle.packet.proofs.Within.{Within, types-found}
 use Rattle.packet.proofs.Knot.{starts-message, starts-bundle, element-holds}
 use Rattle.packet.proofs.Bundles.{contents, bundle-long, ended, first-trees, first-rest, Stepped, stepped, Counted, counted-start}
-use Rattle.packet.proofs.Bundles.{counted-on, counted-in}
+use Rattle.packet.proofs.Bundles.{counted-on}
 
 -- the extent of what is refused
 pub refused-is : {k : Fault} {o : Out} (room p : ℕ) (dirt : Item → Forest → ℕ) → o ≡ fault k → Refused k ≡ extent room p dirt o
@@ -358,19 +357,3 @@ module _ (base : ℕ) (msg l : List ℕ) (p room dirt : ℕ) (m : List ℕ) (q c
       let flat : depth (treesIn (contents base l p)) ≤ room
       = leb-true _ _ (w .deep ∙ ap (λ (k : Elements). leb (depth (treesIn k)) room) none ∙ leb·zero room) in
       bundle-tree base start l p _ e h (omega arith) (omega (arith, w .counted)) (omega (arith, w .counted)) (omega (arith, w .dirty))
-
--- an element that is a tree lies in what is left, and what was counted with it is small
-pub next-in : {n next x : ℕ} (l : List ℕ) (p room dirt : ℕ) (m : List ℕ) (q c d : ℕ)
-    → ((base : ℕ) (msg : List ℕ) → StandsAt msg (base + p) l → Going base msg l p room dirt m q c d)
-    → ((base : ℕ) (msg : List ℕ) → StandsAt msg (base + q) m
-    → Tree n next x ≡ extent room (q + 4) (nodeDirt base msg) (readElement base m q))
-    → (q + 4 + n ≤ next) × (next ≤ q + length m) × (c + n ≤ 1 + (length l - 8)) × (d + x ≤ dirt + 6 * (c + n))
-next-in l p room dirt m q c d w e =
-    let msg = replicate (0 + p) 0 ++ l in
-    let g = w 0 msg (stands-somewhere (0 + p) l) in
-    let t = turned 0 msg m q room (e 0 msg (g .stands)) in (
-      t .step .low .1,
-      t .step .high,
-      omega (arith, t .step .nodes, g .counted, counted-in 0 l p),
-      omega (arith, g .few, t .few),
-    )

@@ -1,2 +1,3 @@
 pub mod Extents
 pub mod Skims
+pub mod Turns

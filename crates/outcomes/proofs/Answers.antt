@@ -13,10 +13,10 @@ use Rattle.node.specs.Records.{recordSize, mostRecords, recordsOf, capacity, st
 use Rattle.node.proofs.Recorded.{length-records}
 use Rattle.framing.specs.Framing.{Whole, trees, waiting, refusal, stopped}
 use Rattle.answering.specs.Limits.{bounded, limited, decoded, forestOf, tabled}
-use Rattle.answering.specs.declared.Decoded.{Decoded}
-use Rattle.answering.specs.declared.Decoded.the-variants as answer
+use Rattle.results.specs.declared.Decoded.{Decoded}
+use Rattle.results.specs.declared.Decoded.the-variants as answer
 use Rattle.decoder.proofs.Chosen.{by-decoded, by-bounded}
-use Rattle.telling.specs.Answers.{decodedLine}
+use Rattle.telling.specs.Replies.{decodedLine}
 use Rattle.outcomes.specs.Kept.{rootsOf, keptTrees, keptCount}
 use Rattle.outcomes.specs.CodeRoots.{StandAt}
 

@@ -1,3 +1,3 @@
 pub mod Counted
 pub mod Answers
-pub mod Pieces
+pub mod Parts

@@ -4,11 +4,11 @@ use mathlib.Core.List.{List, []}
 use Prim.Native.Nat.{ℕ, _+_}
 use Rattle.node.specs.Forest.{Forest, nil, node}
 use Rattle.node.specs.Records.{recordsOf}
-use Rattle.answering.specs.declared.Decoded.{Decoded}
-use Rattle.answering.specs.declared.Decoded.the-variants as decoded
+use Rattle.results.specs.declared.Decoded.{Decoded}
+use Rattle.results.specs.declared.Decoded.the-variants as decoded
 use Rattle.encoder.specs.Outcome.{unframed, framedBy}
-use Rattle.encoder.specs.declared.Encoded.{Encoded}
-use Rattle.encoder.specs.declared.Encoded.the-variants as encoded
+use Rattle.results.specs.declared.Encoded.{Encoded}
+use Rattle.results.specs.declared.Encoded.the-variants as encoded
 use Rattle.commands.specs.declared.Writing.{Writing}
 use Rattle.commands.specs.declared.Writing.the-variants.{Alone, Stream}
 

@@ -8,12 +8,12 @@ use Rattle.node.specs.Records.{recordsOf, mostRecords, capacity}
 use Rattle.node.specs.Forest.{Forest}
 use Rattle.framing.specs.Framing.{ruleOf}
 use Rattle.answering.specs.Limits.{decoded, forestOf}
-use Rattle.answering.specs.declared.Decoded.{Decoded}
-use Rattle.framing.specs.declared.Framing.{Framing}
+use Rattle.results.specs.declared.Decoded.{Decoded}
+use Rattle.edition.specs.declared.Framing.{Framing}
 use Rattle.encoder.specs.Outcome.{Encodes}
-use Rattle.encoder.specs.declared.Encoded.{Encoded}
+use Rattle.results.specs.declared.Encoded.{Encoded}
 use Rattle.telling.specs.Forms.{Says}
-use Rattle.telling.specs.Answers.{decodedLine, encodedLine}
+use Rattle.telling.specs.Replies.{decodedLine, encodedLine}
 use Rattle.commands.specs.declared.Writing.{Writing}
 use Rattle.commands.specs.declared.options.Options.{Options}
 use Rattle.outcomes.specs.Kept.{rootsOf, hasTable, keptTrees, isWritten, writtenCount, writingOf}

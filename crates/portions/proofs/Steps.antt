@@ -7,8 +7,8 @@ use lib.ListN.{length}
 use Rattle.node.specs.Records.{capacity}
 use Rattle.framing.specs.Framing.{Whole, trees, waiting, refusal, stopped, tcpVec2}
 use Rattle.answering.specs.Limits.{limited, decoded, forestOf, tabled, Decodes}
-use Rattle.answering.specs.declared.Decoded.{Decoded}
-use Rattle.answering.specs.declared.Decoded.the-variants as list
+use Rattle.results.specs.declared.Decoded.{Decoded}
+use Rattle.results.specs.declared.Decoded.the-variants as list
 use Rattle.decoder.proofs.Chosen.{by-decoded, by-trees, by-bounded}
 use Rattle.decoder.proofs.Sizes.{WholeIn, vec2-in}
 use Rattle.portions.specs.Portions.{portionOf, Steps}

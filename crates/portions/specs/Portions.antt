@@ -6,10 +6,10 @@ use lib.ListN.{length}
 use Rattle.node.specs.Records.{capacity}
 use Rattle.framing.specs.Framing.{tcpVec2}
 use Rattle.answering.specs.Limits.{decoded, forestOf, tabled}
-use Rattle.answering.specs.declared.Decoded.{Decoded}
-use Rattle.answering.specs.declared.Decoded.the-variants as list
-use Rattle.portions.specs.declared.Portion.{Portion}
-use Rattle.portions.specs.declared.Portion.the-variants.{Read, Ended, Refused}
+use Rattle.results.specs.declared.Decoded.{Decoded}
+use Rattle.results.specs.declared.Decoded.the-variants as list
+use Rattle.results.specs.declared.Portion.{Portion}
+use Rattle.results.specs.declared.Portion.the-variants.{Read, Ended, Refused}
 
 -- what a step over n bytes says, by the answer of `decode_tcp_vec` in edition 2: the bytes before those that are left over are used, and a
 -- refused frame stands after them. The line for Waiting is never met, since a list does not wait (document 02, Ticket 1)

@@ -1,27 +1,9 @@
 // A stream that comes in portions: a step reads the frames that are whole, and says from where on the bytes are to be kept.
-pub use decoder::Decoded;
 use edition::Edition;
 use refusal::Refusal;
+use results::Decoded;
+pub use results::Portion;
 ghost use Rattle.portions.specs.Portions.{Steps};
-
-// What a step over the bytes of a stream answers.
-pub enum Portion {
-    // The packets of every whole frame: records written, the bytes that those frames take, and their dirty padding. The bytes from `used`
-    // on are to be kept: what comes next stands after them.
-    Read {
-        count: usize,
-        used: usize,
-        dirty: usize,
-    },
-    // The same of the frames before one that is refused, which stands at `used`: the stream cannot be read further.
-    Ended {
-        count: usize,
-        used: usize,
-        dirty: usize,
-        refusal: Refusal,
-    },
-    Refused(Refusal),
-}
 
 // Reads the frames of `bytes`, what was kept of a stream of edition 2 and what came after it, and writes the records of their packets to
 // `table`.

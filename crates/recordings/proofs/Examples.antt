@@ -18,23 +18,28 @@ use Rattle.heads.specs.Heads.{lengthOf}
 use Rattle.packet.specs.FirstText.{startOf}
 use Rattle.packet.specs.Packet.{readMessage, packetBy, packetAt, readPacket}
 use Rattle.framing.specs.Framing.{cutFrame}
-use Rattle.cutting.specs.Cutting.{joinedBytes}
-use Rattle.cutting.proofs.Examples.{whole-number, text-front, text-rest, short}
-use Rattle.cues.specs.Cues.{cueOf, index, indexAt, indexOf, indexAnswer, Indexes}
+use Rattle.folding.specs.Folding.{foldAt, joinedBytes}
+use Rattle.folding.specs.Walks.{Walk, reads-on, stops}
+use Rattle.folding.proofs.Examples.{whole-number, text-front, text-rest, short}
+use Rattle.cues.specs.Cues.{indexing, Index, index, indexOf, indexAnswer, Indexes, IndexStep}
 use Rattle.cues.specs.Checks.{comparedAt, compared, checkedAs}
-use Rattle.cues.specs.declared.checked.Checked.the-variants.{Fits}
-use Rattle.cues.specs.declared.lookup.CueAt.the-variants as found
-use Rattle.cues.specs.declared.index.End.the-variants as end
-use Rattle.cues.specs.declared.index.Indexed.the-variants.{Written}
-use Rattle.recordings.specs.Recordings.{Buffered, EndToEnd, CueThere, Walk, reads-on, stops, checkedInParts, CueFound}
+use Rattle.results.specs.declared.Checked.the-variants.{Fits}
+use Rattle.results.specs.declared.CueAt.the-variants as found
+use Rattle.results.specs.declared.End.the-variants as end
+use Rattle.results.specs.declared.Indexed.the-variants.{Written}
+use Rattle.recordings.specs.Recordings.{WritingStep, EndToEnd, CueThere, checkedInParts, CueFound}
 use Rattle.recordings.proofs.AnyBuffers.{any-buffers}
-use Rattle.recordings.proofs.Walks.{every-walk}
+use Rattle.recordings.proofs.Walks.{every-walk, walk-checks}
 use Rattle.recordings.proofs.Parts.{every-check}
 use Rattle.recordings.proofs.Lookup.{where-cues-lie, every-cue, checked-cue}
 
 -- a record of an index, of a frame of 12 bytes with 2 records
-abbrev entry : ℕ → List ℕ
+abbrev pub entry : ℕ → List ℕ
 entry offset = 0 ∷ 0 ∷ 0 ∷ 0 ∷ 0 ∷ 0 ∷ 0 ∷ offset ∷ 0 ∷ 0 ∷ 0 ∷ 12 ∷ 0 ∷ 0 ∷ 0 ∷ 2 ∷ []
+
+-- a writer writes this index through these portions
+abbrev Through : List (List ℕ) → Index → Type 0
+Through portions i = (sums : List (List ℕ)) × Walk indexing WritingStep 0 [] portions sums i
 
 -- ---- three frames
 
@@ -43,21 +48,21 @@ three = whole-number ++ (text-front ++ (text-rest ++ whole-number))
 
 three-index : indexOf 0 three ≡ index (entry 0 ++ (entry 16 ++ entry 32)) 48 end.Whole
 unfolding number bytes size depth snoc classOf sortOf readText readArg readTags startOf readMessage packetBy packetAt readPacket lengthOf
-    cutFrame cueOf indexAt
+    cutFrame foldAt
 three-index = refl
 
 -- the second frame waits in the third buffer, and is given in the fourth
 third-answer : indexAnswer 16 text-front 0 ≡ Written 0 0 end.Waiting
 unfolding number bytes size depth snoc classOf sortOf readText readArg readTags startOf readMessage packetBy packetAt readPacket lengthOf
-    cutFrame cueOf indexAt
+    cutFrame foldAt
 third-answer = refl
 
 fourth-answer : indexAnswer 16 (text-front ++ (text-rest ++ whole-number)) 32 ≡ Written 2 32 end.Whole
 unfolding number bytes size depth snoc classOf sortOf readText readArg readTags startOf readMessage packetBy packetAt readPacket lengthOf
-    cutFrame cueOf indexAt
+    cutFrame foldAt
 fourth-answer = refl
 
-three-buffers : Buffered 0 [] (whole-number ∷ [] ∷ text-front ∷ (text-rest ++ whole-number) ∷ [])
+three-buffers : Through (whole-number ∷ [] ∷ text-front ∷ (text-rest ++ whole-number) ∷ [])
     (index (entry 0 ++ (entry 16 ++ entry 32)) 48 end.Whole)
 unfolding joinedBytes
 three-buffers = rw three-index at (any-buffers (whole-number ∷ [] ∷ text-front ∷ (text-rest ++ whole-number) ∷ []) (omega arith))
@@ -73,27 +78,38 @@ second-cue = every-cue three (entry 0 ++ (entry 16 ++ entry 32)) 48 end.Whole (o
 -- a program walks over the three in three portions, with outputs of 16, of no and of 33 bytes
 first-step : Indexes whole-number 0 (replicate 16 9) (Written 1 16 end.Whole) (entry 0)
 unfolding number bytes size depth snoc classOf sortOf readText readArg readTags startOf readMessage packetBy packetAt readPacket lengthOf
-    cutFrame cueOf indexAt
+    cutFrame foldAt
 first-step = record { answers = refl; leaves = refl }
 
 second-step : Indexes text-front 16 [] (Written 0 0 end.Waiting) []
 unfolding number bytes size depth snoc classOf sortOf readText readArg readTags startOf readMessage packetBy packetAt readPacket lengthOf
-    cutFrame cueOf indexAt
+    cutFrame foldAt
 second-step = record { answers = refl; leaves = refl }
 
 third-step : Indexes (text-front ++ (text-rest ++ whole-number)) 16 (replicate 33 9) (Written 2 32 end.Whole)
     (entry 16 ++ (entry 32 ++ (9 ∷ [])))
 unfolding number bytes size depth snoc classOf sortOf readText readArg readTags startOf readMessage packetBy packetAt readPacket lengthOf
-    cutFrame cueOf indexAt
+    cutFrame foldAt
 third-step = record { answers = refl; leaves = refl }
 
-three-walk : Walk 0 [] (whole-number ∷ text-front ∷ (text-rest ++ whole-number) ∷ [])
-    (index (entry 0 ++ (entry 16 ++ entry 32)) 48 end.Whole)
-three-walk = reads-on first-step tt (reads-on second-step tt (stops third-step tt))
+abbrev pub three-portions : List (List ℕ)
+three-portions = whole-number ∷ text-front ∷ (text-rest ++ whole-number) ∷ []
 
-three-walked : index (entry 0 ++ (entry 16 ++ entry 32)) 48 end.Whole
-    ≡ indexOf 0 (joinedBytes (whole-number ∷ text-front ∷ (text-rest ++ whole-number) ∷ []))
-three-walked = every-walk _ _ three-walk
+abbrev pub three-parts : List (List ℕ)
+three-parts = entry 0 ∷ [] ∷ (entry 16 ++ entry 32) ∷ []
+
+pub three-walk : Walk indexing IndexStep 0 [] three-portions three-parts (index (entry 0 ++ (entry 16 ++ entry 32)) 48 end.Whole)
+three-walk =
+    reads-on (1, replicate 16 9, entry 0, first-step, refl) tt
+    (reads-on (0, [], [], second-step, refl) tt
+    (stops (2, replicate 33 9, entry 16 ++ (entry 32 ++ (9 ∷ [])), third-step, refl) tt))
+
+pub three-walked : index (entry 0 ++ (entry 16 ++ entry 32)) 48 end.Whole ≡ indexOf 0 (joinedBytes three-portions)
+three-walked = every-walk three-portions three-parts _ three-walk
+
+-- and checks its parts against an index whose third record is cut off
+three-walk-checks : checkedInParts three-parts (entry 0 ++ entry 16) ≡ checkedAs (joinedBytes three-portions) (entry 0 ++ entry 16)
+three-walk-checks = walk-checks three-portions three-parts _ (entry 0 ++ entry 16) three-walk
 
 -- the second cue, looked up after a check
 three-checked : checkedAs three (entry 0 ++ (entry 16 ++ entry 32)) ≡ Fits 3
@@ -113,9 +129,9 @@ in-two-parts = every-check (entry 0 ∷ (entry 16 ++ entry 32) ∷ []) (entry 0 
 
 refused-index : indexOf 0 (whole-number ++ (short ++ whole-number)) ≡ index (entry 0) 16 (end.Refused (Unreadable (Short Address 4)))
 unfolding number bytes size depth snoc classOf sortOf readText readArg readTags startOf readMessage packetBy packetAt readPacket lengthOf
-    cutFrame cueOf indexAt
+    cutFrame foldAt
 refused-index = refl
 
-refused-buffers : Buffered 0 [] (whole-number ∷ short ∷ whole-number ∷ []) (index (entry 0) 16 (end.Refused (Unreadable (Short Address 4))))
+refused-buffers : Through (whole-number ∷ short ∷ whole-number ∷ []) (index (entry 0) 16 (end.Refused (Unreadable (Short Address 4))))
 unfolding joinedBytes
 refused-buffers = rw refused-index at (any-buffers (whole-number ∷ short ∷ whole-number ∷ []) (omega arith))

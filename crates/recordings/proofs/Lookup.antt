@@ -5,22 +5,22 @@ use Prim.Native.Nat.{ℕ, zero, suc, _+_, _-_, _/_, _<_, _≤_}
 use native.Mathlib.Omega.{arith}
 use borrow.Author.Tests.{ltb-true, ltb-false}
 use lib.Dec.{ltb}
-use lib.ListN.{length, take, drop, length-drop}
+use lib.ListN.{length, take, drop, length-append, length-drop}
 use lib.Seq.{drop-drop}
 use Rattle.wire.specs.Limits.{longest, deepest}
 use Rattle.wire.proofs.Choices.{by-test}
 use Rattle.framing.specs.Framing.{tcp2}
 use Rattle.answering.specs.Limits.{decoded}
-use Rattle.cues.specs.Cues.{longestRecording, cueOf, entrySize, entryOf, Index, index, indexOf, writtenOf}
+use Rattle.cues.specs.Cues.{longestRecording, cueOf, entrySize, entryOf, indexing, Index, index, indexOf, writtenOf}
 use Rattle.cues.specs.Cues.{cueOffset, cueSize, cueRecords, cueIn}
 use Rattle.cues.specs.declared.cue.Cue.the-variants as cue
-use Rattle.cues.specs.declared.index.End.{End}
+use Rattle.results.specs.declared.End.{End}
 use Rattle.recordings.specs.Recordings.{EndToEnd, WhereCuesLie, CueThere, EveryCue, CueFound, CheckedCue}
 use Rattle.cues.proofs.Shortest.{shortestFrame}
 use Rattle.cues.proofs.Cues.{CueIn}
-use Rattle.cues.proofs.Indexes.{written-length}
+use Rattle.folding.proofs.Framed.{Framed, ends, lacks, fails, frame, framed}
+use Rattle.cues.proofs.Indexes.{index-inside, cued, taken-length, written-length}
 use Rattle.cues.proofs.Checks.{fits-exactly}
-use Rattle.cues.proofs.Cued.{Cued, whole, waits, refuses, given, cued}
 use Rattle.recordings.proofs.Alone.{CueAlone, cue-alone}
 use Rattle.recordings.proofs.Fields.{entries-more, first-offset, first-size, first-records, later-offset, later-size, later-records}
 
@@ -61,18 +61,20 @@ module _ (base u c at : ℕ) (w : List ℕ) (low : shortestFrame ≤ u) (high : 
   entry-first =
       record { first = λ h. starts; next = next-of; last = last-of; none = λ h. absurd (omega (arith, entries-more base u c w)) }
 
-cued-lie : {base at : ℕ} {l w : List ℕ} {why : End} → Cued base l (index w at why) → base + length l ≤ longestRecording
+frames-lie : {base at : ℕ} {l w : List ℕ} {why : End} → Framed indexing base l (index w at why) → base + length l ≤ longestRecording
     → EndToEnd base w at
-cued-lie {base} whole h = no-entries base
-cued-lie {base} (waits some e) h = no-entries base
-cued-lie {base} (refuses some e) h = no-entries base
-cued-lie {base} {at} {l} (given {u = u} {c = c} {w = w} some e s r) h =
-    entry-first base u c at w (s .0) (omega (arith, s .1)) (cue-alone l u c (s .1) e .short)
-    (cued-lie r (omega (arith, s .1, length-drop u l)))
+frames-lie {base} ends h = no-entries base
+frames-lie {base} (lacks some e) h = no-entries base
+frames-lie {base} (fails some e) h = no-entries base
+frames-lie {base} {at} {l} (frame {u = u} {sum = w} some e s r) h =
+    let t = cued base l e in
+    subst (λ (a : List ℕ). EndToEnd base (a ++ w) at) (sym (t .entry))
+    (entry-first base u (t .records) at w (t .inside .0) (omega (arith, s .1)) (cue-alone l u (t .records) (s .1) (t .given) .short)
+    (frames-lie r (omega (arith, s .1, length-drop u l))))
 
 -- Ticket 5: the index determines where each cue lies
 pub where-cues-lie : WhereCuesLie
-where-cues-lie l w at why h e = cued-lie (subst (Cued 0 l) e (cued 0 l)) (omega arith)
+where-cues-lie l w at why h e = frames-lie (subst (Framed indexing 0 l) e (framed indexing index-inside 0 l)) (omega arith)
 
 -- ---- a cue looked up
 
@@ -105,32 +107,48 @@ there-first l u c s a =
       decodes = rw n (a .decodes);
     }
 
-cued-there : {base at : ℕ} {l w : List ℕ} {why : End} → Cued base l (index w at why) → base + length l ≤ longestRecording
-    → (k : ℕ) → k < length w / entrySize
-    → (base ≤ cueOffset w k) × CueThere l (cueOffset w k - base) (cueSize w k) (cueRecords w k)
-cued-there whole h k g = absurd (omega arith)
-cued-there (waits some e) h k g = absurd (omega arith)
-cued-there (refuses some e) h k g = absurd (omega arith)
-cued-there {base} {at} {l} (given {u = u} {c = c} {w = w} some e s r) h zero g =
-    let a = cue-alone l u c (s .1) e in
-    let o = first-offset base u c w (omega (arith, s .1)) in (
-      omega arith,
-      same-there _ _ _ (omega arith) (first-size base u c w (omega (arith, a .short))) (first-records base u c w (omega (arith, s .3)))
-          (there-first l u c s a),
-    )
-cued-there {base} {at} {l} (given {u = u} {c = c} {w = w} some e s r) h (suc k) g =
-    let t = cued-there r (omega (arith, s .1, length-drop u l)) k (omega (arith, entries-more base u c w)) in
-    let o = later-offset base u c w k in
-    let low = t .0 in (
-      omega arith,
-      same-there _ _ _ refl (later-size base u c w k) (later-records base u c w k)
-          (there-later l u (cueOffset w k - (base + u)) _ _ _ (omega arith) (s .1) (t .1)),
-    )
+-- record k of an index of l, which stands at offset `base`, says what is there
+abbrev There : ℕ → List ℕ → List ℕ → ℕ → Type 0
+There base l w k = (base ≤ cueOffset w k) × CueThere l (cueOffset w k - base) (cueSize w k) (cueRecords w k)
+
+module _ (base : ℕ) (l : List ℕ) (u c : ℕ) (w : List ℕ) (given : cueOf l ≡ cue.Given u c) (s : CueIn (length l) (cue.Given u c)) where
+  there-now : base ≤ longestRecording → There base l (entryOf base u c ++ w) 0
+  there-now h =
+      let a = cue-alone l u c (s .1) given in
+      let o = first-offset base u c w (omega arith) in (
+        omega arith,
+        same-there _ _ _ (omega arith) (first-size base u c w (omega (arith, a .short))) (first-records base u c w (omega (arith, s .3)))
+            (there-first l u c s a),
+      )
+
+  there-next : (k : ℕ) → There (base + u) (drop u l) w k → There base l (entryOf base u c ++ w) (suc k)
+  there-next k t =
+      let o = later-offset base u c w k in
+      let low = t .0 in (
+        omega arith,
+        same-there _ _ _ refl (later-size base u c w k) (later-records base u c w k)
+            (there-later l u (cueOffset w k - (base + u)) _ _ _ (omega arith) (s .1) (t .1)),
+      )
+
+frames-there : {base at : ℕ} {l w : List ℕ} {why : End} → Framed indexing base l (index w at why) → base + length l ≤ longestRecording
+    → (k : ℕ) → k < length w / entrySize → There base l w k
+frames-there ends h k g = absurd (omega arith)
+frames-there (lacks some e) h k g = absurd (omega arith)
+frames-there (fails some e) h k g = absurd (omega arith)
+frames-there {base} {at} {l} (frame {u = u} {a = a} {sum = w} some e s r) h zero g =
+    let t = cued base l e in
+    subst (λ (x : List ℕ). There base l (x ++ w) 0) (sym (t .entry))
+    (there-now base l u (t .records) w (t .given) (t .inside) (omega arith))
+frames-there {base} {at} {l} (frame {u = u} {a = a} {sum = w} some e s r) h (suc k) g =
+    let t = cued base l e in
+    let few : k < length w / entrySize = omega (arith, length-append a w, taken-length t) in
+    subst (λ (x : List ℕ). There base l (x ++ w) (suc k)) (sym (t .entry))
+    (there-next base l u (t .records) w (t .given) (t .inside) k (frames-there r (omega (arith, s .1, length-drop u l)) k few))
 
 -- Ticket 5: what a record of the index says is there
 pub every-cue : EveryCue
 every-cue l w at why h e k g =
-    let t = cued-there (subst (Cued 0 l) e (cued 0 l)) (omega arith) k g in
+    let t = frames-there (subst (Framed indexing 0 l) e (framed indexing index-inside 0 l)) (omega arith) k g in
     same-there _ _ _ (omega arith) refl refl (t .1)
 
 -- ---- a cue looked up in an index that was checked

@@ -7,10 +7,10 @@ use native.Mathlib.Omega.{arith}
 use lib.ListN.{length, take, drop, take-append-drop}
 use lib.Seq.{take-all, length-take-le}
 use Rattle.wire.proofs.Choices.{lt-or-le}
-use Rattle.cutting.specs.Cutting.{joinedBytes}
+use Rattle.folding.specs.Folding.{joinedBytes}
 use Rattle.cues.specs.Cues.{entrySize}
 use Rattle.cues.specs.Checks.{compared, followedBy}
-use Rattle.cues.specs.declared.checked.Checked.{Checked}
+use Rattle.results.specs.declared.Checked.{Checked}
 use Rattle.cues.proofs.Checks.{check-in-parts, ends-within}
 use Rattle.recordings.specs.Recordings.{WholeRecords, checkedInParts, EveryCheck}
 

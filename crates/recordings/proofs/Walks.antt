@@ -1,69 +1,64 @@
--- Ticket 5, of a program that walks over a recording in portions: whatever its portions and its outputs are, what it writes is the index of
--- the whole.
-use mathlib.Core.Path.{_≡_, refl, ap, sym, _∙_}
-use mathlib.Core.List.{List, [], _∷_, _++_, append-assoc, append-nil}
-use Prim.Native.Nat.{ℕ, _+_, _-_, _*_}
+-- Ticket 5 of a recording in portions, by the laws of the fold (crates/folding): an index is written in one go or in two, and by every
+-- program that walks over it; and a walk that checks its parts answers as the check of all does.
+use mathlib.Core.Path.{_≡_, refl, ap, _∙_}
+use mathlib.Core.List.{List, [], _∷_, _++_}
+use Prim.Native.Nat.{ℕ, _*_, _%_}
 use native.Mathlib.Omega.{arith}
-use lib.ListN.{length, take, drop}
-use Rattle.cutting.specs.Cutting.{joinedBytes}
-use Rattle.cues.specs.Cues.{entrySize, Index, index, withEntry, indexOf, Indexes, MayContinue}
-use Rattle.cues.specs.declared.index.End.{End}
-use Rattle.cues.specs.declared.index.End.the-variants as end
-use Rattle.cues.specs.declared.index.Indexed.the-variants.{Written}
+use lib.ListN.{length}
+use lib.Seq.{length-take-le}
+use Rattle.folding.specs.Folding.{joinedBytes}
+use Rattle.folding.specs.Walks.{Walk, done, reads-on, stops, joinedSums}
+use Rattle.folding.proofs.Cut.{cut-anywhere, read-is-whole}
+use Rattle.folding.proofs.Walks as walks
+use Rattle.folding.proofs.Walks.{walk-in-parts}
+use Rattle.cues.specs.Cues.{entrySize, indexing, Index, writtenOf, indexOf, IndexStep}
+use Rattle.cues.specs.Checks.{compared}
+use Rattle.results.specs.declared.End.{End}
 use Rattle.cues.proofs.Steps.{stepped}
-use Rattle.recordings.specs.Recordings.{continuedIndex, WalkStops, Walk, reads-on, stops, EveryWalk}
-use Rattle.recordings.proofs.Cut.{cut-index}
+use Rattle.cues.proofs.Folds.{indexing-sound, indexing-own, step-tells}
+use Rattle.recordings.specs.Recordings.{CutIndex, IndexReadIsWhole, EveryWalk, WholeRecords, WalkChecks}
+use Rattle.recordings.proofs.Parts.{every-check}
 
-module _ (kept portion : List ℕ) {base n used : ℕ} {out after : List ℕ} {why : End}
-    (w : Indexes (kept ++ portion) base out (Written n used why) after) (more : List ℕ) where
-  abbrev msg : List ℕ
-  msg = kept ++ portion
+-- an index is written in one go or in two
+pub cut-index : CutIndex
+cut-index = cut-anywhere indexing indexing-sound
 
-  abbrev records : List ℕ
-  records = take (entrySize * n) after
+-- what was read is a recording of its own
+pub index-read-is-whole : IndexReadIsWhole
+index-read-is-whole = read-is-whole indexing indexing-sound indexing-own
 
-  -- all that is to come, by the step
-  by-step : indexOf base (kept ++ (portion ++ more)) ≡ continuedIndex base msg more (index records (base + used) why)
-  by-step =
-      ap (indexOf base) (sym (append-assoc kept portion more)) ∙ cut-index base msg more ∙ ap (continuedIndex base msg more) (stepped w .is)
-
-  there : base + used - base ≡ used
-  there = omega arith
-
-  goes-on : MayContinue why
-      → withEntry records (indexOf (base + used) (drop used msg ++ more)) ≡ continuedIndex base msg more (index records (base + used) why)
-  goes-on g = by-end why g
-    where
-      again : withEntry records (indexOf (base + used) (drop used msg ++ more))
-          ≡ withEntry records (indexOf (base + used) (drop (base + used - base) msg ++ more))
-      again = ap (λ (k : ℕ). withEntry records (indexOf (base + used) (drop k msg ++ more))) (sym there)
-
-      by-end : (x : End) → MayContinue x
-          → withEntry records (indexOf (base + used) (drop used msg ++ more))
-          ≡ continuedIndex base msg more (index records (base + used) x)
-      by-end end.Whole h = again
-      by-end end.Waiting h = again
-      by-end (end.Refused k) h = absurd h
-
-  refused-stays : (MayContinue why → ⊥) → index records (base + used) why ≡ continuedIndex base msg more (index records (base + used) why)
-  refused-stays h = by-end why h
-    where
-      by-end : (x : End) → (MayContinue x → ⊥)
-          → index records (base + used) x ≡ continuedIndex base msg more (index records (base + used) x)
-      by-end end.Whole g = absurd (g tt)
-      by-end end.Waiting g = absurd (g tt)
-      by-end (end.Refused k) g = refl
-
-walk-whole : {base : ℕ} {kept : List ℕ} {portions : List (List ℕ)} {i : Index} → Walk base kept portions i
-    → i ≡ indexOf base (kept ++ joinedBytes portions)
-unfolding joinedBytes
-walk-whole {kept = kept} (reads-on {portion = portion} {later = later} w g rest) =
-    ap (withEntry _) (walk-whole rest) ∙ goes-on kept portion w (joinedBytes later) g ∙ sym (by-step kept portion w (joinedBytes later))
-walk-whole {base} {kept} (stops {portion = portion} {later = []} w h) =
-    sym (ap (λ (m : List ℕ). indexOf base (kept ++ m)) (append-nil portion) ∙ stepped w .is)
-walk-whole {kept = kept} (stops {portion = portion} {later = next ∷ later} w h) =
-    refused-stays kept portion w (joinedBytes (next ∷ later)) h ∙ sym (by-step kept portion w (joinedBytes (next ∷ later)))
-
--- every walk over a recording in portions writes the index of the whole
+-- Ticket 5: every walk over a recording in portions writes the index of the whole
 pub every-walk : EveryWalk
-every-walk portions i w = walk-whole w
+every-walk = walks.every-walk indexing indexing-sound IndexStep step-tells
+
+-- ---- a walk that checks
+
+-- the records of a step are whole
+part-whole : (base : ℕ) (l written : List ℕ) (used : ℕ) (why : End) → IndexStep base l written used why → length written % entrySize ≡ 0
+part-whole base l written used why p =
+    let s = stepped (p .3) in
+    let long = length-take-le (entrySize * p .0) (p .2) (omega (arith, s .room, s .same)) in
+    omega (arith, long, ap length (p .4))
+
+parts-whole : {base : ℕ} {kept : List ℕ} {portions parts : List (List ℕ)} {i : Index} → Walk indexing IndexStep base kept portions parts i
+    → WholeRecords parts
+parts-whole done = tt
+parts-whole {base} {kept} (reads-on {used = used} {portion = portion} {sum = sum} {why = why} w g rest) =
+    (part-whole base (kept ++ portion) sum used why w, parts-whole rest)
+parts-whole {base} {kept} (stops {used = used} {portion = portion} {sum = sum} {why = why} w h) =
+    (part-whole base (kept ++ portion) sum used why w, tt)
+
+parts-joined : (parts : List (List ℕ)) → joinedBytes parts ≡ joinedSums indexing parts
+unfolding joinedBytes joinedSums
+parts-joined [] = refl
+parts-joined (part ∷ later) = ap (λ (m : List ℕ). part ++ m) (parts-joined later)
+
+-- the records of a walk, part by part, are the index of the whole
+pub walk-written : (portions parts : List (List ℕ)) (i : Index) → Walk indexing IndexStep 0 [] portions parts i
+    → joinedBytes parts ≡ writtenOf (indexOf 0 (joinedBytes portions))
+walk-written portions parts i w = parts-joined parts ∙ walk-in-parts indexing indexing-sound IndexStep step-tells portions parts i w
+
+-- Ticket 5: checked part by part, they are checked as all of them are
+pub walk-checks : WalkChecks
+walk-checks portions parts i given w =
+    every-check parts given (parts-whole w) ∙ ap (λ (fresh : List ℕ). compared fresh given) (walk-written portions parts i w)

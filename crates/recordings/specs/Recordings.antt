@@ -2,39 +2,37 @@
 -- that writes an index (crates/cues).
 use mathlib.Core.Path.{_≡_}
 use mathlib.Core.List.{List, [], _∷_, _++_}
-use Prim.Native.Nat.{ℕ, suc, _+_, _-_, _*_, _/_, _%_, _<_, _≤_}
+use Prim.Native.Nat.{ℕ, suc, _+_, _*_, _/_, _%_, _<_, _≤_}
 use lib.ListN.{length, take, drop}
-use Rattle.refusal.specs.declared.Refusal.{Refusal}
 use Rattle.refusal.specs.declared.Refusal.the-variants.{BadTable}
 use Rattle.wire.specs.Limits.{longest, deepest}
 use Rattle.framing.specs.Framing.{tcp2}
+use Rattle.folding.specs.Folding.{CutAnywhere, ReadIsWhole, joinedBytes}
+use Rattle.folding.specs.Walks as walks
+use Rattle.folding.specs.Walks.{Stepping, Walk, AnyWalk}
 use Rattle.answering.specs.Limits.{decoded}
-use Rattle.answering.specs.declared.Decoded.the-variants.{Packets}
-use Rattle.cutting.specs.Cutting.{joinedBytes}
-use Rattle.cues.specs.Cues.{mostInACue, cueOf, entrySize, longestRecording, Index, index, withEntry, indexOf, Indexes}
-use Rattle.cues.specs.Cues.{MayContinue, cueOffset, cueSize, cueRecords, cueIn}
+use Rattle.results.specs.declared.Decoded.the-variants.{Packets}
+use Rattle.cues.specs.Cues.{mostInACue, cueOf, entrySize, longestRecording, indexing, Index, index, indexOf, Indexes, IndexStep}
+use Rattle.cues.specs.Cues.{cueOffset, cueSize, cueRecords, cueIn}
 use Rattle.cues.specs.Checks.{compared, checkedAs, followedBy}
 use Rattle.cues.specs.declared.cue.Cue.the-variants as cue
-use Rattle.cues.specs.declared.checked.Checked.{Checked}
-use Rattle.cues.specs.declared.checked.Checked.the-variants.{Fits}
-use Rattle.cues.specs.declared.lookup.CueAt.{CueAt}
-use Rattle.cues.specs.declared.lookup.CueAt.the-variants as found
-use Rattle.cues.specs.declared.index.End.{End}
-use Rattle.cues.specs.declared.index.End.the-variants as end
-use Rattle.cues.specs.declared.index.Indexed.the-variants.{Written}
+use Rattle.results.specs.declared.Checked.{Checked}
+use Rattle.results.specs.declared.Checked.the-variants.{Fits}
+use Rattle.results.specs.declared.CueAt.{CueAt}
+use Rattle.results.specs.declared.CueAt.the-variants as found
+use Rattle.results.specs.declared.End.{End}
+use Rattle.results.specs.declared.Indexed.the-variants.{Written}
 
 -- ---- a cut
 
--- the index with more bytes, by the index without them: "writing stops at the first frame not accepted"; where none was refused, what was
--- not read is indexed with them
-abbrev pub continuedIndex : ℕ → List ℕ → List ℕ → Index → Index
-continuedIndex base l more (index written at end.Whole) = withEntry written (indexOf at (drop (at - base) l ++ more))
-continuedIndex base l more (index written at end.Waiting) = withEntry written (indexOf at (drop (at - base) l ++ more))
-continuedIndex base l more (index written at (end.Refused k)) = index written at (end.Refused k)
-
--- an index is written in one go or in two
+-- an index is written in one go or in two: "writing stops at the first frame not accepted"; where none was refused, what was not read is
+-- indexed with the bytes that come
 abbrev pub CutIndex : Type 0
-CutIndex = (base : ℕ) (l more : List ℕ) → indexOf base (l ++ more) ≡ continuedIndex base l more (indexOf base l)
+CutIndex = CutAnywhere indexing
+
+-- the bytes that were read have the same index, and are whole
+abbrev pub IndexReadIsWhole : Type 0
+IndexReadIsWhole = ReadIsWhole indexing
 
 -- ---- "files are read through buffers of at most 64 KiB"
 
@@ -45,53 +43,19 @@ pub record WritesIndex (base : ℕ) (l w : List ℕ) (n used : ℕ) (why : End) 
   pub meets : (out : List ℕ) → length l ≤ longest → length w ≤ length out
       → Indexes l base out (Written n used why) (w ++ drop (length w) out)
 
--- why a recording's index goes no further, where these bytes of it are left: "Waiting counts so"
-abbrev pub endWith : List ℕ → End
-endWith [] = end.Whole
-endWith (x ∷ kept) = end.Waiting
-
--- what a writer meets that repeats the step: before it `base` bytes of the recording were consumed, and it holds what was kept. It adds the
--- next portion, with which a buffer is at most 65,535 bytes, has an output with room, and keeps the bytes from `used` on. The last index is
--- what all steps together write, and where and why they stop
-pub data Buffered : ℕ → List ℕ → List (List ℕ) → Index → Type 0 where
-  -- there is no portion more
-  done : {base : ℕ} {kept : List ℕ} → Buffered base kept [] (index [] base (endWith kept))
-  -- the step writes the records of some frames
-  writes : {base n used : ℕ} {kept portion w : List ℕ} {later : List (List ℕ)} {why : End} {rest : Index}
-      → WritesIndex base (kept ++ portion) w n used why → MayContinue why → Buffered (base + used) (drop used (kept ++ portion)) later rest
-      → Buffered base kept (portion ∷ later) (withEntry w rest)
-  -- the step meets a refused frame, and so does the index of the whole: what came later is not read
-  ends : {base n used : ℕ} {kept portion w : List ℕ} {later : List (List ℕ)} {k : Refusal}
-      → WritesIndex base (kept ++ portion) w n used (end.Refused k)
-      → Buffered base kept (portion ∷ later) (index w (base + used) (end.Refused k))
+-- a writer repeats this step: its buffer is at most 65,535 bytes, and it has an output with room
+abbrev pub WritingStep : Stepping (List ℕ)
+WritingStep base l written used why = (n : ℕ) × WritesIndex base l written n used why
 
 -- indexing a recording through any row of buffers, each holding the unread remainder and what follows, is the index of the whole
 abbrev pub AnyBuffers : Type 0
-AnyBuffers =
-    (portions : List (List ℕ)) → length (joinedBytes portions) ≤ longestRecording
-    → Buffered 0 [] portions (indexOf 0 (joinedBytes portions))
+AnyBuffers = AnyWalk indexing WritingStep longestRecording
 
 -- ---- a program that walks over a recording
 
--- it stops at a refused frame, and else with the last portion
-abbrev pub WalkStops : List (List ℕ) → End → Type 0
-WalkStops [] why = Unit {0}
-WalkStops (portion ∷ later) why = MayContinue why → ⊥
-
--- what a program meets that repeats the step, with any outputs: its buffer is what it kept and the next portion; it takes the first records
--- of the output for those that were written. The last index is what it writes, and where and why it says that it stopped
-pub data Walk : ℕ → List ℕ → List (List ℕ) → Index → Type 0 where
-  reads-on : {base n used : ℕ} {kept portion out after : List ℕ} {later : List (List ℕ)} {why : End} {rest : Index}
-      → Indexes (kept ++ portion) base out (Written n used why) after → MayContinue why
-      → Walk (base + used) (drop used (kept ++ portion)) later rest
-      → Walk base kept (portion ∷ later) (withEntry (take (entrySize * n) after) rest)
-  stops : {base n used : ℕ} {kept portion out after : List ℕ} {later : List (List ℕ)} {why : End}
-      → Indexes (kept ++ portion) base out (Written n used why) after → WalkStops later why
-      → Walk base kept (portion ∷ later) (index (take (entrySize * n) after) (base + used) why)
-
--- every such walk writes the index of the whole recording
+-- every walk by the step that writes an index, with any outputs, writes the index of the whole recording
 abbrev pub EveryWalk : Type 0
-EveryWalk = (portions : List (List ℕ)) (i : Index) → Walk 0 [] portions i → i ≡ indexOf 0 (joinedBytes portions)
+EveryWalk = walks.EveryWalk indexing IndexStep
 
 -- ---- a program that checks an index
 
@@ -110,6 +74,13 @@ checkedInParts (part ∷ later) given =
 -- every such check says what the check of all says
 abbrev pub EveryCheck : Type 0
 EveryCheck = (parts : List (List ℕ)) (given : List ℕ) → WholeRecords parts → checkedInParts parts given ≡ compared (joinedBytes parts) given
+
+-- a walk over a recording, whose records are checked part by part against a given index, answers as the check of all does: with 25 and the
+-- number of the first record that differs, too
+abbrev pub WalkChecks : Type 0
+WalkChecks =
+    (portions parts : List (List ℕ)) (i : Index) (given : List ℕ) → Walk indexing IndexStep 0 [] portions parts i
+    → checkedInParts parts given ≡ checkedAs (joinedBytes portions) given
 
 -- ---- where the cues lie
 

@@ -21,7 +21,7 @@ field n =
     (cond (eqb n 20) Padding Head)))
 
 -- the refusal of a number and an offset
-which : ℕ → ℕ → Refusal
+pub which : ℕ → ℕ → Refusal
 which n at =
     cond (eqb n 1) TooLong
     (cond (eqb n 2) (Unreadable Empty)
@@ -39,7 +39,8 @@ which n at =
     (cond (eqb n 15) BytesLeft
     (cond (eqb n 16) OddLength (Unreadable (Short (field n) at))))))))))))))))
 
-which-is : (r : Refusal) → which (numberOf r) (offsetOf r) ≡ r
+-- it is the one that has them
+pub which-is : (r : Refusal) → which (numberOf r) (offsetOf r) ≡ r
 unfolding which field
 which-is TooLong = refl
 which-is (Unreadable Empty) = refl
@@ -66,7 +67,8 @@ which-is OddLength = refl
 pub number-tells : (r s : Refusal) → numberOf r ≡ numberOf s → offsetOf r ≡ offsetOf s → r ≡ s
 number-tells r s e o = sym (which-is r) ∙ ap (λ (n : ℕ). which n (offsetOf r)) e ∙ ap (which (numberOf s)) o ∙ which-is s
 
-no-offset : (r : Refusal) → numberOf r ≤ 16 → offsetOf r ≡ 0
+-- a refusal with a number up to 16 has no offset
+pub no-offset : (r : Refusal) → numberOf r ≤ 16 → offsetOf r ≡ 0
 no-offset TooLong h = refl
 no-offset (Unreadable Empty) h = refl
 no-offset (Unreadable (Short Address at)) h = absurd (omega arith)

@@ -81,15 +81,42 @@ scanning-start tags l pos =
     let z : pos - pos ≡ 0 = omega arith in
     record { whole = rw z (sym (more-none (scan tags l pos 0))); ends = refl; past = omega arith; few = omega arith; clean = omega arith }
 
-module _ {tags l : List ℕ} {pos : ℕ} {ts m : List ℕ} {at n dirt : ℕ} (w : Scanning tags l pos ts m at n dirt) where
+-- where no tag is left, what was read is all
+pub scanning-end : {tags l : List ℕ} {pos : ℕ} {ts m : List ℕ} {at n dirt : ℕ} → Scanning tags l pos ts m at n dirt → length ts ≤ 0
+    → Used (at - pos) dirt ≡ scan tags l pos 0
+scanning-end {tags} {l} {pos} {ts} {m} {at} {n} {dirt} w h =
+    let z : at - pos + 0 ≡ at - pos = omega arith in
+    let y : dirt + 0 ≡ dirt = omega arith in
+    sym (w .whole ∙ ap (moreUsed (at - pos) dirt) (scan-end ts m at n h) ∙ rw (z, y))
+
+-- a turn: a tag is left, and its sort is found
+pub record Forward : Type 0 where
+  pub tags : List ℕ
+  pub input : List ℕ
+  pub pos : ℕ
+  pub left : List ℕ
+  pub rest : List ℕ
+  pub at : ℕ
+  pub waiting : ℕ
+  pub dirt : ℕ
+  pub so-far : Scanning tags input pos left rest at waiting dirt
+  pub more : 0 < length left
+  pub sort : Sort
+  pub sort-found : sort ≡ sortOf (getD left 0 0)
+
+module _ (t : Forward) where
+  open Forward t using (tags, input as l, pos, left as ts, rest as m, at, waiting as n, dirt, so-far as w, more as h, sort)
+
+  sort-is : {x : Sort} → sort ≡ x → x ≡ sortOf (getD ts 0 0)
+  sort-is e = sym e ∙ t .sort-found
+
   -- one tag less is left, and n′ arrays are open
-  next : (n′ : ℕ) → 0 < length ts → n′ ≤ n + 1 → scan ts m at n ≡ scan (drop 1 ts) m at n′
+  next : (n′ : ℕ) → n′ ≤ n + 1 → scan ts m at n ≡ scan (drop 1 ts) m at n′
       → Scanning tags l pos (take (length ts - 1) (drop 1 ts)) m at n′ dirt
-  next n′ h k e =
+  next n′ k e =
       rw (tail ts 1)
       (record {
-        whole = w .whole
-            ∙ ap (moreUsed (at - pos) dirt) e;
+        whole = w .whole ∙ ap (moreUsed (at - pos) dirt) e;
         ends = w .ends;
         past = w .past;
         few = omega (arith, length-drop 1 ts, w .few);
@@ -97,49 +124,46 @@ module _ {tags l : List ℕ} {pos : ℕ} {ts m : List ℕ} {at n dirt : ℕ} (w 
       })
 
   -- a tag that opens: one array more is open
-  pub scanning-opens : 0 < length ts → Opens ≡ sortOf (getD ts 0 0)
-      → Scanning tags l pos (take (length ts - 1) (drop 1 ts)) m at (n + 1) dirt
-  scanning-opens h e = next (n + 1) h (omega arith) (scan-opens ts m at n h e)
+  pub scanning-opens : sort ≡ Opens → Scanning tags l pos (take (length ts - 1) (drop 1 ts)) m at (n + 1) dirt
+  scanning-opens e = next (n + 1) (omega arith) (scan-opens ts m at n h (sort-is e))
 
   -- a tag that closes: one array fewer is open
-  pub scanning-closes : 0 < length ts → Closes ≡ sortOf (getD ts 0 0) → (n ≡ 0 → ⊥)
-      → Scanning tags l pos (take (length ts - 1) (drop 1 ts)) m at (n - 1) dirt
-  scanning-closes h e z = next (n - 1) h (omega arith) (scan-closes ts m at n h e z)
-
-  -- a tag whose argument is given: its bytes are read too
-  pub scanning-given : {class : Class} {used dirty : ℕ} → 0 < length ts → Leaf class ≡ sortOf (getD ts 0 0)
-      → Used used dirty ≡ usedOf class m (readArg (getD ts 0 0) class 0 m at)
-      → Scanning tags l pos (take (length ts - 1) (drop 1 ts)) (take (length m - used) (drop used m)) (at + used) n (dirt + dirty)
-  scanning-given {class} {used} {dirty} h e g =
-      let sum : at - pos + used ≡ at + used - pos = omega (arith, w .past) in
-      let within = used-within (getD ts 0 0) class 0 m at g in
-      rw (tail ts 1, tail m used)
-      (record {
-        whole =
-            w .whole ∙ ap (moreUsed (at - pos) dirt) (scan-given ts m at n h e g)
-            ∙ more-more (at - pos) dirt used dirty (scan (drop 1 ts) (drop used m) (at + used) n) ∙ rw sum;
-        ends = omega (arith, within, length-drop used m, w .ends);
-        past = omega (arith, w .past);
-        few = omega (arith, length-drop 1 ts, w .few);
-        clean = omega (arith, within, w .past, w .clean);
-      })
+  pub scanning-closes : sort ≡ Closes → (n ≡ 0 → ⊥) → Scanning tags l pos (take (length ts - 1) (drop 1 ts)) m at (n - 1) dirt
+  scanning-closes e z = next (n - 1) (omega arith) (scan-closes ts m at n h (sort-is e) z)
 
   -- a tag that closes where no array is open is refused
-  pub scanning-none : 0 < length ts → Closes ≡ sortOf (getD ts 0 0) → n ≡ 0 → Refused NotOpen ≡ scan tags l pos 0
-  scanning-none h e z = sym (w .whole ∙ ap (moreUsed (at - pos) dirt) (scan-none ts m at n h e z))
+  pub scanning-none : sort ≡ Closes → n ≡ 0 → Refused NotOpen ≡ scan tags l pos 0
+  scanning-none e z = sym (w .whole ∙ ap (moreUsed (at - pos) dirt) (scan-none ts m at n h (sort-is e) z))
 
-  -- a tag whose argument is refused
-  pub scanning-refused : {class : Class} {fault : Fault} → 0 < length ts → Leaf class ≡ sortOf (getD ts 0 0)
-      → Refused fault ≡ usedOf class m (readArg (getD ts 0 0) class 0 m at)
-      → Refused fault ≡ scan tags l pos 0
-  scanning-refused h e g = sym (w .whole ∙ ap (moreUsed (at - pos) dirt) (scan-refused ts m at n h e g))
+  -- a tag with an argument, of which x is passed
+  module _ (class : Class) {x : Scanned} (g : x ≡ usedOf class m (readArg (getD ts 0 0) class 0 m at)) where
+    -- what it takes, and its dirt, are no more than there is
+    pub data-within : {used dirty : ℕ} → x ≡ Used used dirty
+        → (used ≤ length m) × (dirty ≤ used) × (at + used ≤ pos + length l) × (dirt + dirty ≤ length l)
+    data-within {used} {dirty} u =
+        let v = used-within (getD ts 0 0) class 0 m at (sym u ∙ g) in
+        (v .0, v .1, omega (arith, w .ends), omega (arith, w .ends, w .past, w .clean))
 
-  -- where no tag is left, what was read is all
-  pub scanning-end : length ts ≤ 0 → Used (at - pos) dirt ≡ scan tags l pos 0
-  scanning-end h =
-      let z : at - pos + 0 ≡ at - pos = omega arith in
-      let y : dirt + 0 ≡ dirt = omega arith in
-      sym (w .whole ∙ ap (moreUsed (at - pos) dirt) (scan-end ts m at n h) ∙ rw (z, y))
+    -- its bytes are read too
+    pub scanning-given : {used dirty : ℕ} → sort ≡ Leaf class → x ≡ Used used dirty
+        → Scanning tags l pos (take (length ts - 1) (drop 1 ts)) (take (length m - used) (drop used m)) (at + used) n (dirt + dirty)
+    scanning-given {used} {dirty} e u =
+        let sum : at - pos + used ≡ at + used - pos = omega (arith, w .past) in
+        let within = data-within u in
+        rw (tail ts 1, tail m used)
+        (record {
+          whole =
+              w .whole ∙ ap (moreUsed (at - pos) dirt) (scan-given ts m at n h (sort-is e) (sym u ∙ g))
+              ∙ more-more (at - pos) dirt used dirty (scan (drop 1 ts) (drop used m) (at + used) n) ∙ rw sum;
+          ends = omega (arith, within, length-drop used m, w .ends);
+          past = omega (arith, w .past);
+          few = omega (arith, length-drop 1 ts, w .few);
+          clean = omega (arith, within, w .past, w .clean);
+        })
+
+    -- it is refused
+    pub scanning-refused : {fault : Fault} → sort ≡ Leaf class → x ≡ Refused fault → Refused fault ≡ scan tags l pos 0
+    scanning-refused e u = sym (w .whole ∙ ap (moreUsed (at - pos) dirt) (scan-refused ts m at n h (sort-is e) (sym u ∙ g)))
 
 -- ---- backward
 
@@ -167,22 +191,36 @@ pub looking-start : (tags : List ℕ) → Looking tags (length tags) 0 0 0
 unfolding back
 looking-start tags = record { inside = omega arith; few = omega arith; whole = rw (drop-length tags) }
 
-module _ {tags : List ℕ} {j n c d : ℕ} (w : Looking tags j n c d) (h : 0 < j) where
-  back-turn : {s : Sort} → s ≡ sortOf (getD tags (j - 1) 0) → back (drop (j - 1) tags) ≡ tagBefore s (Uncut n c d)
+-- a turn: a tag is left before j, and its sort is found
+pub record Backward : Type 0 where
+  pub tags : List ℕ
+  pub at : ℕ
+  pub closed : ℕ
+  pub count : ℕ
+  pub depth : ℕ
+  pub so-far : Looking tags at closed count depth
+  pub more : 0 < at
+  pub sort : Sort
+  pub sort-found : sort ≡ sortOf (getD tags (at - 1) 0)
+
+module _ (t : Backward) where
+  open Backward t using (tags, at as j, closed as n, count as c, depth as d, so-far as w, more as h, sort)
+
+  back-turn : {s : Sort} → sort ≡ s → back (drop (j - 1) tags) ≡ tagBefore s (Uncut n c d)
   unfolding back
-  back-turn e =
+  back-turn {s} e =
+      let found : s ≡ sortOf (getD tags (j - 1) 0) = sym e ∙ t .sort-found in
       let up : j ≡ suc (j - 1) = omega arith in
       let later : back (drop (suc (j - 1)) tags) ≡ Uncut n c d = subst (λ (x : ℕ). back (drop x tags) ≡ Uncut n c d) up (w .whole) in
-      rw (drop-cons tags (j - 1) 0 (omega (arith, w .inside)), ← e, later)
+      rw (drop-cons tags (j - 1) 0 (omega (arith, w .inside)), ← found, later)
 
   -- one tag more was looked at
-  earlier : {s : Sort} (n′ c′ d′ : ℕ) → s ≡ sortOf (getD tags (j - 1) 0) → n′ + c′ ≤ n + c + 1
+  earlier : {s : Sort} (n′ c′ d′ : ℕ) → sort ≡ s → n′ + c′ ≤ n + c + 1
       → tagBefore s (Uncut n c d) ≡ Uncut n′ c′ d′ → Looking tags (j - 1) n′ c′ d′
   earlier n′ c′ d′ e k b = record { inside = omega (arith, w .inside); few = omega (arith, w .few); whole = back-turn e ∙ b }
 
   -- a tag that opens an array which is closed later: one record more, and as deep as the arrays that are yet to be opened
-  pub looking-opens : {d′ : ℕ} → Opens ≡ sortOf (getD tags (j - 1) 0) → (n ≡ 0 → ⊥) → d′ ≡ max d n
-      → Looking tags (j - 1) (n - 1) (c + 1) d′
+  pub looking-opens : {d′ : ℕ} → sort ≡ Opens → (n ≡ 0 → ⊥) → d′ ≡ max d n → Looking tags (j - 1) (n - 1) (c + 1) d′
   looking-opens {d′} e z m =
       let some : n ≡ suc (n - 1) = omega arith in
       earlier (n - 1) (c + 1) d′ e (omega arith)
@@ -190,15 +228,15 @@ module _ {tags : List ℕ} {j n c d : ℕ} (w : Looking tags j n c d) (h : 0 < j
       ∙ ap (λ (k : ℕ). Uncut (n - 1) (suc c) (max d k)) (sym some) ∙ rw (add-one c, m))
 
   -- a tag that closes: one array more
-  pub looking-closes : Closes ≡ sortOf (getD tags (j - 1) 0) → Looking tags (j - 1) (n + 1) c d
+  pub looking-closes : sort ≡ Closes → Looking tags (j - 1) (n + 1) c d
   looking-closes e = earlier (n + 1) c d e (omega arith) (rw (add-one n))
 
   -- any other tag: one record more
-  pub looking-leaf : {class : Class} → Leaf class ≡ sortOf (getD tags (j - 1) 0) → Looking tags (j - 1) n (c + 1) d
+  pub looking-leaf : {class : Class} → sort ≡ Leaf class → Looking tags (j - 1) n (c + 1) d
   looking-leaf e = earlier n (c + 1) d e (omega arith) (rw (add-one c))
 
   -- a tag that opens an array which stays open: the tags are cut after it
-  pub looking-cut : Opens ≡ sortOf (getD tags (j - 1) 0) → n ≡ 0 → Cut (j - 1 + 1) c d ≡ back tags
+  pub looking-cut : sort ≡ Opens → n ≡ 0 → Cut (j - 1 + 1) c d ≡ back tags
   looking-cut e z = sym (cut-up (j - 1) tags 1 c d (omega (arith, w .inside)) (back-turn e ∙ rw z))
 
 -- where all tags were looked at, they are not cut

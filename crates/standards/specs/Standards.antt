@@ -12,11 +12,11 @@ use Rattle.node.specs.Tags.{messageKind}
 use Rattle.node.specs.declared.record.Item.{Item}
 use Rattle.framing.specs.Framing.{Whole, trees, udp, tcp}
 use Rattle.answering.specs.Limits.{decoded}
-use Rattle.answering.specs.declared.Decoded.the-variants as decoder
+use Rattle.results.specs.declared.Decoded.the-variants as decoder
 use Rattle.table.specs.Tree.{IsTree}
 use Rattle.encoder.specs.Outcome.{Outcome, Encodes, unframed, prefixed}
-use Rattle.encoder.specs.declared.Encoded.the-variants as encoder
-use Rattle.answers.specs.Demands.{tableAfter, answerTo}
+use Rattle.results.specs.declared.Encoded.the-variants as encoder
+use Rattle.calls.specs.Demands.{tableAfter, answerTo}
 use Rattle.osc10.specs.Words.{Bytes, Clean}
 use Rattle.osc10.specs.Osc10.{Packet, Allowed, deep, oscInt32, Spells, StandsFor, Spelled}
 use Rattle.osc10.specs.Strict.{Strict, StrictTree}

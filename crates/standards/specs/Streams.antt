@@ -12,7 +12,7 @@ use Rattle.node.specs.Records.{capacity}
 use Rattle.node.specs.declared.record.Item.{Item}
 use Rattle.framing.specs.Framing.{trees, tcp2, tcpVec2}
 use Rattle.answering.specs.Limits.{decoded}
-use Rattle.answering.specs.declared.Decoded.the-variants as decoder
+use Rattle.results.specs.declared.Decoded.the-variants as decoder
 use Rattle.table.specs.Tree.{Obeys, FieldsFit}
 use Rattle.writers.specs.Osc.{writeElement, writePacket}
 use Rattle.encoder.specs.Outcome.{Outcome, Encodes, framedBy}

@@ -9,12 +9,12 @@ use Rattle.node.specs.Forest.{Forest, nil, node, depth}
 use Rattle.node.specs.Records.{endAt, itemAt, capacity}
 use Rattle.node.specs.declared.record.Item.{Item}
 use Rattle.framing.specs.Framing.{Whole, udp}
-use Rattle.answering.specs.declared.Decoded.the-variants.{Packets}
+use Rattle.results.specs.declared.Decoded.the-variants.{Packets}
 use Rattle.table.specs.Tree.{IsTree}
 use Rattle.writers.specs.Osc.{writePacket}
 use Rattle.encoder.specs.Outcome.{Outcome, Encodes, unframed}
-use Rattle.encoder.specs.declared.Encoded.the-variants.{Written}
-use Rattle.answers.specs.Demands.{tableAfter, answerTo}
+use Rattle.results.specs.declared.Encoded.the-variants.{Written}
+use Rattle.calls.specs.Demands.{tableAfter, answerTo}
 use Rattle.osc10.specs.Words.{Bytes, bytesNamed, Clean}
 use Rattle.given.specs.Encodable.{rangedKind}
 

@@ -17,10 +17,10 @@ use Rattle.node.specs.declared.tags.Sort.the-variants.{Opens, Closes, Leaf}
 use Rattle.table.specs.Formed.{rangeOk, allowed}
 use Rattle.table.specs.Tree.{Spans, Obeys}
 use Rattle.table.proofs.Spanned.{no-more, spans-unique}
-use Rattle.writers.specs.Osc.{writeTags, writeData}
-use Rattle.writers.specs.CodeWriters.{longestElement}
+use Rattle.writers.specs.Osc.{writeTags, writeData, longestElement}
 use Rattle.writers.proofs.Classed.{opens, opens-only, tags-none, data-none, tags-is, tags-array, data-is}
-use Rattle.survey.specs.CodeSurvey.{placed, leafOk, leafContent, unsure, argumentLength, InTable, SurveyedRow}
+use Rattle.survey.specs.CodeSurvey.{placed, leafOk, leafContent, argumentLength, InTable, SurveyedRow}
+use Rattle.survey.specs.Surveys.{unsure}
 use Rattle.survey.specs.CodeSurvey.{SurveysArguments}
 use Rattle.survey.specs.declared.Tally.{Tally}
 use Rattle.survey.proofs.Leaf.{no-packet, other-kind, leaf-empty, leaf-sound, leaf-complete, leaf-data, leaf-tag}
@@ -75,9 +75,24 @@ array-message : (k : ℕ) → allowed arrayKind k ≡ allowed messageKind k
 unfolding allowed
 array-message k = refl
 
--- what was read of a record, and its sort
-module _ {t : List ℕ} (source : List ℕ) {at : ℕ} (levels : ℕ) (p : InTable t at) {e : ℕ} {item : Item} {sort : Sort}
-    (ie : item ≡ itemAt t at) (ee : e ≡ endAt t at) (se : sort ≡ sortOf (item .kind)) where
+-- what was read of a record: its item, its end and its sort
+pub record Reading : Type 0 where
+  pub table : List ℕ
+  pub source : List ℕ
+  pub at : ℕ
+  pub levels : ℕ
+  pub in-table : InTable table at
+  pub end : ℕ
+  pub item : Item
+  pub sort : Sort
+  pub end-read : end ≡ endAt table at
+  pub item-read : item ≡ itemAt table at
+  pub sort-read : sort ≡ sortOf (item .kind)
+
+module _ (r : Reading) where
+  open Reading r using (table as t, source, at, levels, in-table as p, end as e, item, sort)
+  open Reading r using (end-read as ee, item-read as ie, sort-read as se)
+
   sort-is : {x : Sort} → sort ≡ x → sortOf (kindAt t at) ≡ x
   sort-is q = sym (se ∙ ap (λ (i : Item). sortOf (i .kind)) ie) ∙ q
 

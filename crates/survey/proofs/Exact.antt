@@ -3,8 +3,8 @@ use mathlib.Core.Path.{_≡_, refl, ap, _∙_}
 use Prim.Native.Nat.{ℕ, _+_, _≤_, _<_}
 use native.Mathlib.Omega.{arith}
 use Rattle.node.specs.Forest.{Forest}
-use Rattle.writers.specs.CodeWriters.{longestElement}
-use Rattle.survey.specs.CodeSurvey.{Exactly}
+use Rattle.writers.specs.Osc.{longestElement}
+use Rattle.survey.specs.Surveys.{Exactly}
 
 -- where no right forest is short enough, an answer over the limit is exact
 pub no-length : {Right : Forest → Type 0} {lengthOf : Forest → ℕ} {r : ℕ} → longestElement < r

@@ -10,7 +10,7 @@ use Rattle.node.specs.Tags.{sortOf, classOf}
 use Rattle.strings.specs.Atomic.{oscString}
 use Rattle.writers.specs.Osc.{writeData, writeTags, writeMessage, writePacket}
 use Rattle.table.proofs.Examples as example
-use Rattle.survey.specs.CodeSurvey.{unsure, Surveys}
+use Rattle.survey.specs.Surveys.{unsure, Surveys}
 use Rattle.survey.proofs.Packets.{no-tree}
 use Rattle.survey.proofs.Only.{survey-only}
 

@@ -10,8 +10,9 @@ use Rattle.node.specs.Forest.{Forest}
 use Rattle.node.specs.Records.{endAt}
 use Rattle.table.specs.Tree.{Spans}
 use Rattle.table.proofs.Spanned.{spans-unique}
-use Rattle.writers.specs.CodeWriters.{packetAt, longestElement}
-use Rattle.survey.specs.CodeSurvey.{ShallowTree, Surveys}
+use Rattle.writers.specs.CodeWriters.{packetAt}
+use Rattle.writers.specs.Osc.{longestElement}
+use Rattle.survey.specs.Surveys.{ShallowTree, Surveys}
 
 -- a table has one tree, or none
 tree-only : {t : List ℕ} {count : ℕ} {source : List ℕ} (F G : Forest) → ShallowTree t count source F → ShallowTree t count source G → F ≡ G

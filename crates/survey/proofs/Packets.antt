@@ -21,13 +21,14 @@ use Rattle.table.proofs.Theorem.{tree-formed}
 use Rattle.strings.specs.Atomic.{oscString}
 use Rattle.strings.specs.CodeStrings.{stringLength}
 use Rattle.strings.proofs.Lengths.{length-string}
-use Rattle.writers.specs.Osc.{writeTags, writeData, writePacket, writeElements}
-use Rattle.writers.specs.CodeWriters.{bundleHead, longestElement}
+use Rattle.writers.specs.Osc.{writeTags, writeData, writePacket, writeElements, longestElement}
+use Rattle.writers.specs.CodeWriters.{bundleHead}
 use Rattle.writers.proofs.Lengths.{length-message, length-bundle}
 use Rattle.writers.proofs.Classed.{elements-none}
 use Rattle.writers.proofs.Classed.{elements-is, message-is, bundle-is}
-use Rattle.survey.specs.CodeSurvey.{placed, unsure, InTable, SurveyedRow}
-use Rattle.survey.specs.CodeSurvey.{SurveysArguments, SurveysPackets, Surveys}
+use Rattle.survey.specs.CodeSurvey.{placed, InTable, SurveyedRow}
+use Rattle.survey.specs.CodeSurvey.{SurveysArguments, SurveysPackets}
+use Rattle.survey.specs.Surveys.{unsure, Surveys}
 use Rattle.survey.specs.declared.Tally.{Tally}
 use Rattle.survey.proofs.Exact.{no-length, exact-around}
 use Rattle.survey.proofs.Rows.{Placed, SurveyedNode, row-only, only-node, row-node, carries-inside}

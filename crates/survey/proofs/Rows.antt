@@ -16,8 +16,9 @@ use Rattle.node.specs.declared.record.Item.{Item}
 use Rattle.table.specs.Formed.{rangeOk, allowed}
 use Rattle.table.specs.Tree.{Spans, Obeys}
 use Rattle.table.proofs.Spanned.{cut, cut-parts, no-more, spans-unique}
-use Rattle.writers.specs.CodeWriters.{longestElement}
-use Rattle.survey.specs.CodeSurvey.{placed, SurveyedRow, Exactly}
+use Rattle.writers.specs.Osc.{longestElement}
+use Rattle.survey.specs.CodeSurvey.{placed, SurveyedRow}
+use Rattle.survey.specs.Surveys.{Exactly}
 use Rattle.survey.proofs.Exact.{Carries, carries-none, carries-both}
 
 -- ---- the place of a record

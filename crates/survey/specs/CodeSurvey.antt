@@ -6,21 +6,20 @@ use mathlib.Core.List.{List}
 use Prim.Native.Nat.{ℕ, _+_, _*_, _≤_, _<_}
 use lib.Dec.{eqb, leb, ltb}
 use lib.ListN.{length}
-use Rattle.node.specs.Forest.{Forest, nil, node, depth}
+use Rattle.node.specs.Forest.{Forest, depth}
 use Rattle.node.specs.Tags.{messageKind, bundleKind}
 use Rattle.node.specs.Records.{recordSize, mostRecords, zerosAt, endAt, itemAt}
 use Rattle.node.specs.Rules.{leafRules}
 use Rattle.node.specs.declared.tags.Class.{Class}
 use Rattle.node.specs.declared.tags.Class.the-variants.{Four, Eight, Bare, Text, Blob, Scalar, Unknown}
-use Rattle.wire.specs.Limits.{deepest}
 use Rattle.wire.specs.Part.{inside}
 use Rattle.table.specs.Formed.{textOk}
-use Rattle.table.specs.Tree.{Spans, Obeys, IsTree}
+use Rattle.table.specs.Tree.{Spans, Obeys}
 use Rattle.strings.specs.CodeStrings.{stringLength, blobLength}
-use Rattle.writers.specs.Osc.{writeTags, writeData, writeElements}
-use Rattle.writers.specs.CodeWriters.{packetAt, longestElement}
+use Rattle.writers.specs.Osc.{writeTags, writeData, writeElements, longestElement}
 use Rattle.node.specs.declared.record.Item.{Item}
 use Rattle.survey.specs.declared.Tally.{Tally}
+use Rattle.survey.specs.Surveys.{unsure, Exactly}
 
 -- ---- a record by itself
 
@@ -59,10 +58,6 @@ argumentLength Blob b = blobLength b
 argumentLength Scalar b = 4
 argumentLength Unknown b = 0
 
--- what is answered in the place of a length where the reading is not sure
-abbrev pub unsure : ℕ
-unsure = longestElement + 1
-
 -- what is answered of an argument that is no array
 abbrev pub leafContent : List ℕ → Class → Item → ℕ
 leafContent source class item = cond (leafOk source class item) (argumentLength class (item .b)) unsure
@@ -77,17 +72,6 @@ pub record SurveyedRow (t source : List ℕ) (container lo hi levels : ℕ) (F :
   pub zeros : (i : ℕ) → lo ≤ i → i < hi → zerosAt t i ≡ 0
   pub shallow : depth F ≤ levels
 
--- there is a right forest, and this is its length
-pub record Sized (Right : Forest → Type 0) (lengthOf : Forest → ℕ) (n : ℕ) : Type 0 where
-  pub forest : Forest
-  pub right : Right forest
-  pub sized : lengthOf forest ≡ n
-
--- a reading that is sure, and answers at most 65,539, exactly where there is a right forest that is no longer; then it answers its length
-pub record Exactly (Right : Forest → Type 0) (lengthOf : Forest → ℕ) (r : ℕ) : Type 0 where
-  pub sure : r ≤ longestElement → Sized Right lengthOf r
-  pub only : (F : Forest) → Right F → lengthOf F ≤ longestElement → r ≤ longestElement
-
 -- a reading of the records lo to hi - 1 as arguments: their bytes of data exactly, and where it is sure of these, their tags
 pub record SurveysArguments (t source : List ℕ) (lo hi levels : ℕ) (r : Tally) : Type 0 where
   pub exact : Exactly (SurveyedRow t source messageKind lo hi levels) (λ F. length (writeData source F)) (r .content)
@@ -97,14 +81,3 @@ pub record SurveysArguments (t source : List ℕ) (lo hi levels : ℕ) (r : Tall
 abbrev pub SurveysPackets : List ℕ → List ℕ → ℕ → ℕ → ℕ → ℕ → Type 0
 SurveysPackets t source lo hi levels r =
     Exactly (SurveyedRow t source bundleKind lo hi levels) (λ F. length (writeElements source F)) r
-
--- the table is well formed (refusal 11), with this content of its first record, and at most 64 deep (refusal 9)
-pub record ShallowTree (t : List ℕ) (count : ℕ) (source : List ℕ) (inside : Forest) : Type 0 where
-  pub tree : IsTree t count source (itemAt t 0) inside
-  pub shallow : depth (node (itemAt t 0) inside nil) ≤ deepest
-
--- the contract of `survey`: it is sure exactly if the table is well formed, at most 64 deep and its packet at most 65,535 bytes, and then
--- answers the packet's length as an element, its size counted; of any other table it answers `unsure` (Ticket 4)
-pub record Surveys (t : List ℕ) (count : ℕ) (source : List ℕ) (r : ℕ) : Type 0 where
-  pub exact : Exactly (ShallowTree t count source) (λ inside. 4 + length (packetAt source t 0 inside)) r
-  pub most : r ≤ unsure

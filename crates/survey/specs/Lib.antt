@@ -1,1 +1,2 @@
 pub mod CodeSurvey
+pub mod Surveys

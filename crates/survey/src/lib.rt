@@ -29,8 +29,9 @@ ghost use Prim.Native.Nat.{_+_, _-_, _*_, _^_, _≤_, _<_};
 ghost use lib.ListN.{length};
 ghost use Rattle.node.specs.Tags.{messageKind};
 ghost use Rattle.node.specs.Records.{recordSize, mostRecords, kindAt, endAt, capacity};
-ghost use Rattle.survey.specs.CodeSurvey.{placed, InTable, leafOk, leafRange, leafContent, unsure};
-ghost use Rattle.survey.specs.CodeSurvey.{SurveysArguments, SurveysPackets, Surveys};
+ghost use Rattle.survey.specs.CodeSurvey.{placed, InTable, leafOk, leafRange, leafContent};
+ghost use Rattle.survey.specs.CodeSurvey.{SurveysArguments, SurveysPackets};
+ghost use Rattle.survey.specs.Surveys.{unsure, Surveys};
 
 // What is answered in the place of a length where the reading is not sure.
 const UNSURE: usize = LONGEST_ELEMENT + 1;

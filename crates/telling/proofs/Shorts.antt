@@ -13,12 +13,13 @@ use Rattle.io.specs.Digits.{glyph, digits}
 use Rattle.refusal.specs.Refusal.{numberOf, offsetOf}
 use Rattle.refusal.specs.declared.Refusal.{Refusal}
 use Rattle.wire.proofs.Choices.{by-test}
-use Rattle.telling.specs.Ascii.{ascii}
+use Rattle.words.specs.Ascii.{ascii}
 use Rattle.telling.specs.Decimal.{decimalBy, decimalOf, eightOf}
 use Rattle.telling.specs.Forms.{pieceOf, takenBy, filledIn, Says}
-use Rattle.telling.specs.Answers.{refusedForms, refusedLine, refusedWords}
+use Rattle.telling.specs.Refusals.{refusedForms, refusedForm, numberedLine, refusedLine, refusedWords}
 use Rattle.telling.specs.CodePut.{wordsRoom, FrontIs}
-use Rattle.telling.proofs.Tables.{both}
+use Rattle.words.proofs.Tables.{both, besideOf}
+use Rattle.telling.proofs.Tables.{refused-words}
 
 -- a number in decimal
 decimal-short : (k x : ℕ) → length (decimalBy k x) ≤ suc k
@@ -66,10 +67,11 @@ form-short (word ∷ words) p (suc n) = form-short words (both (leb (length (asc
 
 -- so the line of a refusal has room
 refused-short : (r : Refusal) → length (refusedLine r) ≤ wordsRoom
-unfolding refusedLine
+unfolding numberedLine
 refused-short r =
-    let form = ascii (getD refusedForms (numberOf r) "") in
-    omega (arith, filled-short (numberOf r ∷ offsetOf r ∷ []) form, form-short refusedForms refl (numberOf r))
+    let n = numberOf r in
+    let short : length (ascii (refusedForm n)) ≤ 120 = rw (refused-words n) (form-short (besideOf refusedForms) refl n) in
+    omega (arith, filled-short (n ∷ offsetOf r ∷ []) (ascii (refusedForm n)))
 
 -- and where it stands at the front of a slice, its words do too
 pub words-front : (r : Refusal) (out : List ℕ) (n : ℕ) → wordsRoom ≤ length out → Says (refusedLine r) out n
@@ -82,7 +84,3 @@ words-front r out n h s =
       counts = (l, sym (length-take-le (n - 1) out l));
       is = sym (take-take (n - 1) n out (omega arith)) ∙ ap (take (n - 1)) e ∙ ap (λ (m : ℕ). take (m - 1) (refusedLine r)) k;
     }
-
--- the same by another name
-pub front-as : {bs cs out : List ℕ} {r : ℕ} → bs ≡ cs → FrontIs bs out r → FrontIs cs out r
-front-as e w = rw e at w

@@ -1,7 +1,7 @@
 -- The lines of a text, and a table that has a line for each form.
 use mathlib.Core.Path.{_≡_, refl, sym, ap, _∙_}
 use mathlib.Core.Bool.{Bool, true, false, cond, false≢true}
-use mathlib.Core.List.{List, [], _∷_, _++_, append-nil}
+use mathlib.Core.List.{List, [], _∷_, _++_, append-nil, map}
 use Prim.Native.Nat.{ℕ, zero, suc, _+_, _-_, _≤_, _<_}
 use native.Mathlib.Nat.{add-zero}
 use native.Mathlib.Numerals.{add-one}
@@ -12,8 +12,13 @@ use lib.ListN.{length, getD, take, drop, drop-of-length-le}
 use lib.Seq.{drop-cons, drop-drop, drop-append-seam}
 use borrow.Author.Tests.{eq-eqb, ne-eqb}
 use Rattle.wire.proofs.Choices.{by-test}
-use Rattle.telling.specs.Ascii.{ascii}
-use Rattle.telling.specs.CodeTable.{lineOf, lineAt}
+use Rattle.troubles.specs.CodePlaces.{troubles, PlacedAt}
+use Rattle.troubles.specs.declared.Trouble.{Trouble}
+use Rattle.words.specs.Ascii.{ascii}
+use Rattle.words.proofs.Tables.{both, besideOf, paired-number}
+use Rattle.telling.specs.Refusals.{refusedForms, refusedForm}
+use Rattle.telling.specs.Troubles.{troubleForm}
+use Rattle.telling.specs.CodeTable.{troubleForms, lineOf, lineAt}
 
 -- ---- lines
 
@@ -74,10 +79,6 @@ allLines [] = true
 allLines (word ∷ words) = cond (oneLine (ascii word)) (allLines words) false
 
 -- the tests of two, one after the other
-pub both : (x y : Bool) → cond x y false ≡ true → (x ≡ true) × (y ≡ true)
-both true y e = (refl, e)
-both false y e = absurd (false≢true e)
-
 neither : (x y : Bool) → cond x false y ≡ true → (x ≡ false) × (y ≡ true)
 neither true y e = absurd (false≢true e)
 neither false y e = (refl, e)
@@ -100,3 +101,22 @@ word-line (word ∷ words) p zero = first-line (ascii word) (joined words) (both
 word-line (word ∷ words) p (suc n) =
     let q = both (oneLine (ascii word)) (allLines words) p in
     rw (first-line (ascii word) (joined words) (q .0), drop-append-seam (ascii word) (joined words)) (word-line words (q .1) n)
+
+-- the line at a number is that of its refusal
+pub refused-words : (n : ℕ) → refusedForm n ≡ getD (besideOf refusedForms) n ""
+refused-words n = paired-number (λ number. number) "" refusedForms n refl
+
+pub refused-at : (n : ℕ) → lineAt n (joined (besideOf refusedForms)) ≡ ascii (refusedForm n)
+refused-at n = word-line (besideOf refusedForms) refl n ∙ ap ascii (sym (refused-words n))
+
+-- an element of a list, by what is made of each
+mapped-at : {A : Type 0} (f : A → String) (d : A) (l : List A) (n : ℕ) → n < length l → getD (map f l) n "" ≡ f (getD l n d)
+mapped-at f d [] n h = absurd (omega arith)
+mapped-at f d (x ∷ l) zero h = refl
+mapped-at f d (x ∷ l) (suc n) h = mapped-at f d l n (omega arith)
+
+-- the line at the place of a trouble is the trouble's
+pub trouble-at : (t : Trouble) (n : ℕ) → PlacedAt t n → lineAt n (joined troubleForms) ≡ ascii (troubleForm t)
+trouble-at t n at =
+    word-line troubleForms refl n
+    ∙ ap ascii (mapped-at troubleForm _ troubles n (at .within) ∙ ap troubleForm (at .there))

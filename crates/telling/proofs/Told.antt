@@ -85,3 +85,7 @@ says-none out = record
 -- a line by another name
 pub says-as : {bs cs out : List ℕ} {r : ℕ} → bs ≡ cs → Says bs out r → Says cs out r
 says-as e w = rw e at w
+
+-- the line of a case is the line of what is in that case
+pub says-of : {A : Type 0} {v w : A} {bs out : List ℕ} {r : ℕ} (f : A → List ℕ) → v ≡ w → bs ≡ f w → Says bs out r → Says (f v) out r
+says-of f q p s = says-as (p ∙ sym (ap f q)) s

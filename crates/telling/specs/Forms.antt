@@ -7,7 +7,7 @@ use Prim.Native.String.{String}
 use lib.Dec.{eqb}
 use lib.ListN.{length, getD, take, drop}
 use Rattle.io.specs.Counts.{Counts}
-use Rattle.telling.specs.Ascii.{ascii}
+use Rattle.words.specs.Ascii.{ascii}
 use Rattle.telling.specs.Decimal.{decimalOf, eightOf}
 
 -- what a byte of a form stands for: % (37) the next number, $ (36) its eight lowest hexadecimal digits, ~ (126) the text, another itself

@@ -3,11 +3,13 @@ use mathlib.Core.List.{List, [], _∷_}
 use Prim.Native.Nat.{ℕ}
 use Prim.Native.String.{String}
 use Rattle.refusal.specs.Refusal.{numberOf}
-use Rattle.cues.specs.declared.index.End.{End}
-use Rattle.cues.specs.declared.index.End.the-variants as end
-use Rattle.cues.specs.declared.checked.Checked.{Checked}
-use Rattle.cues.specs.declared.checked.Checked.the-variants as checked
+use Rattle.results.specs.Differs.{indexDiffers}
+use Rattle.results.specs.declared.End.{End}
+use Rattle.results.specs.declared.End.the-variants as end
+use Rattle.results.specs.declared.Checked.{Checked}
+use Rattle.results.specs.declared.Checked.the-variants as checked
 use Rattle.telling.specs.Forms.{line}
+use Rattle.telling.specs.Refusals.{numberedLine}
 
 -- an index of a whole recording: its records
 abbrev pub wholeForm : String
@@ -25,10 +27,6 @@ indexRefusedForm = "index: % records, stopped at %: refused %\n"
 abbrev pub fitsForm : String
 fitsForm = "index fits: % records\n"
 
--- one that is not: the first record that differs, is missing or is one too many
-abbrev pub differsForm : String
-differsForm = "refused 25: record %\n"
-
 -- how much of a recording is read
 abbrev pub progressForm : String
 progressForm = "osc: % MiB read\n"
@@ -39,10 +37,10 @@ indexLine records at end.Whole = line wholeForm (records ∷ []) []
 indexLine records at end.Waiting = line indexWaitingForm (records ∷ at ∷ []) []
 indexLine records at (end.Refused k) = line indexRefusedForm (records ∷ at ∷ numberOf k ∷ []) []
 
--- one that was checked
+-- one that was checked; of one that differs, the first record that does, is missing or is one too many
 abbrev pub checkedLine : Checked → List ℕ
 checkedLine (checked.Fits records) = line fitsForm (records ∷ []) []
-checkedLine (checked.Differs k) = line differsForm (k ∷ []) []
+checkedLine (checked.Differs k) = numberedLine indexDiffers k
 
 -- how much is read
 abbrev pub progressLine : ℕ → List ℕ

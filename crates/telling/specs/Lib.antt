@@ -1,7 +1,7 @@
-pub mod Ascii
 pub mod Decimal
 pub mod Forms
-pub mod Answers
+pub mod Refusals
+pub mod Replies
 pub mod Shown
 pub mod Indexes
 pub mod Troubles

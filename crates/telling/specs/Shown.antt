@@ -12,7 +12,7 @@ use Rattle.values.specs.declared.look.Started.the-variants as started
 use Rattle.values.specs.declared.value.OscType.{OscType}
 use Rattle.values.specs.declared.value.OscType.the-variants as value
 use Rattle.telling.specs.Forms.{line}
-use Rattle.telling.specs.Answers.{refusedLine}
+use Rattle.telling.specs.Refusals.{refusedLine}
 
 -- a record: its index, the letter of its kind, the words for what it holds, and its end
 abbrev pub recordForm : String → String

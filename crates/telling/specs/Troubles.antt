@@ -3,11 +3,11 @@ use mathlib.Core.List.{List, [], _∷_}
 use Prim.Native.Nat.{ℕ}
 use Prim.Native.String.{String}
 use Rattle.telling.specs.Forms.{line}
-use Rattle.telling.specs.declared.troubles.Trouble.{Trouble}
-use Rattle.telling.specs.declared.troubles.Trouble.the-variants.{NoCommand, DecodeWords, EncodeWords, LookWords, NoFraming}
-use Rattle.telling.specs.declared.troubles.Trouble.the-variants.{OnePacket, NoOption, Twice, NoNumber, ManyRecords, NoName}
-use Rattle.telling.specs.declared.troubles.Trouble.the-variants.{LongName, NoFile, OneFile, TooLarge, NoTable}
-use Rattle.telling.specs.declared.troubles.Trouble.the-variants.{IndexWords, CheckWords, CueWords, Shorter}
+use Rattle.troubles.specs.declared.Trouble.{Trouble}
+use Rattle.troubles.specs.declared.Trouble.the-variants.{NoCommand, DecodeWords, EncodeWords, LookWords, NoFraming}
+use Rattle.troubles.specs.declared.Trouble.the-variants.{OnePacket, NoOption, Twice, NoNumber, ManyRecords, NoName}
+use Rattle.troubles.specs.declared.Trouble.the-variants.{LongName, NoFile, OneFile, TooLarge, NoTable}
+use Rattle.troubles.specs.declared.Trouble.the-variants.{IndexWords, CheckWords, CueWords, Shorter}
 
 -- what each trouble is, of a word or the name of a file and a number of bytes
 abbrev pub troubleForm : Trouble → String

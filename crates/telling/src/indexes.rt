@@ -1,5 +1,4 @@
 // The line for a cue index: one that was written, and one that was checked.
-use crate::line::INDEX_DIFFERS;
 use crate::line::INDEX_FITS;
 use crate::line::INDEX_REFUSED;
 use crate::line::INDEX_WAITING;
@@ -8,17 +7,20 @@ use crate::line::Line;
 use crate::line::PROGRESS;
 use crate::line::formed;
 use crate::line::tell;
-use cues::Checked;
-use cues::End;
+use crate::refusals::tell_numbered;
 use refusal::number_of;
+use results::Checked;
+use results::End;
+use results::INDEX_DIFFERS;
 ghost use mathlib.Core.Path.{_≡_};
+ghost use mathlib.Core.List.{[]};
 ghost use Rattle.telling.specs.Forms.{Says};
 ghost use Rattle.telling.specs.Indexes.{indexLine, checkedLine, progressLine};
-ghost use Rattle.telling.specs.CodeTable.{indexAs, comparedAs};
+ghost use Rattle.telling.specs.CodeTable.{saidBy};
 
 // An index of so many records, and why it ends, at which offset of the recording.
 fn index_line(records: usize, at: u64, end: End) -> Line
-    ensures { λ r. ⌜ r ≡ indexAs records at end ⌝ }
+    ensures { λ r. ⌜ saidBy r [] ≡ indexLine records at end ⌝ }
 {
     match end {
         End::Whole => formed(INDEX_WHOLE, records as u64, 0, 0, 0, 0, 0),
@@ -35,16 +37,6 @@ fn index_line(records: usize, at: u64, end: End) -> Line
     }
 }
 
-// What a check answers.
-fn checked_line(checked: Checked) -> Line
-    ensures { λ r. ⌜ r ≡ comparedAs checked ⌝ }
-{
-    match checked {
-        Checked::Fits(records) => formed(INDEX_FITS, records as u64, 0, 0, 0, 0, 0),
-        Checked::Differs(record) => formed(INDEX_DIFFERS, record as u64, 0, 0, 0, 0, 0),
-    }
-}
-
 // Puts the line for an index that was written at the front of `out`, and answers how long it is.
 //
 // Ruled out: an index that stopped told as a whole one; the number of records in the place of the offset.
@@ -56,11 +48,14 @@ pub fn tell_index(records: usize, at: u64, end: End, out: &mut [u8]) -> usize
 
 // The same for an index that was checked.
 //
-// Ruled out: an index that differs told as one that fits.
+// Ruled out: an index that differs told as one that fits; the number of the refusal in the place of the record's.
 pub fn tell_checked(checked: Checked, out: &mut [u8]) -> usize
     ensures { λ r. ⌜ Says (checkedLine checked) (now (out .exit)) r ⌝ }
 {
-    tell(checked_line(checked), b"", out)
+    match checked {
+        Checked::Fits(records) => tell(formed(INDEX_FITS, records as u64, 0, 0, 0, 0, 0), b"", out),
+        Checked::Differs(record) => tell_numbered(INDEX_DIFFERS, record as u64, out),
+    }
 }
 
 // The same for how much of a recording is read so far.

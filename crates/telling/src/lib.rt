@@ -2,18 +2,18 @@
 mod form; // form.rt: a text whose marks are filled in
 mod lines; // lines.rt: a text cut into lines
 mod line; // line.rt: a line before it is written
-mod answers; // answers.rt: the line for an answer of the library
+mod refusals; // refusals.rt: the line for a refusal
+mod replies; // replies.rt: the line for an answer of the library
 mod shown; // shown.rt: the line for a record that is looked at
 mod indexes; // indexes.rt: the line for a cue index
-mod troubles; // troubles.rt: the line for trouble with a word or a file
+mod trouble; // trouble.rt: the line for trouble with a word or a file
 
-pub use answers::tell_decoded;
-pub use answers::tell_encoded;
-pub use answers::tell_version;
 pub use indexes::tell_checked;
 pub use indexes::tell_index;
 pub use indexes::tell_progress;
+pub use replies::tell_decoded;
+pub use replies::tell_encoded;
+pub use replies::tell_version;
 pub use shown::tell_record;
 pub use shown::tell_start;
-pub use troubles::Trouble;
-pub use troubles::tell_trouble;
+pub use trouble::tell_trouble;

@@ -1,5 +1,4 @@
 // The line for a record that is looked at.
-use crate::answers::refused_line;
 use crate::line::BARE;
 use crate::line::DOUBLE;
 use crate::line::FOUR;
@@ -12,6 +11,7 @@ use crate::line::START;
 use crate::line::TIME;
 use crate::line::formed;
 use crate::line::tell;
+use crate::refusals::tell_refused;
 use node::record::END;
 use node::record::capacity_of;
 use node::record::field_at;
@@ -24,14 +24,16 @@ use values::look::start_of;
 use values::value::OscType;
 use words::written::magnitude;
 ghost use mathlib.Core.Path.{_≡_};
+ghost use mathlib.Core.List.{[], _∷_};
 ghost use Prim.Native.Nat.{_/_, _%_};
+ghost use lib.IntN.{natAbs};
 ghost use Rattle.telling.specs.Forms.{Says};
-ghost use Rattle.telling.specs.Shown.{recordLine, startLine};
-ghost use Rattle.telling.specs.CodeTable.{with, signedAs, valueAs, lookedAs, startedAs};
+ghost use Rattle.telling.specs.Shown.{shownAs, signWords, valueLine, recordLine, startedLine, startLine};
+ghost use Rattle.telling.specs.CodeTable.{Shows, with};
 
 // A number with its sign.
 fn signed(index: u64, end: u64, x: i64) -> Line
-    ensures { λ r. ⌜ r ≡ signedAs index end x ⌝ }
+    ensures { λ r. ⌜ Shows r (λ kind. shownAs index kind end (signWords x) (natAbs x ∷ [])) ⌝ }
 {
     let number = magnitude(x);
     if x < 0 {
@@ -49,7 +51,8 @@ fn two(form: usize, index: u64, a: u32, b: u32, end: u64) -> Line
 
 // The two halves of 64 bits.
 fn halves(index: u64, bits: u64, end: u64) -> Line
-    ensures { λ r. ⌜ r ≡ with 31 index (bits / 0x1_0000_0000) (bits % 0x1_0000_0000) end 0 0 ⌝ }
+    ensures { λ r.
+        ⌜ Shows r (λ kind. shownAs index kind end " bits 0x$$" (bits / 0x1_0000_0000 ∷ bits % 0x1_0000_0000 ∷ [])) ⌝ }
 {
     formed(
         DOUBLE,
@@ -64,7 +67,7 @@ fn halves(index: u64, bits: u64, end: u64) -> Line
 
 // Four bytes as numbers.
 fn four(index: u64, a: u8, b: u8, c: u8, d: u8, end: u64) -> Line
-    ensures { λ r. ⌜ r ≡ with 32 index a b c d end ⌝ }
+    ensures { λ r. ⌜ Shows r (λ kind. shownAs index kind end " % % % %" (a ∷ b ∷ c ∷ d ∷ [])) ⌝ }
 {
     formed(FOUR, index, a as u64, b as u64, c as u64, d as u64, end)
 }
@@ -73,7 +76,7 @@ fn four(index: u64, a: u8, b: u8, c: u8, d: u8, end: u64) -> Line
 //
 // Ruled out: the seconds of a time in the place of its fraction; the offset of a text alone.
 fn value_line(index: u64, end: u64, value: OscType) -> Line
-    ensures { λ r. ⌜ r ≡ valueAs index end value ⌝ }
+    ensures { λ r. ⌜ Shows r (λ kind. valueLine index kind end value) ⌝ }
 {
     match value {
         OscType::Message { offset, length } => two(RANGE, index, offset, length, end),
@@ -92,16 +95,6 @@ fn value_line(index: u64, end: u64, value: OscType) -> Line
     }
 }
 
-// What `look` answers.
-fn looked_line(index: u64, end: u64, looked: Looked) -> Line
-    ensures { λ r. ⌜ r ≡ lookedAs index end looked ⌝ }
-{
-    match looked {
-        Looked::Value(value) => value_line(index, end, value),
-        Looked::Refused(refusal) => refused_line(refusal),
-    }
-}
-
 // Puts the line for record `index` of a table at the front of `out`, and answers how long it is: its kind, what it holds and its end.
 //
 // Ruled out: a value for a record that is refused; the end of another record.
@@ -109,20 +102,25 @@ pub fn tell_record(table: &[u8], index: usize, out: &mut [u8]) -> usize
     ensures { λ r. ⌜ Says (recordLine (now (table .entry)) index) (now (out .exit)) r ⌝ }
 {
     if capacity_of(table) <= index {
-        return tell(refused_line(Refusal::BadTable), b"", out);
+        return tell_refused(Refusal::BadTable, out);
     }
-    let end = field_at(table, index, END);
-    let line = looked_line(index as u64, end as u64, look(table, index));
-    tell(line, &[kind_at(table, index)], out)
+    match look(table, index) {
+        Looked::Value(value) => {
+            let end = field_at(table, index, END);
+            let line = value_line(index as u64, end as u64, value);
+            tell(line, &[kind_at(table, index)], out)
+        }
+        Looked::Refused(refusal) => tell_refused(refusal, out),
+    }
 }
 
-// What `start_of` answers.
-fn started_line(started: Started) -> Line
-    ensures { λ r. ⌜ r ≡ startedAs started ⌝ }
+// Puts the line for what `start_of` answers.
+fn tell_started(started: Started, out: &mut [u8]) -> usize
+    ensures { λ r. ⌜ Says (startedLine started) (now (out .exit)) r ⌝ }
 {
     match started {
-        Started::At(start) => formed(START, start as u64, 0, 0, 0, 0, 0),
-        Started::Refused(refusal) => refused_line(refusal),
+        Started::At(start) => tell(formed(START, start as u64, 0, 0, 0, 0, 0), b"", out),
+        Started::Refused(refusal) => tell_refused(refusal, out),
     }
 }
 
@@ -134,7 +132,7 @@ pub fn tell_start(table: &[u8], index: usize, out: &mut [u8]) -> usize
     ensures { λ r. ⌜ Says (startLine (now (table .entry)) index) (now (out .exit)) r ⌝ }
 {
     match look(table, index) {
-        Looked::Value(_) => tell(started_line(start_of(table, index)), b"", out),
+        Looked::Value(_) => tell_started(start_of(table, index), out),
         Looked::Refused(_) => 0,
     }
 }

@@ -35,22 +35,8 @@ module _ (f : ℕ → Bool) where
       (omega arith, omega (arith, p .1, k))
 
   -- the same, to the place after it
-  to-next : (l : List ℕ) (i j : ℕ) → j ≡ i + 1 → Passed f i l → i < length l → f (getD l i 0) ≡ false → Passed f j l
+  pub to-next : (l : List ℕ) (i j : ℕ) → j ≡ i + 1 → Passed f i l → i < length l → f (getD l i 0) ≡ false → Passed f j l
   to-next l i j g p h e = rw g (one-passed l i p h e)
-
-  -- the bytes of four, as long as none of them stops the count
-  module _ (l : List ℕ) (i : ℕ) (p : Passed f i l) (fits : i + 4 ≤ length l) (e0 : f (getD l i 0) ≡ false) where
-    pub one-of-four : Passed f (i + 1) l
-    one-of-four = one-passed l i p (omega arith) e0
-
-    pub two-of-four : f (getD l (i + 1) 0) ≡ false → Passed f (i + 2) l
-    two-of-four e1 = to-next l (i + 1) (i + 2) (omega arith) one-of-four (omega arith) e1
-
-    pub three-of-four : f (getD l (i + 1) 0) ≡ false → f (getD l (i + 2) 0) ≡ false → Passed f (i + 3) l
-    three-of-four e1 e2 = to-next l (i + 2) (i + 3) (omega arith) (two-of-four e1) (omega arith) e2
-
-    pub all-of-four : f (getD l (i + 1) 0) ≡ false → f (getD l (i + 2) 0) ≡ false → f (getD l (i + 3) 0) ≡ false → Passed f (i + 4) l
-    all-of-four e1 e2 e3 = to-next l (i + 3) (i + 4) (omega arith) (three-of-four e1 e2) (omega arith) e3
 
   -- at a byte that stops it, those before are all
   pub stops : (l : List ℕ) (i : ℕ) → Passed f i l → i < length l → f (getD l i 0) ≡ true → (i ≤ length l) × (i ≡ countTo f l)
@@ -107,10 +93,14 @@ module _ (f : ℕ → Bool) where
 
 -- ---- a text
 
+nul-on : (t : Bool) (m n : ℕ) → m ≡ n → cond t 0 (suc m) ≡ cond (cond t true false) 0 (suc n)
+nul-on true m n e = refl
+nul-on false m n e = ap suc e
+
 -- a text's end is where its NUL stops the count
 pub nul-count : (l : List ℕ) → untilNul l ≡ countTo nul l
 nul-count [] = refl
-nul-count (b ∷ l) = ap (λ (m : ℕ). cond (eqb b 0) 0 (suc m)) (nul-count l)
+nul-count (b ∷ l) = nul-on (eqb b 0) (untilNul l) (countTo nul l) (nul-count l)
 
 nul-by : (b : ℕ) (l : List ℕ) (s t : Bool) → eqb b 0 ≡ s → ltb 0x7F b ≡ t
     → untilNul l ≡ countTo special l + untilNul (drop (countTo special l) l)

@@ -1,18 +1,22 @@
 -- Describes code, and no part of the document: the bytes of a text that need no UTF-8 test, since each is a character by itself.
 use mathlib.Core.Path.{_≡_}
-use mathlib.Core.Bool.{Bool, true, cond}
+use mathlib.Core.Bool.{Bool, true, false, cond}
 use mathlib.Core.List.{List, [], _∷_}
 use Prim.Native.Nat.{ℕ, suc, _+_, _≤_}
 use lib.Dec.{eqb, ltb}
 use lib.ListN.{length, drop}
 
--- a byte that is NUL, or above 0x7F and so part of a longer character
+-- a byte that stops a scan: NUL does, and where `high` also a byte above 0x7F, which is part of a longer character
+abbrev pub stopsAt : Bool → ℕ → Bool
+stopsAt high b = cond (eqb b 0) true (cond high (ltb 0x7F b) false)
+
+-- a byte that is NUL, or above 0x7F
 abbrev pub special : ℕ → Bool
-special b = cond (eqb b 0) true (ltb 0x7F b)
+special b = stopsAt true b
 
 -- a NUL
 abbrev pub nul : ℕ → Bool
-nul b = eqb b 0
+nul b = stopsAt false b
 
 -- how many bytes stand before the first that is as f says; all of them where there is none
 abbrev pub countTo : (ℕ → Bool) → List ℕ → ℕ

@@ -8,7 +8,7 @@ ghost use lib.Dec.{ltb};
 ghost use lib.ListN.{length};
 ghost use Rattle.wire.specs.Limits.{longest};
 ghost use Rattle.text.specs.CodeFound.{TextFound};
-ghost use Rattle.text.specs.CodePlain.{special, nul, countTo, Passed};
+ghost use Rattle.text.specs.CodePlain.{stopsAt, special, nul, countTo, Passed};
 ghost use Rattle.text.specs.Text.{untilNul, reach, readText, dirtOfByte, nonZero, faultIn};
 
 // What a text lacks.
@@ -50,17 +50,21 @@ pub fn fault_in(field: Field, pos: usize, lack: Lack) -> Fault
     }
 }
 
-// Whether a byte is special: NUL, or above 0x7F and so part of a longer character.
-fn is_special(byte: u8) -> bool
-    ensures { λ r. ⌜ r ≡ special byte ⌝ }
+// Whether a byte stops a scan: NUL does, and where `high` also one above 0x7F, which is part of a longer character and so special.
+fn is_stop(byte: u8, high: bool) -> bool
+    ensures { λ r. ⌜ r ≡ stopsAt high byte ⌝ }
 {
     if byte == 0 {
         return true;
     }
-    0x7F < byte
+    if high {
+        return 0x7F < byte;
+    }
+    false
 }
 
-// Whether one of the first 16 bytes is special. With no early exit, the compiled test takes all of them at once.
+// Whether one of the first 16 bytes is special. With no early exit, the compiled test takes all of them at once; and it stands twice, for
+// special bytes and for NUL, since a test that takes `high` would take half as many instructions again.
 fn any_special(input: &[u8]) -> bool
     requires { ⌜ 16 ≤ length (now input) ⌝ }
     ensures { λ r. ⌜ r ≡ ltb (countTo special (now (input .entry))) 16 ⌝ }
@@ -68,7 +72,7 @@ fn any_special(input: &[u8]) -> bool
     let mut any = false;
     let mut i = 0;
     while i < 16 {
-        if is_special(input[i]) {
+        if is_stop(input[i], true) {
             any = true;
         }
         i += 1;
@@ -90,53 +94,6 @@ fn skip_plain(input: &[u8]) -> usize
     at
 }
 
-// Where the first special byte stands, from `start` on, one byte at a time; the end where there is none.
-fn count_few(input: &[u8], start: usize) -> usize
-    requires { ⌜ Passed special start (now input) ⌝ }
-    ensures { λ r. ⌜ (r ≤ length (now (input .entry))) × (r ≡ countTo special (now (input .entry))) ⌝ }
-{
-    let mut at = start;
-    while at < input.len() {
-        if is_special(input[at]) {
-            return at;
-        }
-        at += 1;
-    }
-    at
-}
-
-// The same, with one test of the end for four bytes: most texts are short, and this takes half as long.
-fn count_by_four(input: &[u8], start: usize) -> usize
-    requires { ⌜ Passed special start (now input) ⌝ }
-    ensures { λ r. ⌜ (r ≤ length (now (input .entry))) × (r ≡ countTo special (now (input .entry))) ⌝ }
-{
-    let mut at = start;
-    while 4 <= input.len() - at {
-        if is_special(input[at]) {
-            return at;
-        }
-        if is_special(input[at + 1]) {
-            return at + 1;
-        }
-        if is_special(input[at + 2]) {
-            return at + 2;
-        }
-        if is_special(input[at + 3]) {
-            return at + 3;
-        }
-        at += 4;
-    }
-    count_few(input, at)
-}
-
-// How many bytes stand before the first special one; all of them where there is none. They are passed over 16, 4 and 1 at a time.
-fn count_plain(input: &[u8]) -> usize
-    ensures { λ r. ⌜ (r ≤ length (now (input .entry))) × (r ≡ countTo special (now (input .entry))) ⌝ }
-{
-    let front = skip_plain(input);
-    count_by_four(input, front)
-}
-
 // Whether one of the first 16 bytes is NUL: all of them at once, as above.
 fn any_nul(input: &[u8]) -> bool
     requires { ⌜ 16 ≤ length (now input) ⌝ }
@@ -145,7 +102,7 @@ fn any_nul(input: &[u8]) -> bool
     let mut any = false;
     let mut seen = 0;
     while seen < 16 {
-        if input[seen] == 0 {
+        if is_stop(input[seen], false) {
             any = true;
         }
         seen += 1;
@@ -167,43 +124,51 @@ fn skip_to_nul(input: &[u8]) -> usize
     passed
 }
 
-// Where the first NUL stands, from `start` on, one byte at a time; the end where there is none.
-fn nul_in_few(input: &[u8], start: usize) -> usize
-    requires { ⌜ Passed nul start (now input) ⌝ }
-    ensures { λ r. ⌜ (r ≤ length (now (input .entry))) × (r ≡ countTo nul (now (input .entry))) ⌝ }
+// Where the first byte stands that stops, from `start` on, one byte at a time; the end where there is none.
+fn count_few(input: &[u8], start: usize, high: bool) -> usize
+    requires { ⌜ Passed (stopsAt high) start (now input) ⌝ }
+    ensures { λ r. ⌜ (r ≤ length (now (input .entry))) × (r ≡ countTo (stopsAt high) (now (input .entry))) ⌝ }
 {
-    let mut i = start;
-    while i < input.len() {
-        if input[i] == 0 {
-            return i;
+    let mut at = start;
+    while at < input.len() {
+        if is_stop(input[at], high) {
+            return at;
         }
-        i += 1;
+        at += 1;
     }
-    i
+    at
 }
 
-// The same, with one test of the end for four bytes.
-fn nul_by_four(input: &[u8], start: usize) -> usize
-    requires { ⌜ Passed nul start (now input) ⌝ }
-    ensures { λ r. ⌜ (r ≤ length (now (input .entry))) × (r ≡ countTo nul (now (input .entry))) ⌝ }
+// The same, with one test of the end for four bytes: most texts are short, and this takes half as long.
+fn count_by_four(input: &[u8], start: usize, high: bool) -> usize
+    requires { ⌜ Passed (stopsAt high) start (now input) ⌝ }
+    ensures { λ r. ⌜ (r ≤ length (now (input .entry))) × (r ≡ countTo (stopsAt high) (now (input .entry))) ⌝ }
 {
-    let mut i = start;
-    while 4 <= input.len() - i {
-        if input[i] == 0 {
-            return i;
+    let mut at = start;
+    while 4 <= input.len() - at {
+        if is_stop(input[at], high) {
+            return at;
         }
-        if input[i + 1] == 0 {
-            return i + 1;
+        if is_stop(input[at + 1], high) {
+            return at + 1;
         }
-        if input[i + 2] == 0 {
-            return i + 2;
+        if is_stop(input[at + 2], high) {
+            return at + 2;
         }
-        if input[i + 3] == 0 {
-            return i + 3;
+        if is_stop(input[at + 3], high) {
+            return at + 3;
         }
-        i += 4;
+        at += 4;
     }
-    nul_in_few(input, i)
+    count_few(input, at, high)
+}
+
+// How many bytes stand before the first special one; all of them where there is none. They are passed over 16, 4 and 1 at a time.
+fn count_plain(input: &[u8]) -> usize
+    ensures { λ r. ⌜ (r ≤ length (now (input .entry))) × (r ≡ countTo special (now (input .entry))) ⌝ }
+{
+    let front = skip_plain(input);
+    count_by_four(input, front, true)
 }
 
 // How many bytes stand before the first NUL; all of them where there is none. They are passed over 16, 4 and 1 at a time.
@@ -211,7 +176,7 @@ fn until_nul(input: &[u8]) -> usize
     ensures { λ r. ⌜ (r ≤ length (now (input .entry))) × (r ≡ untilNul (now (input .entry))) ⌝ }
 {
     let front = skip_to_nul(input);
-    nul_by_four(input, front)
+    count_by_four(input, front, false)
 }
 
 // One for a byte that is not zero, and none for one that is.

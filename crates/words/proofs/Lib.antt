@@ -1,2 +1,3 @@
-mod Numerals
+pub mod Numerals
 pub mod Signs
+pub mod Tables

@@ -1,7 +1,8 @@
 // A line cut into words, each of which ends with a space.
 ghost use mathlib.Core.Path.{_≡_};
-ghost use Prim.Native.Nat.{_≤_};
-ghost use lib.ListN.{length, take};
+ghost use Prim.Native.Nat.{_+_, _≤_};
+ghost use lib.ListN.{length, take, drop};
+ghost use Rattle.words.specs.Tables.{untilByte, wordsIn, placeIn};
 
 // The first `n` bytes; all where there are fewer.
 //
@@ -17,10 +18,11 @@ pub fn front(bytes: &[u8], n: usize) -> &[u8]
 
 // Where the first `byte` from `from` on stands; the end where there is none.
 //
-// Ruled out: a place before `from`; one past the end.
+// Ruled out: a place before `from`; one past the end; the second such byte.
 pub fn until(s: &[u8], from: usize, byte: u8) -> usize
     requires { ⌜ from ≤ length (now s) ⌝ }
-    ensures { λ r. ⌜ (from ≤ r) × (r ≤ length (now (s .entry))) ⌝ }
+    ensures { λ r.
+        ⌜ (from ≤ r) × (r ≤ length (now (s .entry))) × (r ≡ from + length (untilByte byte (drop from (now (s .entry))))) ⌝ }
 {
     let mut i = from;
     while i < s.len() {
@@ -75,7 +77,11 @@ pub fn word(s: &[u8], n: usize) -> &[u8] {
 }
 
 // The place of a name among the words of a line, from 0 on; the number of the words where it is none of them.
-pub fn place_of(names: &[u8], name: &[u8]) -> usize {
+//
+// Ruled out: the place of a word that only begins with the name; the place after the word's.
+pub fn place_of(names: &[u8], name: &[u8]) -> usize
+    ensures { λ r. ⌜ r ≡ placeIn (wordsIn (now (names .entry))) (now (name .entry)) ⌝ }
+{
     let mut at = 0;
     let mut n = 0;
     while at < names.len() {

@@ -22,7 +22,7 @@ use Rattle.table.proofs.Spanned.{spans-size}
 use Rattle.strings.specs.Atomic.{oscString}
 use Rattle.strings.specs.CodeStrings.{stringLength}
 use Rattle.writers.specs.Osc.{writeTags, writeData, writeMessage, writeBundle, writeElement, writeElements}
-use Rattle.writers.specs.CodeWriters.{tagText, bundleHead, Any, Sound, OutputRoom, WritesRow, WritesPacket, packetAt, Ready}
+use Rattle.writers.specs.CodeWriters.{tagText, bundleHead, Any, SoundIn, OutputRoom, WritesRow, WritesPacket, packetAt, Ready}
 use Rattle.strings.proofs.Lengths.{length-string}
 use Rattle.writers.proofs.Lengths.{length-bundle}
 use Rattle.writers.proofs.Classed.{address-range, message-is, bundle-is, elements-is, elements-none}
@@ -77,41 +77,46 @@ module _ {t : List ℕ} {lo hi : ℕ} (o : List ℕ) (r : OutputRoom Any tagText
 
 -- ---- a packet
 
-module _ {source t : List ℕ} {at : ℕ} (o : List ℕ) (q : Ready source t at (length o)) where
-  -- its record stands before what it contains, and in the table
-  pub before-end : (at < endAt t at) × (at < capacity t)
-  before-end =
-      let s = spans-size t (at + 1) (endAt t at) (q .room .forest) (q .room .spans) in
-      (omega arith, omega (arith, q .room .table))
+-- its record stands before what it contains, and in the table
+pub before-end : {source t : List ℕ} {at n : ℕ} → Ready source t at n → (at < endAt t at) × (at < capacity t)
+before-end {source} {t} {at} q =
+    let s = spans-size t (at + 1) (endAt t at) (q .room .forest) (q .room .spans) in
+    (omega arith, omega (arith, q .room .table))
 
 -- ---- a message
 
-module _ {source t : List ℕ} {at : ℕ} (o : List ℕ) (y : kindAt t at ≡ messageKind) (q : Ready source t at (length o))
-    {end : ℕ} {item : Item} (e : end ≡ endAt t at) (u : item ≡ itemAt t at) where
+-- the record of a message, whose end and numbers were read, and the output, which has room for the message
+pub record MessageToWrite (source t : List ℕ) (at : ℕ) (o : List ℕ) (end : ℕ) (item : Item) : Type 0 where
+  pub kind : kindAt t at ≡ messageKind
+  pub ready : Ready source t at (length o)
+  pub ends : end ≡ endAt t at
+  pub numbers : item ≡ itemAt t at
+
+module _ {source t : List ℕ} {at : ℕ} {o : List ℕ} {end : ℕ} {item : Item} (w : MessageToWrite source t at o end item) where
   message-bytes : (F : Forest) → packetAt source t at F ≡ oscString (part source (item .a) (item .b)) ++ (tagText F ++ writeData source F)
   unfolding writeMessage
-  message-bytes F = rw u (message-is source (itemAt t at) F y)
+  message-bytes F = rw (w .numbers) (message-is source (itemAt t at) F (w .kind))
 
   -- how long the message is
   abbrev message-length : ℕ
   message-length =
       length (oscString (part source (item .a) (item .b)))
-      + length (tagText (q .room .forest)) + length (writeData source (q .room .forest))
+      + length (tagText (w .ready .room .forest)) + length (writeData source (w .ready .room .forest))
 
   message-room : (message-length ≤ length o) × (message-length ≤ longest)
   message-room =
-      let l = simp length-append at (ap length (message-bytes (q .room .forest))) in
-      (omega (arith, q .room .fits), omega (arith, q .room .few))
+      let l = simp length-append at (ap length (message-bytes (w .ready .room .forest))) in
+      (omega (arith, w .ready .room .fits), omega (arith, w .ready .room .few))
 
-  inside-spans : Spans t (at + 1) end (q .room .forest)
-  inside-spans = rw e (q .room .spans)
+  inside-spans : Spans t (at + 1) end (w .ready .room .forest)
+  inside-spans = rw (w .ends) (w .ready .room .spans)
 
   table-room : recordSize * end ≤ length t
-  table-room = rw e (q .room .table)
+  table-room = rw (w .ends) (w .ready .room .table)
 
   -- the address's range lies in the source
   pub address-asked : item .a + item .b ≤ length source
-  address-asked = rw u (address-range source (itemAt t at) (q .range) y)
+  address-asked = rw (w .numbers) (address-range source (itemAt t at) (w .ready .range) (w .kind))
 
   -- there is room for the address
   pub address-fits : length (oscString (part source (item .a) (item .b))) ≤ length o
@@ -122,7 +127,7 @@ module _ {source t : List ℕ} {at : ℕ} (o : List ℕ) (y : kindAt t at ≡ me
     pub text-asked : OutputRoom Any tagText t (at + 1) end (length (midOf k (length o₁ - k) o₁))
     text-asked =
         record {
-          forest = q .room .forest;
+          forest = w .ready .room .forest;
           spans = inside-spans;
           holds = tt;
           fits = rw length-lent (omega (arith, f₁ .count, message-room, filled-length f₁));
@@ -135,8 +140,8 @@ module _ {source t : List ℕ} {at : ℕ} (o : List ℕ) (y : kindAt t at ≡ me
       abbrev headed : List ℕ
       headed = putMid k (length o₁ - k) o₁ p
 
-      headed-filled : Filled (oscString (part source (item .a) (item .b)) ++ tagText (q .room .forest)) o headed (k + m)
-      headed-filled = filled-lent f₁ (f₂ (q .room .forest) inside-spans)
+      headed-filled : Filled (oscString (part source (item .a) (item .b)) ++ tagText (w .ready .room .forest)) o headed (k + m)
+      headed-filled = filled-lent f₁ (f₂ (w .ready .room .forest) inside-spans)
 
       -- address and type tag text fit the output
       pub head-room : (k + m ≤ length headed) × (k + m ≤ longest)
@@ -145,13 +150,14 @@ module _ {source t : List ℕ} {at : ℕ} (o : List ℕ) (y : kindAt t at ≡ me
           (omega (arith, message-room, filled-length headed-filled), omega (arith, message-room))
 
       -- after them there is room for the data
-      pub data-asked : OutputRoom (Sound source) (writeData source) t (at + 1) end (length (midOf (k + m) (length headed - (k + m)) headed))
+      pub data-asked : OutputRoom (SoundIn source) (writeData source) t (at + 1) end
+          (length (midOf (k + m) (length headed - (k + m)) headed))
       data-asked =
           let l = simp length-append at (headed-filled .count) in
           record {
-            forest = q .room .forest;
+            forest = w .ready .room .forest;
             spans = inside-spans;
-            holds = q .room .holds;
+            holds = w .ready .room .holds;
             fits = rw length-lent (omega (arith, message-room, filled-length headed-filled));
             few = omega (arith, message-room);
             table = table-room;
@@ -163,46 +169,53 @@ module _ {source t : List ℕ} {at : ℕ} (o : List ℕ) (y : kindAt t at ≡ me
         pub message-end : k + m + d ≤ longest
         message-end =
             let l = simp length-append at (headed-filled .count) in
-            let c = f₃ (q .room .forest) inside-spans .count in
+            let c = f₃ (w .ready .room .forest) inside-spans .count in
             omega (arith, message-room)
 
         -- address, type tag text and data are the message
         pub message-filled : WritesPacket source t at o (putMid (k + m) (length headed - (k + m)) headed p′) (k + m + d)
         message-filled F s =
-            let s′ : Spans t (at + 1) end F = rw e s in
+            let s′ : Spans t (at + 1) end F = rw (w .ends) s in
             rw (message-bytes F) (simp append-assoc at (filled-lent (filled-lent f₁ (f₂ F s′)) (f₃ F s′)))
 
 -- ---- a bundle
 
-module _ {source t : List ℕ} {at : ℕ} (o : List ℕ) (n : kindAt t at ≡ messageKind → ⊥) (q : Ready source t at (length o))
-    {end : ℕ} {item : Item} (e : end ≡ endAt t at) (u : item ≡ itemAt t at) where
+-- the record of a bundle, whose end and numbers were read, and the output, which has room for the bundle
+pub record BundleToWrite (source t : List ℕ) (at : ℕ) (o : List ℕ) (end : ℕ) (item : Item) : Type 0 where
+  pub kind : kindAt t at ≡ messageKind → ⊥
+  pub ready : Ready source t at (length o)
+  pub ends : end ≡ endAt t at
+  pub numbers : item ≡ itemAt t at
+
+module _ {source t : List ℕ} {at : ℕ} {o : List ℕ} {end : ℕ} {item : Item} (w : BundleToWrite source t at o end item) where
   bundle-bytes : (F : Forest) → packetAt source t at F ≡ writeBundle item [] ++ writeElements source F
-  bundle-bytes F = rw u (bundle-is source (itemAt t at) F n)
+  bundle-bytes F = rw (w .numbers) (bundle-is source (itemAt t at) F (w .kind))
 
   -- there is room for the bundle's head
   pub head-asked : bundleHead ≤ length o
   head-asked =
-      omega (arith, q .room .fits, simp (length-append, length-bundle) at (ap length (bundle-bytes (q .room .forest))))
+      omega (arith, w .ready .room .fits, simp (length-append, length-bundle) at (ap length (bundle-bytes (w .ready .room .forest))))
 
   module _ {o₁ : List ℕ} {k : ℕ} (f : Filled (writeBundle item []) o o₁ k) where
     -- after the head all elements are left to write
-    pub bundle-begun : Going (Sound source) (packetAt source t at) (writeElements source) t (at + 1) end o₁ o₁ (at + 1) k
+    pub bundle-begun : Going (SoundIn source) (packetAt source t at) (writeElements source) t (at + 1) end o₁ o₁ (at + 1) k
     bundle-begun =
-        let room : OutputRoom (Sound source) (packetAt source t at) t (at + 1) end (length o₁) = rw (e, filled-length f) (q .room) in
+        let room : OutputRoom (SoundIn source) (packetAt source t at) t (at + 1) end (length o₁)
+        = rw (w .ends, filled-length f) (w .ready .room) in
         begun room (writeBundle item []) (bundle-bytes (room .forest)) (written-again f)
 
     -- where no element is left, the bundle is written
     pub bundle-ended : {o₂ : List ℕ} {next n : ℕ}
-        → Going (Sound source) (packetAt source t at) (writeElements source) t (at + 1) end o₁ o₂ next n
+        → Going (SoundIn source) (packetAt source t at) (writeElements source) t (at + 1) end o₁ o₂ next n
         → end ≤ next → WritesPacket source t at o o₂ n
-    bundle-ended w h F s =
-        let b = ended w (elements-none source) h F (rw e s) in
-        rw (bundle-bytes F) (written-from (writeElements source F) f (rw (bundle-bytes F) at b))
+    bundle-ended b h F s =
+        let all = ended b (elements-none source) h F (rw (w .ends) s) in
+        rw (bundle-bytes F) (written-from (writeElements source F) f (rw (bundle-bytes F) at all))
 
 -- ---- an element of a bundle
 
 module _ {source t : List ℕ} {g : Forest → List ℕ} {lo hi : ℕ} {o₀ o : List ℕ} {at k : ℕ}
-    (w : Going (Sound source) g (writeElements source) t lo hi o₀ o at k) (h : at < hi) where
+    (w : Going (SoundIn source) g (writeElements source) t lo hi o₀ o at k) (h : at < hi) where
   element-left : writeElements source (w .rest)
       ≡ writeElement (packetAt source t at (next w h .inside)) ++ writeElements source (next w h .rest)
   element-left = ap (writeElements source) (next w h .is)
@@ -248,7 +261,7 @@ module _ {source t : List ℕ} {g : Forest → List ℕ} {lo hi : ℕ} {o₀ o :
 
     -- once its size is written, the element is passed
     pub element-gone : {p′ : List ℕ} → Wrote (bytes 4 n) (midOf k (length placed - k) placed) p′ → {end : ℕ} → end ≡ endAt t at
-        → Going (Sound source) g (writeElements source) t lo hi o₀ (putMid k (length placed - k) placed p′) end (k + 4 + n)
+        → Going (SoundIn source) g (writeElements source) t lo hi o₀ (putMid k (length placed - k) placed p′) end (k + 4 + n)
     element-gone v e =
         let size = gap-filled (w .filled) (omega (arith, element-room, filled-length (w .filled))) (length-bytes 4 _) inside-filled
         (rw (inside-filled .count) at v) in

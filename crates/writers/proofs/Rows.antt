@@ -15,7 +15,7 @@ use Rattle.node.specs.Records.{recordSize, kindAt, endAt, itemAt}
 use Rattle.table.specs.Tree.{Spans}
 use Rattle.table.proofs.Spanned.{Cut, Parts, cut, cut-parts, no-more, spans-unique}
 use Rattle.writers.specs.Osc.{writeTags}
-use Rattle.writers.specs.CodeWriters.{Any, Sound, OutputRoom, WritesRow}
+use Rattle.writers.specs.CodeWriters.{Any, SoundIn, OutputRoom, WritesRow}
 use Rattle.writers.proofs.Classed.{tags-array, tags-leaf, tags-some}
 
 -- of a row that is P, and of which g is to be written, k bytes stand in the output, and f of the records from `at` on is left
@@ -103,7 +103,7 @@ module _ {P : Forest → Type 0} {g f : Forest → List ℕ} {t : List ℕ} {lo 
 
 -- the first record that is left obeys its rules, and so do what it contains and what is left after it
 pub obeyed : {source t : List ℕ} {g f : Forest → List ℕ} {lo hi : ℕ} {o₀ o : List ℕ} {at k : ℕ}
-    (w : Going (Sound source) g f t lo hi o₀ o at k) (h : at < hi)
+    (w : Going (SoundIn source) g f t lo hi o₀ o at k) (h : at < hi)
     → Parts source (w .holds .container) (itemAt t at) (next w h .inside) (next w h .rest)
 obeyed {source} w h = cut-parts (next w h) source (w .holds .container) (w .holds .obeys)
 

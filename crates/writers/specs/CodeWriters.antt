@@ -18,7 +18,7 @@ abbrev pub Any : Forest → Type 0
 Any F = Unit {0}
 
 -- the forest obeys the rules of some container, so that its ranges lie in the source
-pub record Sound (source : List ℕ) (F : Forest) : Type 0 where
+pub record SoundIn (source : List ℕ) (F : Forest) : Type 0 where
   pub container : ℕ
   pub obeys : Obeys source container F
 
@@ -39,10 +39,6 @@ WritesRow f t lo hi o₀ o r = (F : Forest) → Spans t lo hi F → Filled (f F)
 abbrev pub bundleHead : ℕ
 bundleHead = 16
 
--- the most bytes of a packet as an element, its size counted
-abbrev pub longestElement : ℕ
-longestElement = longest + 4
-
 -- the type tag text of arguments: a comma and their tags
 abbrev pub tagText : Forest → List ℕ
 tagText F = oscString (44 ∷ writeTags F)
@@ -57,5 +53,5 @@ WritesPacket source t at o₀ o r = WritesRow (packetAt source t at) t (at + 1) 
 
 -- n bytes have room for the packet of record `at`, and its own range lies in the source
 pub record Ready (source t : List ℕ) (at n : ℕ) : Type 0 where
-  pub room : OutputRoom (Sound source) (packetAt source t at) t (at + 1) (endAt t at) n
+  pub room : OutputRoom (SoundIn source) (packetAt source t at) t (at + 1) (endAt t at) n
   pub range : rangeOk source (itemAt t at) ≡ true

@@ -2,7 +2,7 @@
 -- Document 01, "How bytes are written".
 use mathlib.Core.Bool.{cond}
 use mathlib.Core.List.{List, [], _∷_, _++_}
-use Prim.Native.Nat.{ℕ}
+use Prim.Native.Nat.{ℕ, _+_}
 use lib.Dec.{eqb}
 use lib.ListN.{length}
 use Rattle.node.specs.Forest.{Forest, nil, node}
@@ -10,6 +10,7 @@ use Rattle.node.specs.Tags.{messageKind, sortOf}
 use Rattle.node.specs.declared.record.Item.{Item}
 use Rattle.node.specs.declared.tags.Sort.{Sort}
 use Rattle.node.specs.declared.tags.Sort.the-variants.{Opens, Closes, Leaf}
+use Rattle.wire.specs.Limits.{longest}
 use Rattle.wire.specs.Part.{part}
 use Rattle.strings.specs.Atomic.{int32, oscString, writeArgument}
 
@@ -53,6 +54,10 @@ writeBundle item elements =
 -- OSC Bundle Element: an int32 size and that many bytes
 abbrev pub writeElement : List ℕ → List ℕ
 writeElement content = int32 (length content) ++ content
+
+-- the most bytes of an element with its size, where its packet may be encoded (refusal 1)
+abbrev pub longestElement : ℕ
+longestElement = longest + 4
 
 -- a message or a bundle with these elements, by its kind
 abbrev pub packetWith : List ℕ → Item → Forest → List ℕ → List ℕ

@@ -24,7 +24,7 @@ ghost use Rattle.wire.specs.Wrote.{Filled};
 ghost use Rattle.node.specs.Tags.{messageKind};
 ghost use Rattle.node.specs.Records.{kindAt};
 ghost use Rattle.writers.specs.Osc.{writeBundle, writeTags, writeData};
-ghost use Rattle.writers.specs.CodeWriters.{tagText, bundleHead, Any, Sound, OutputRoom, WritesRow, Ready, WritesPacket};
+ghost use Rattle.writers.specs.CodeWriters.{tagText, bundleHead, Any, SoundIn, OutputRoom, WritesRow, Ready, WritesPacket};
 
 // The bytes of a bundle before its elements: its mark and its time tag.
 pub const BUNDLE_HEAD: usize = 16;
@@ -56,7 +56,7 @@ fn encode_arg_types(table: &[u8], lo: usize, hi: usize, out: &mut [u8]) -> usize
 
 // Writes the data of the records lo to hi - 1: an array's is that of what it contains.
 fn encode_arg_data(table: &[u8], lo: usize, hi: usize, source: &[u8], out: &mut [u8]) -> usize
-    requires { ⌜ OutputRoom (Sound (now source)) (writeData (now source)) (now table) lo hi (length (now out)) ⌝ }
+    requires { ⌜ OutputRoom (SoundIn (now source)) (writeData (now source)) (now table) lo hi (length (now out)) ⌝ }
     ensures { λ r. ⌜ WritesRow (writeData (now (source .entry))) (now (table .entry)) lo hi (now (out .entry)) (now (out .exit)) r ⌝ }
 {
     let mut at = lo;

@@ -22,7 +22,7 @@
 //!
 //! index[31] = 3;
 //! let error = check(&recording[..], Cursor::new(&index)).unwrap_err();
-//! assert_eq!(error.to_string(), "25: the index differs at record 1");
+//! assert_eq!(error.to_string(), "25: record 1");
 //! # Ok::<(), sennorbai::index::Error>(())
 //! ```
 
@@ -81,7 +81,7 @@ pub enum Error {
     Index(io::Error),
     /// 1: the recording has 2^63 bytes or more.
     TooLong,
-    /// 25: the index differs from the one that belongs to the recording.
+    /// 25: the index differs from the one that belongs to the recording. It is said as `osc` says it, by the record alone.
     Differs {
         /// The first record that differs, is missing or is extra, from 0; a part of a record counts as one.
         record: u64,
@@ -105,7 +105,7 @@ impl fmt::Display for Error {
             Error::Recording(error) => write!(f, "the recording: {error}"),
             Error::Index(error) => write!(f, "the index: {error}"),
             Error::TooLong => write!(f, "1: the recording has 2^63 bytes or more"),
-            Error::Differs { record } => write!(f, "25: the index differs at record {record}"),
+            Error::Differs { record } => write!(f, "{INDEX_DIFFERS}: record {record}"),
         }
     }
 }

@@ -17,7 +17,7 @@ use core::fmt;
 /// let refusal = decode_udp(b"/\0\0\0", &mut [], DEEPEST).unwrap_err();
 /// assert_eq!(refusal, Refusal::Short { field: Field::TypeText, at: 4 });
 /// assert_eq!(refusal.number(), 18);
-/// assert_eq!(refusal.to_string(), "18: the type text that begins at byte 4 is not all there");
+/// assert_eq!(refusal.to_string(), "18: the type text at offset 4 is not all there");
 /// ```
 #[derive(Clone, Copy, Debug, PartialEq, Eq, PartialOrd, Ord, Hash)]
 pub enum Refusal {
@@ -155,28 +155,26 @@ impl Refusal {
         }
     }
 
-    /// Document 01's words for when it is given; those of 9 are Ticket 4's, those of 15 and 16 and of a frame's length in 1 are
-    /// Ticket 1's, and those of 17 to 21 say what was short.
+    /// The words for when it is given, as the program `osc` says them; those of 17 to 21 say what was short.
     pub const fn words(self) -> &'static str {
         match self {
             Refusal::TooLong => {
-                "decode input over 65,535 bytes, a frame's length over 65,531, or encoded result (prefix included) over 65,535; \
-                 `encode_string` likewise"
+                "decode input over 65,535 bytes, or encoded result (prefix included) over it, or frame length over 65,531"
             }
             Refusal::Empty => "a packet of no bytes",
             Refusal::NotUtf8 => "text is not UTF-8",
-            Refusal::BadStart => "first string is neither `/`-led nor exactly `#bundle`",
-            Refusal::NotOpen => "`]` with no array open",
+            Refusal::BadStart => "first string is neither /-led nor exactly #bundle",
+            Refusal::NotOpen => "] with no array open",
             Refusal::UnknownTag => "unknown type tag",
-            Refusal::NotScalar => "`c` is not a scalar number",
+            Refusal::NotScalar => "c is not a scalar number",
             Refusal::TooDeep => "bundles and arrays nested deeper than the limit",
             Refusal::TableFull => "the result has more records than the capacity",
             Refusal::BadTable => "table not well formed, or a record asked for does not exist",
             Refusal::OutputShort => "output slice shorter than the result",
             Refusal::DepthLimit => "depth limit over 64",
-            Refusal::PadOverflow => "`pad` of a position over 2^64 − 4",
-            Refusal::BytesLeft => "bytes left in the frame after its packet",
-            Refusal::OddLength => "the frame's length is not a multiple of 4",
+            Refusal::PadOverflow => "pad of a position over 2^64 - 4",
+            Refusal::BytesLeft => "bytes left in the frame",
+            Refusal::OddLength => "frame length not a multiple of 4",
             Refusal::Short { field, .. } => field.words(),
         }
     }
@@ -202,7 +200,7 @@ impl Refusal {
 
     /// Writes its number and what was short, with the offset of that field.
     pub(crate) fn write_at(self, f: &mut fmt::Formatter<'_>, at: u64) -> fmt::Result {
-        write!(f, "{}: {} that begins at byte {at} is not all there", self.number(), self.words())
+        write!(f, "{}: {} at offset {at} is not all there", self.number(), self.words())
     }
 }
 

@@ -232,7 +232,7 @@ impl<'a> Portion<'a> {
 /// let ended = reader.read(&mut table)?.ended().unwrap();
 /// assert_eq!((ended.refusal.number(), ended.frame, ended.field), (17, 12, Some(16)));
 /// assert_eq!(ended.refusal, Refusal::Short { field: Field::Address, at: 4 });
-/// assert_eq!(ended.to_string(), "the frame at byte 12: 17: the address that begins at byte 16 is not all there");
+/// assert_eq!(ended.to_string(), "the frame at byte 12: 17: the address at offset 16 is not all there");
 /// # Ok::<(), Refusal>(())
 /// ```
 #[derive(Clone, Copy, Debug, PartialEq, Eq, Hash)]

@@ -262,7 +262,7 @@ fn refusals_print_number_and_words() {
     assert!(Refusal::ALL.is_sorted());
     for refusal in Refusal::ALL {
         let (number, words) = (refusal.number(), refusal.words());
-        let short = if number > 16 { " that begins at byte 0 is not all there" } else { "" };
+        let short = if number > 16 { " at offset 0 is not all there" } else { "" };
         assert_eq!(refusal.to_string(), format!("{number}: {words}{short}"));
         assert_eq!(refusal.offset(), if number > 16 { Some(0) } else { None });
         let error: &dyn std::error::Error = &refusal;
@@ -270,10 +270,10 @@ fn refusals_print_number_and_words() {
     }
     assert_eq!(Refusal::TooDeep.to_string(), "9: bundles and arrays nested deeper than the limit");
     assert_eq!(Refusal::DepthLimit.to_string(), "13: depth limit over 64");
-    assert_eq!(Refusal::BytesLeft.to_string(), "15: bytes left in the frame after its packet");
-    assert_eq!(Refusal::OddLength.to_string(), "16: the frame's length is not a multiple of 4");
+    assert_eq!(Refusal::BytesLeft.to_string(), "15: bytes left in the frame");
+    assert_eq!(Refusal::OddLength.to_string(), "16: frame length not a multiple of 4");
     let refusal = Refusal::Short { field: Field::Data, at: 65_532 };
-    assert_eq!(refusal.to_string(), "19: the argument data that begins at byte 65532 is not all there");
+    assert_eq!(refusal.to_string(), "19: the argument data at offset 65532 is not all there");
 }
 
 #[test]

@@ -196,7 +196,7 @@ fn differs(recording: &Recording, index: &[u8]) -> u64 {
         match check(&recording.bytes[..], Slowly(Cursor::new(index), Numbers(6), most)) {
             Err(error @ Error::Differs { record }) => {
                 assert_eq!(error.number(), Some(25));
-                assert_eq!(error.to_string(), format!("25: the index differs at record {record}"));
+                assert_eq!(error.to_string(), format!("25: record {record}"));
                 differs.push(record);
             }
             Err(other) => panic!("{other:?}"),

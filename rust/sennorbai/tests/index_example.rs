@@ -61,7 +61,7 @@ fn says_where_it_goes_no_further() {
     assert_eq!(run(&["check", &recording, &index]).unwrap(), told);
     fs::write(&recording, RECORDING).unwrap();
     let error = run(&["cue", &recording, &index, "0"]).unwrap_err();
-    assert_eq!(error.to_string(), "25: the index differs at record 2");
+    assert_eq!(error.to_string(), "25: record 2");
 }
 
 #[test]

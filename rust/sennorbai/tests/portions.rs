@@ -542,7 +542,7 @@ fn offsets_of_a_very_long_stream() {
     assert_eq!((portion.start(), portion.offset(portion.packets().roots().next().unwrap())), (at, at + 4));
     let refusal = Refusal::Short { field: Field::Address, at: 4 };
     assert_eq!(portion.ended(), Some(Ended { refusal, frame: at + 12, field: Some(at + 16) }));
-    let words = format!("the frame at byte {}: 17: the address that begins at byte {} is not all there", at + 12, at + 16);
+    let words = format!("the frame at byte {}: 17: the address at offset {} is not all there", at + 12, at + 16);
     assert_eq!(portion.ended().unwrap().to_string(), words);
 }
 
@@ -553,7 +553,7 @@ fn words() {
     assert_eq!(format!("{reader:?}"), "StreamReader { consumed: 0, kept: 18, ended: None }");
     let mut table = [0; RECORD];
     let ended = reader.read(&mut table).unwrap().ended().unwrap();
-    assert_eq!(ended.to_string(), "the frame at byte 12: 16: the frame's length is not a multiple of 4");
+    assert_eq!(ended.to_string(), "the frame at byte 12: 16: frame length not a multiple of 4");
     let shown = "StreamReader { consumed: 12, kept: 6, ended: Some(Ended { refusal: OddLength, frame: 12, field: None }) }";
     assert_eq!(format!("{reader:?}"), shown);
 }

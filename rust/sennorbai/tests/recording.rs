@@ -46,7 +46,7 @@ fn a_bad_frame_is_named() {
     let mut recording = two_frames();
     recording.extend(b"\0\0\0\x04a\0\0\0");
     let error = go_through(&recording, &mut Vec::new()).unwrap_err();
-    assert_eq!(error.to_string(), "the frame at 64: 5: first string is neither `/`-led nor exactly `#bundle`");
+    assert_eq!(error.to_string(), "the frame at 64: 5: first string is neither /-led nor exactly #bundle");
     recording.truncate(66);
     let error = go_through(&recording, &mut Vec::new()).unwrap_err();
     assert_eq!(error.to_string(), "the frame at 64 is cut off");
@@ -73,8 +73,8 @@ fn a_recording_may_be_longer_than_a_call_takes() {
 #[test]
 fn lengths_that_no_frame_has() {
     let error = |recording: &[u8]| go_through(recording, &mut Vec::new()).unwrap_err().to_string();
-    assert_eq!(error(b"\0\0\0\x0A/a\0\0,\0\0\0XX"), "the frame at 0: 16: the frame's length is not a multiple of 4");
-    assert_eq!(error(b"\0\0\0\x0C/a\0\0,\0\0\0XXXX"), "the frame at 0: 15: bytes left in the frame after its packet");
+    assert_eq!(error(b"\0\0\0\x0A/a\0\0,\0\0\0XX"), "the frame at 0: 16: frame length not a multiple of 4");
+    assert_eq!(error(b"\0\0\0\x0C/a\0\0,\0\0\0XXXX"), "the frame at 0: 15: bytes left in the frame");
     assert!(error(b"\0\0\xFF\xFC").starts_with("the frame at 0: 1: "));
     assert_eq!(error(b"\0\0"), "the frame at 0 is cut off");
 }

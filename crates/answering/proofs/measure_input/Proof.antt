@@ -1,7 +1,7 @@
 -- `answering::measure_input` meets its contract. The first reading by each framing.
 use Rattle.answering.proofs.Order.{total-by}
-use Rattle.framing.specs.declared.Framing.the-variants.{Tcp, TcpVec}
-use Rattle.totals.proofs.Totals.{udp-total, udp-ends}
+use Rattle.edition.specs.declared.Framing.the-variants.{Tcp, TcpVec}
+use Rattle.rosc_inputs.proofs.Totals.{udp-total, udp-ends}
 use Rattle.argument.proofs.Stands.{stands-rest}
 use mathlib.Core.Path.{ap, _∙_}
 use borrow.Author.Needs.{needs}

@@ -1,7 +1,7 @@
 -- `commands::encode_with` meets its contract, by the framing.
 use mathlib.Core.Path.{refl, ap, _∙_}
 use borrow.Author.Needs.{needs}
-use Rattle.framing.specs.declared.Framing.{Framing}
+use Rattle.edition.specs.declared.Framing.{Framing}
 use Rattle.commands.specs.declared.Framed.the-variants.{As}
 use Rattle.commands.specs.Asked.{encodeWith}
 use Rattle.commands.proofs.Tests.{by-case}

@@ -1,80 +1,71 @@
 -- `decoder::decode` meets its contract. An answer with records leaves room for them, and only then the second reading writes.
-use Rattle.decoder.proofs.Answers.{fillable, unwritten}
+use mathlib.Core.Path.{_≡_, refl, sym, _∙_, subst}
+use Prim.Native.Nat.{ℕ}
+use lib.ListN.{length}
+use borrow.Author.Needs.{needs}
+use Rattle.results.specs.declared.Decoded.{Decoded}
+use Rattle.node.specs.Records.{capacity}
 use Rattle.framing.specs.Framing.{ruleOf}
 use Rattle.answering.specs.Limits.{decoded, forestOf}
-use Prim.Native.Nat.{ℕ}
-use mathlib.Core.Path.{refl, ap, sym, _∙_}
-use borrow.Author.Needs.{needs}
+use Rattle.decoder.specs.CodeFrames.{Fillable}
+use Rattle.decoder.proofs.Answers.{Counts, fillable, unwritten}
 use Rattle.decoder.proofs.decode.Statement.{statement}
 use Rattle.decoder.proofs.decode.Tie as tie
 
-write-requires : tie.Need-write-requires
-write-requires c κs =
-    let p2 = c .before .before in
-    let p4 = p2 .before .before in
-    let p5 = p4 .before in
-    let a = p5 .before .before .before .before .args in
-    fillable (a .framing) (a .depth) (a .msg .now) (a .table .now) refl
-    (sym (p2 .answer2 .given .1) ∙ p4 .answer .ensures
-    ∙ ap (λ (k : ℕ). decoded (ruleOf (a .framing) (a .depth)) k (a .depth) (a .msg .now)) (p5 .capacity-of .ensures))
+-- ---- what is answered
 
-write-requires-2 : tie.Need-write-requires-2
-write-requires-2 c κs =
-    let p2 = c .before .before in
-    let p4 = p2 .before .before in
-    let p5 = p4 .before in
-    let a = p5 .before .before .before .before .args in
-    fillable (a .framing) (a .depth) (a .msg .now) (a .table .now) refl
-    (sym (p2 .answer3 .given .1) ∙ p4 .answer .ensures
-    ∙ ap (λ (k : ℕ). decoded (ruleOf (a .framing) (a .depth)) k (a .depth) (a .msg .now)) (p5 .capacity-of .ensures))
+abbrev start : tie.After-answer → tie.Start
+start p = p .before .before .before .before .before
 
-returns : tie.Need-returns
-returns c =
-    let p2 = c .before .before in
-    let p5 = p2 .before .before .before in
-    let p7 = p5 .before .before in
-    let p8 = p7 .before in
-    let a = p8 .before .before .before .before .args in
+answered : (p : tie.After-answer) {x : Decoded} → p .answer .result ≡ x
+    → let a = start p .args in x ≡ decoded (ruleOf (a .framing) (a .depth)) (capacity (a .table .now)) (a .depth) (a .msg .now)
+answered p e =
+    let a = start p .args in
+    sym e ∙ subst (λ (k : ℕ). p .answer .result ≡ decoded (ruleOf (a .framing) (a .depth)) k (a .depth) (a .msg .now))
+    (p .before .capacity-of .ensures) (p .answer .ensures)
+
+-- where records are answered, the second reading has what it needs
+has-room : (p : tie.After-answer) {x : Decoded} {count : ℕ} → p .answer .result ≡ x → Counts x count
+    → let a = start p .args in Fillable (ruleOf (a .framing) (a .depth) (a .msg .now)) (length (a .msg .now)) count (a .table .now)
+has-room p e n = let a = start p .args in fillable (a .framing) (a .depth) (a .msg .now) (a .table .now) n (answered p e)
+
+-- ---- the needs
+
+packets-fit : tie.Need-write-requires
+packets-fit c κs = let q = c .before .before in has-room (q .before .before) (q .answer2 .given .1) refl
+
+stopped-fit : tie.Need-write-requires-2
+stopped-fit c κs = let q = c .before .before in has-room (q .before .before) (q .answer3 .given .1) refl
+
+packets-are-written : tie.Need-returns
+packets-are-written c =
+    let w = c .before .before in
+    let q = w .before .before .before in
+    record { answered = answered (q .before .before) (q .answer2 .given .1); left = w .write .ensures }
+
+nothing-waits : tie.Need-returns-2
+nothing-waits c =
+    let p = c .before .before in
+    let a = start p .args in
     record {
-      answered = sym (p5 .answer2 .given .1) ∙ p7 .answer .ensures
-          ∙ ap (λ (k : ℕ). decoded (ruleOf (a .framing) (a .depth)) k (a .depth) (a .msg .now)) (p8 .capacity-of .ensures);
-      left = p2 .write .ensures;
-    }
-
-returns-2 : tie.Need-returns-2
-returns-2 c =
-    let p2 = c .before .before in
-    let p3 = p2 .before in
-    let a = p3 .before .before .before .before .args in
-    record {
-      answered = p2 .answer .ensures
-          ∙ ap (λ (k : ℕ). decoded (ruleOf (a .framing) (a .depth)) k (a .depth) (a .msg .now)) (p3 .capacity-of .ensures);
+      answered = answered p refl;
       left = unwritten (forestOf (ruleOf (a .framing) (a .depth) (a .msg .now))) (a .table .now) (c .enum-told .given .1) refl;
     }
 
-returns-3 : tie.Need-returns-3
-returns-3 c =
-    let p2 = c .before .before in
-    let p3 = p2 .before in
-    let a = p3 .before .before .before .before .args in
+nothing-refused : tie.Need-returns-3
+nothing-refused c =
+    let p = c .before .before in
+    let a = start p .args in
     record {
-      answered = p2 .answer .ensures
-          ∙ ap (λ (k : ℕ). decoded (ruleOf (a .framing) (a .depth)) k (a .depth) (a .msg .now)) (p3 .capacity-of .ensures);
+      answered = answered p refl;
       left = unwritten (forestOf (ruleOf (a .framing) (a .depth) (a .msg .now))) (a .table .now) (c .enum-told2 .given .1) refl;
     }
 
-returns-4 : tie.Need-returns-4
-returns-4 c =
-    let p2 = c .before .before in
-    let p5 = p2 .before .before .before in
-    let p7 = p5 .before .before in
-    let p8 = p7 .before in
-    let a = p8 .before .before .before .before .args in
-    record {
-      answered = sym (p5 .answer3 .given .1) ∙ p7 .answer .ensures
-          ∙ ap (λ (k : ℕ). decoded (ruleOf (a .framing) (a .depth)) k (a .depth) (a .msg .now)) (p8 .capacity-of .ensures);
-      left = p2 .write2 .ensures;
-    }
+stopped-are-written : tie.Need-returns-4
+stopped-are-written c =
+    let w = c .before .before in
+    let q = w .before .before .before in
+    record { answered = answered (q .before .before) (q .answer3 .given .1); left = w .write2 .ensures }
 
 pub decode-spec : {M : Type 1} → statement M
 decode-spec =
@@ -83,16 +74,16 @@ decode-spec =
     (λ c κs. search needs)
     (λ c κs. search needs)
     (λ c. search needs)
-    write-requires
+    packets-fit
     (λ c. search needs)
     (λ c. search needs)
     (λ c. search needs)
-    write-requires-2
+    stopped-fit
     (λ c. search needs)
-    returns
+    packets-are-written
     (λ c. search needs)
-    returns-2
+    nothing-waits
     (λ c. search needs)
-    returns-3
+    nothing-refused
     (λ c. search needs)
-    returns-4)
+    stopped-are-written)

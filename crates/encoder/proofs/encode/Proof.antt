@@ -1,33 +1,26 @@
 -- `encoder::encode` meets its contract.
 use Rattle.encoder.specs.Outcome.{unframed}
-use Rattle.encoder.proofs.Answers.{unframed-keeps, refused, planned, encoded-unframed}
+use Rattle.encoder.proofs.Answers.{unframed-keeps, refused, Planned, planned, encoded-unframed}
 use borrow.Author.Needs.{needs}
 use Rattle.encoder.proofs.encode.Statement.{statement}
 use Rattle.encoder.proofs.encode.Tie as tie
 
-encode-into-requires : tie.Need-encode-into-requires
-encode-into-requires c κs =
-    let p2 = c .before .before in
-    let p4 = p2 .before .before in
-    let p8 = p4 .before .before .before .before in
-    (planned (p8 .args .table .now) (p8 .args .count) (p8 .args .source .now) (p4 .prepare .ensures) (p2 .n .given .1)) .sized
+-- the packet is planned: its length is known
+abbrev start : tie.After-known-told2 → tie.Start
+start p = p .before .before .before .before .before .before .before
 
-returns : tie.Need-returns
-returns c =
-    let p3 = c .before .before .before in
-    let p7 = p3 .before .before .before .before in
-    refused unframed unframed-keeps (p7 .args .table .now) (p7 .args .count) (p7 .args .source .now) (p7 .args .out .now)
-    (p3 .prepare .ensures) (c .before .refusal .given .1)
+plan : (p : tie.After-known-told2)
+    → let a = start p .args in Planned (a .table .now) (a .count) (a .source .now) (p .before .n .given .0 .0)
+plan p = planned _ _ _ (p .before .before .before .prepare .ensures) (p .before .n .given .1)
 
-returns-2 : tie.Need-returns-2
-returns-2 c =
-    let p2 = c .before .before in
-    let p5 = p2 .before .before .before in
-    let p7 = p5 .before .before in
-    let p11 = p7 .before .before .before .before in
-    encoded-unframed (p11 .args .out .now)
-    (planned (p11 .args .table .now) (p11 .args .count) (p11 .args .source .now) (p7 .prepare .ensures) (p5 .n .given .1))
-    (p2 .encode-into .ensures)
+-- ---- the needs
+
+nothing-is-planned : tie.Need-returns
+nothing-is-planned c =
+    let p = c .before .before .before in
+    let a = p .before .before .before .before .args in
+    refused unframed unframed-keeps (a .table .now) (a .count) (a .source .now) (a .out .now) (p .prepare .ensures)
+    (c .before .refusal .given .1)
 
 pub encode-spec : {M : Type 1} → statement M
 encode-spec =
@@ -36,7 +29,8 @@ encode-spec =
     (λ c κs. search needs)
     (λ c. search needs)
     (λ c. search needs)
-    encode-into-requires
-    returns
+    (λ c κs. plan (c .before) .sized)
+    nothing-is-planned
     (λ c. search needs)
-    returns-2)
+    (λ c. let w = c .before .before in let p = w .before .before in
+    encoded-unframed (start p .args .out .now) (plan p) (w .encode-into .ensures)))

@@ -1,7 +1,7 @@
 -- `fill::put_message` meets its contract. The message's record, then those of its arguments in the later part of the table.
 use Rattle.wire.proofs.Parts.{length-lent}
 use Rattle.wire.proofs.Writers.{wrote-length}
-use Rattle.fill.proofs.Fills.{put-room, put-stored}
+use Rattle.fill.proofs.Messages.{put-room, put-stored}
 use Rattle.node.specs.Records.{recordSize}
 use Rattle.arguments.specs.Arguments.{readArgs}
 use native.Mathlib.Omega.{arith}

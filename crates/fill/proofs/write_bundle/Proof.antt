@@ -1,167 +1,62 @@
 -- `fill::write_bundle` meets its contract. The table, completed by what is left, is the table at the end; the measure is what is left of
 -- the input.
-use mathlib.Core.Path.{_≡_, refl}
-use Prim.Native.Nat.{_+_}
+use mathlib.Core.Path.{refl}
+use Prim.Native.Nat.{_+_, _≤_}
 use native.Mathlib.Omega.{arith}
 use borrow.Author.Needs.{needs}
 use lib.ListN.{length}
-use Rattle.fill.proofs.Fills.{known-long, contents-room, tree-step, Filling, filling-start, next-fits, next-accepted, filling-on}
-use Rattle.fill.proofs.Fills.{filling-all}
+use Rattle.node.specs.Records.{mostRecords}
+use Rattle.fill.proofs.Contents.{known-long, Filling, filling-start, filling-fits, rest-is-shorter, next-fits, next-accepted}
+use Rattle.fill.proofs.Contents.{turn-fits, turn-falls, filling-on, filling-all}
 use Rattle.fill.proofs.write_bundle.Statement.{statement}
 use Rattle.fill.proofs.write_bundle.Tie as tie
 
 abbrev Inv-loop : tie.InvT-loop
 Inv-loop input base pos start table₀ index count rest₀ at₀ written₀ table rest at written =
-    (at + length rest ≡ pos + length input) × Filling base input pos index table₀ table rest at written
+    Filling base start input pos index table₀ table rest at written
 
 abbrev μ-loop : tie.MeasureT-loop
 μ-loop input base pos start table₀ index count rest₀ at₀ written₀ table rest at written = length rest
 
-sub-rest : tie.Need-sub-rest Inv-loop μ-loop
-sub-rest c =
-    let s = c .before .before in
-    omega (arith, known-long (s .args .base) (s .args .start) (s .args .input .now) (s .args .pos) (s .pre .1 .1 .0))
+-- the bundle has its time tag
+long : (s : tie.Start Inv-loop μ-loop) → 8 ≤ length (s .args .input .now)
+long s = known-long (s .args .base) (s .args .start) (s .args .input .now) (s .args .pos) (s .pre .1 .1 .0)
 
-part-rest-start : tie.Need-part-rest-start Inv-loop μ-loop
-part-rest-start c =
-    let s = c .before .before in
-    omega (arith, known-long (s .args .base) (s .args .start) (s .args .input .now) (s .args .pos) (s .pre .1 .1 .0))
+-- an element was written, in this turn
+abbrev turn : tie.After-write-element Inv-loop μ-loop → tie.At-loop Inv-loop μ-loop
+turn e = e .before .before .before
 
-loop-holds : tie.Need-loop-holds Inv-loop μ-loop
-loop-holds c =
-    let s = c .before .before .before in
-    let a = s .args in
-    let h = known-long (a .base) (a .start) (a .input .now) (a .pos) (s .pre .1 .1 .0) in
-    (omega (arith, c .rest .given .2), filling-start (a .base) (a .input .now) (a .pos) (a .index) (a .table .now))
+-- it lies in what is left, and its records fit
+element-fits : (e : tie.After-write-element Inv-loop μ-loop)
+    → let k = turn e .loop in
+    let r = e .write-element .result in
+    (k .at + 4 + r .count ≤ r .next) × (r .next ≤ k .at + length (k .rest .now)) × (k .written + r .count ≤ mostRecords)
+element-fits e = turn-fits (turn e .loop .inv) (e .write-element .ensures) refl
 
-mul-later : tie.Need-mul-later Inv-loop μ-loop
-mul-later c =
-    let s = c .before .before .before .before .before in
-    omega (arith, s .pre .1 .0 .low, s .pre .1 .1 .0 .records)
-
-sub-later : tie.Need-sub-later Inv-loop μ-loop
-sub-later c =
-    let k = c .before .loop in
-    let s = c .before .before .before .before .before in
-    omega (arith, s .pre .1 .0 .fits, s .pre .1 .1 .0 .records, k .inv .1 .same)
-
-part-later-start : tie.Need-part-later-start Inv-loop μ-loop
-part-later-start c =
-    let k = c .before .loop in
-    let s = c .before .before .before .before .before in
-    omega (arith, s .pre .1 .0 .fits, s .pre .1 .1 .0 .records, k .inv .1 .same)
-
-add-write-element : tie.Need-add-write-element Inv-loop μ-loop
-add-write-element c =
-    let s = c .before .before .before .before .before .before in
-    omega (arith, s .pre .1 .0 .low, s .pre .1 .1 .0 .records)
+-- all elements are written: the bundle's own record fits
+own-fits : (x : tie.After-loop Inv-loop μ-loop)
+    → let a = x .before .before .before .before .before .args in a .index + a .count ≤ mostRecords
+own-fits x = omega (arith, filling-fits (x .before .loop .inv))
 
 write-element-requires : tie.Need-write-element-requires Inv-loop μ-loop
 write-element-requires c κs =
-    let p2 = c .before .before in
-    let k = p2 .loop in
-    let s = p2 .before .before .before .before in
-    let a = s .args in
-    let l = a .input .now in
-    let known = s .pre .1 .1 .0 in
-    let room = contents-room (a .base) (a .start) l (a .pos) (known-long (a .base) (a .start) l (a .pos) known) (s .pre .1 .0) in (
-      omega (arith, k .inv .0, s .pre .0),
-      (
-        next-fits (a .base) (a .start) l (a .pos) (a .index) (a .table .now) (k .table) (k .rest .now) (k .at) (k .written) (k .inv .1)
-            room,
-        next-accepted (a .base) (a .start) l (a .pos) (a .index) (a .table .now) (k .table) (k .rest .now) (k .at) (k .written)
-            (k .inv .1) room known (c .before .loop-test .taken),
-      ),
-    )
-
--- an element has no more records than bytes
-add-written : tie.Need-add-written Inv-loop μ-loop
-add-written c =
-    let p3 = c .before .before .before in
-    let p6 = p3 .before .before .before in
-    let k = p6 .loop in
-    let s = p6 .before .before .before .before in
-    let step = tree-step (s .args .base) (k .rest .now) (k .at) (p3 .write-element .ensures .answered) in
-    omega (arith, k .inv .0, s .pre .0, s .pre .1 .0 .low, s .pre .1 .1 .0 .records)
-
-sub-rest-2 : tie.Need-sub-rest-2 Inv-loop μ-loop
-sub-rest-2 c =
-    let p3 = c .before .before .before in
-    let p6 = p3 .before .before .before in
-    let a = p6 .before .before .before .before .args in
-    omega (arith, tree-step (a .base) (p6 .loop .rest .now) (p6 .loop .at) (p3 .write-element .ensures .answered))
-
-sub-rest-3 : tie.Need-sub-rest-3 Inv-loop μ-loop
-sub-rest-3 c =
-    let p3 = c .before .before .before in
-    let p6 = p3 .before .before .before in
-    let a = p6 .before .before .before .before .args in
-    omega (arith, tree-step (a .base) (p6 .loop .rest .now) (p6 .loop .at) (p3 .write-element .ensures .answered))
-
-part-rest-start-2 : tie.Need-part-rest-start-2 Inv-loop μ-loop
-part-rest-start-2 c =
-    let p3 = c .before .before .before in
-    let p6 = p3 .before .before .before in
-    let a = p6 .before .before .before .before .args in
-    omega (arith, tree-step (a .base) (p6 .loop .rest .now) (p6 .loop .at) (p3 .write-element .ensures .answered))
-
-loop-less : tie.Need-loop-less Inv-loop μ-loop
-loop-less c =
-    let p4 = c .before .before .before .before in
-    let p7 = p4 .before .before .before in
-    let a = p7 .before .before .before .before .args in
-    let step = tree-step (a .base) (p7 .loop .rest .now) (p7 .loop .at) (p4 .write-element .ensures .answered) in
-    omega (arith, c .rest2 .given .2)
+    let t = c .before in
+    let k = t .before .loop in
+    let s = t .before .before .before .before .before in
+    (rest-is-shorter (k .inv) .0, (next-fits (k .inv), next-accepted (k .inv) (s .pre .1 .1 .0) (t .loop-test .taken)))
 
 loop-again : tie.Need-loop-again Inv-loop μ-loop
 loop-again c =
-    let p4 = c .before .before .before .before in
-    let p7 = p4 .before .before .before in
-    let k = p7 .loop in
-    let s = p7 .before .before .before .before in
-    let a = s .args in
-    let l = a .input .now in
-    let long = known-long (a .base) (a .start) l (a .pos) (s .pre .1 .1 .0) in
-    let room = contents-room (a .base) (a .start) l (a .pos) long (s .pre .1 .0) in
-    let step = tree-step (a .base) (k .rest .now) (k .at) (p4 .write-element .ensures .answered) in (
-      omega (arith, c .rest2 .given .2, k .inv .0),
-      filling-on (a .base) (a .start) l (a .pos) (a .index) (a .table .now) (k .table) (k .rest .now) (k .at) (k .written) (k .inv .1)
-          room (p4 .write-element .ensures) refl,
-    )
-
-bundle-item-requires : tie.Need-bundle-item-requires Inv-loop μ-loop
-bundle-item-requires c κs =
-    let s = c .before .before .before .before .before .before in
-    (search needs, known-long (s .args .base) (s .args .start) (s .args .input .now) (s .args .pos) (s .pre .1 .1 .0))
-
-add-put-record : tie.Need-add-put-record Inv-loop μ-loop
-add-put-record c =
-    let s = c .before .before .before .before .before .before .before in
-    omega (arith, s .pre .1 .0 .low, s .pre .1 .1 .0 .records)
-
-cast-put-record : tie.Need-cast-put-record Inv-loop μ-loop
-cast-put-record c =
-    let s = c .before .before .before .before .before .before .before in
-    omega (arith, s .pre .1 .0 .low, s .pre .1 .1 .0 .records)
-
-put-record-requires : tie.Need-put-record-requires Inv-loop μ-loop
-put-record-requires c κs =
-    let p3 = c .before .before .before in
-    let s = p3 .before .before .before .before in
-    omega (arith, s .pre .1 .0 .fits, s .pre .1 .1 .0 .records, s .pre .1 .1 .0 .some, p3 .loop .inv .1 .same)
+    let e = c .before .before .before .before in
+    filling-on (turn e .loop .inv) (e .write-element .ensures) refl
 
 returns : tie.Need-returns Inv-loop μ-loop
 returns c =
-    let p2 = c .before .before in
-    let p5 = p2 .before .before .before in
-    let k = p5 .before .loop in
-    let s = p5 .before .before .before .before .before in
-    let a = s .args in
-    let l = a .input .now in
-    let known = s .pre .1 .1 .0 in
-    let room = contents-room (a .base) (a .start) l (a .pos) (known-long (a .base) (a .start) l (a .pos) known) (s .pre .1 .0) in
-    filling-all (a .base) (a .start) l (a .pos) (a .index) (a .table .now) (k .table) (k .rest .now) (k .at) (k .written) (k .inv .1) room
-    known (p5 .loop-test .left) (p2 .before .bundle-item .ensures) (p2 .put-record .ensures)
+    let w = c .before .before in
+    let x = w .before .before .before in
+    let k = x .before in
+    filling-all (k .loop .inv) (k .before .before .before .before .pre .1 .1 .0) (x .loop-test .left) (w .before .bundle-item .ensures)
+    (w .put-record .ensures)
 
 pub write-bundle-spec : {M : Type 1} → statement M
 write-bundle-spec =
@@ -169,27 +64,27 @@ write-bundle-spec =
     (tie.spec
     Inv-loop
     μ-loop
-    sub-rest
-    part-rest-start
+    (λ c. omega (arith, long (c .before .before)))
+    (λ c. omega (arith, long (c .before .before)))
     (λ c. search needs)
     (λ c. search needs)
-    loop-holds
-    mul-later
-    sub-later
-    part-later-start
+    (λ c. let s = c .before .before .before in filling-start (long s) (s .pre .0) (s .pre .1 .0))
+    (λ c. omega (arith, filling-fits (c .before .loop .inv)))
+    (λ c. omega (arith, filling-fits (c .before .loop .inv)))
+    (λ c. omega (arith, filling-fits (c .before .loop .inv)))
     (λ c. search needs)
-    add-write-element
+    (λ c. omega (arith, filling-fits (c .before .before .loop .inv)))
     write-element-requires
-    add-written
-    sub-rest-2
-    sub-rest-3
-    part-rest-start-2
+    (λ c. omega (arith, element-fits (c .before .before .before)))
+    (λ c. omega (arith, element-fits (c .before .before .before)))
+    (λ c. omega (arith, element-fits (c .before .before .before)))
+    (λ c. omega (arith, element-fits (c .before .before .before)))
     (λ c. search needs)
-    loop-less
+    (λ c. let e = c .before .before .before .before in turn-falls (turn e .loop .inv) (e .write-element .ensures) refl)
     loop-again
-    bundle-item-requires
-    add-put-record
-    cast-put-record
-    put-record-requires
+    (λ c κs. (search needs, c .before .before .loop .inv .long))
+    (λ c. omega (arith, own-fits (c .before .before)))
+    (λ c. omega (arith, own-fits (c .before .before)))
+    (λ c κs. let k = c .before .before .before .loop in omega (arith, filling-fits (k .inv), k .inv .some))
     (λ c. search needs)
     returns)

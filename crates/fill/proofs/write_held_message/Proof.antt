@@ -1,15 +1,41 @@
 -- `fill::write_held_message` meets its contract. Its tags tell how many records it has, so that it is known.
 use mathlib.Core.Path.{sym}
+use Prim.Native.Nat.{_+_, _-_}
 use native.Mathlib.Nat.{sub-zero}
 use native.Mathlib.Omega.{arith}
 use borrow.Author.Needs.{needs}
-use lib.ListN.{length-drop}
-use Rattle.wire.proofs.Parts.{tail}
+use lib.ListN.{length, take, drop}
 use Rattle.text.proofs.Within.{found-in}
-use Rattle.fill.proofs.Fills.{accepted-types, args-room, counted-known, args-writes}
-use Rattle.heads.proofs.Heads.{types-tags}
+use Rattle.arguments.specs.Arguments.{readArgs}
+use Rattle.packet.specs.Packet.{messageWith}
+use Rattle.fill.specs.CodeFill.{Known}
+use Rattle.fill.proofs.Fills.{past-room, past-writes}
+use Rattle.fill.proofs.Messages.{accepted-types, TypesIn, types-in, args-past, counted-known}
 use Rattle.fill.proofs.write_held_message.Statement.{statement}
 use Rattle.fill.proofs.write_held_message.Tie as tie
+
+abbrev entry : tie.After-find-osc-string → tie.Start
+entry f = f .before .before .before
+
+-- the type text was found
+types : (f : tie.After-find-osc-string)
+    → let a = entry f .args in let r = f .find-osc-string .result in TypesIn (a .base) (a .input .now) (a .pos) (r .length) (r .used)
+types f = types-in (sym (f .find-osc-string .ensures)) (entry f .pre .0)
+
+-- the message is known by its tags
+counted : (n : tie.After-count-accepted)
+    → let t = n .before .before in
+    let f = t .before .before in
+    let a = entry f .args in
+    let l = a .input .now in
+    let u = f .find-osc-string .result .used in
+    let o = readArgs (a .base) (t .tags-in .result .now) (take (length l - u) (drop u l)) (a .pos + u) in
+    Known (messageWith (a .item) o) (1 + n .count-accepted .result)
+counted n =
+    let t = n .before .before in
+    let f = t .before .before in
+    let s = entry f in
+    counted-known (s .args .item) (types f) (t .tags-in .ensures) (s .pre .1 .1) (n .count-accepted .ensures (s .args .base) _ _)
 
 find-osc-string-requires : tie.Need-find-osc-string-requires
 find-osc-string-requires c κs =
@@ -17,86 +43,28 @@ find-osc-string-requires c κs =
     let a = s .args in
     (omega (arith, s .pre .0), accepted-types (a .base) (a .item) (a .input .now) (a .pos) (s .pre .1 .1))
 
-part-tags-in-end : tie.Need-part-tags-in-end
-part-tags-in-end c =
-    let a = c .before .before .before .args in
-    omega (arith, found-in (a .input .now) (a .pos) (sym (c .find-osc-string .ensures)))
-
-tags-in-requires : tie.Need-tags-in-requires
-tags-in-requires c κs =
-    let p1 = c .before in
-    let a = p1 .before .before .before .args in
-    rw sub-zero (found-in (a .input .now) (a .pos) (sym (p1 .find-osc-string .ensures)) .2)
-
-sub-rest : tie.Need-sub-rest
-sub-rest c =
-    let p2 = c .before .before in
-    let a = p2 .before .before .before .args in
-    omega (arith, found-in (a .input .now) (a .pos) (sym (p2 .find-osc-string .ensures)))
-
-part-rest-start : tie.Need-part-rest-start
-part-rest-start c =
-    let p2 = c .before .before in
-    let a = p2 .before .before .before .args in
-    omega (arith, found-in (a .input .now) (a .pos) (sym (p2 .find-osc-string .ensures)))
-
 -- there is room for that many records
 add-count : tie.Need-add-count
 add-count c =
-    let p2 = c .before .before in
-    let p4 = p2 .before .before in
-    let s = p4 .before .before .before in
-    let a = s .args in
-    let l = a .input .now in
-    let u = p4 .find-osc-string .result .used in
-    let e = sym (p4 .find-osc-string .ensures) in
-    let t = types-tags l (p4 .find-osc-string .result .length) (p2 .tags-in .ensures) in
-    omega (
-      arith,
-      args-room (a .base) (a .item) l (a .pos) e t (tail l u) (s .pre .1 .0),
-      counted-known (a .base) (a .item) l (a .pos) e t (tail l u) (s .pre .1 .1) (c .count-accepted .ensures (a .base) _ _),
-    )
-
-add-put-message : tie.Need-add-put-message
-add-put-message c =
-    let p4 = c .before .before .before .before in
-    let s = p4 .before .before .before in
-    omega (arith, found-in (s .args .input .now) (s .args .pos) (sym (p4 .find-osc-string .ensures)), s .pre .0)
+    let t = c .before .before in
+    let f = t .before .before in
+    omega (arith, past-room (args-past (entry f .args .item) (types f) (t .tags-in .ensures)) (entry f .pre .1 .0), counted c)
 
 put-message-requires : tie.Need-put-message-requires
 put-message-requires c κs =
-    let p1 = c .before in
-    let p3 = p1 .before .before in
-    let p5 = p3 .before .before in
-    let s = p5 .before .before .before in
-    let a = s .args in
-    let l = a .input .now in
-    let u = p5 .find-osc-string .result .used in
-    let e = sym (p5 .find-osc-string .ensures) in
-    let w = found-in l (a .pos) e in
-    let t = types-tags l (p5 .find-osc-string .result .length) (p3 .tags-in .ensures) in (
-      rw (tail l u) (omega (arith, s .pre .0, length-drop u l)),
-      (
-        args-room (a .base) (a .item) l (a .pos) e t (tail l u) (s .pre .1 .0),
-        counted-known (a .base) (a .item) l (a .pos) e t (tail l u) (s .pre .1 .1) (p1 .count-accepted .ensures (a .base) _ _),
-      ),
-    )
+    let t = c .before .before .before in
+    let f = t .before .before in
+    let is = args-past (entry f .args .item) (types f) (t .tags-in .ensures) in
+    (omega (arith, types f), (past-room is (entry f .pre .1 .0), counted (c .before)))
 
 returns : tie.Need-returns
 returns c =
-    let p2 = c .before .before in
-    let p4 = p2 .before .before in
-    let p6 = p4 .before .before in
-    let p8 = p6 .before .before in
-    let s = p8 .before .before .before in
-    let a = s .args in
-    let l = a .input .now in
-    let u = p8 .find-osc-string .result .used in
-    let e = sym (p8 .find-osc-string .ensures) in
-    let t = types-tags l (p8 .find-osc-string .result .length) (p6 .tags-in .ensures) in
-    args-writes (a .base) (a .item) l (a .pos) e t (tail l u) (a .index) (a .table .now)
-    (counted-known (a .base) (a .item) l (a .pos) e t (tail l u) (s .pre .1 .1) (p4 .count-accepted .ensures (a .base) _ _))
-    (p2 .put-message .ensures)
+    let w = c .before .before in
+    let n = w .before .before in
+    let t = n .before .before in
+    let f = t .before .before in
+    past-writes (args-past (entry f .args .item) (types f) (t .tags-in .ensures))
+    (record { known = counted n; table = w .put-message .ensures })
 
 pub write-held-message-spec : {M : Type 1} → statement M
 write-held-message-spec =
@@ -105,14 +73,14 @@ write-held-message-spec =
     find-osc-string-requires
     (λ c. search needs)
     (λ c. search needs)
-    part-tags-in-end
-    tags-in-requires
-    sub-rest
-    part-rest-start
+    (λ c. omega (arith, types c))
+    (λ c κs. rw sub-zero (found-in _ _ (types (c .before) .found) .2))
+    (λ c. omega (arith, types (c .before .before)))
+    (λ c. omega (arith, types (c .before .before)))
     (λ c. search needs)
     (λ c κs. search needs)
     add-count
-    add-put-message
+    (λ c. omega (arith, types (c .before .before .before .before)))
     put-message-requires
     (λ c. search needs)
     returns)

@@ -3,13 +3,19 @@ use mathlib.Core.Path.{sym}
 use native.Mathlib.Nat.{sub-zero}
 use native.Mathlib.Omega.{arith}
 use borrow.Author.Needs.{needs}
-use lib.ListN.{length-drop}
-use Rattle.wire.proofs.Parts.{tail}
 use Rattle.text.proofs.Within.{found-in}
-use Rattle.fill.proofs.Fills.{known-accepted, accepted-types, args-room, args-known, args-stored}
-use Rattle.heads.proofs.Heads.{types-tags}
+use Rattle.fill.proofs.Fills.{known-accepted, past-room, past-known, past-stored}
+use Rattle.fill.proofs.Messages.{accepted-types, TypesIn, types-in, args-past}
 use Rattle.fill.proofs.write_message.Statement.{statement}
 use Rattle.fill.proofs.write_message.Tie as tie
+
+abbrev entry : tie.After-find-osc-string → tie.Start
+entry f = f .before .before .before
+
+-- the type text was found
+types : (f : tie.After-find-osc-string)
+    → let a = entry f .args in let r = f .find-osc-string .result in TypesIn (a .base) (a .input .now) (a .pos) (r .length) (r .used)
+types f = types-in (sym (f .find-osc-string .ensures)) (entry f .pre .0)
 
 find-osc-string-requires : tie.Need-find-osc-string-requires
 find-osc-string-requires c κs =
@@ -17,63 +23,19 @@ find-osc-string-requires c κs =
     let a = s .args in
     (omega (arith, s .pre .0), accepted-types (a .base) (a .item) (a .input .now) (a .pos) (known-accepted (s .pre .1 .1)))
 
-part-tags-in-end : tie.Need-part-tags-in-end
-part-tags-in-end c =
-    let a = c .before .before .before .args in
-    omega (arith, found-in (a .input .now) (a .pos) (sym (c .find-osc-string .ensures)))
-
-tags-in-requires : tie.Need-tags-in-requires
-tags-in-requires c κs =
-    let p1 = c .before in
-    let a = p1 .before .before .before .args in
-    rw sub-zero (found-in (a .input .now) (a .pos) (sym (p1 .find-osc-string .ensures)) .2)
-
-sub-rest : tie.Need-sub-rest
-sub-rest c =
-    let p2 = c .before .before in
-    let a = p2 .before .before .before .args in
-    omega (arith, found-in (a .input .now) (a .pos) (sym (p2 .find-osc-string .ensures)))
-
-part-rest-start : tie.Need-part-rest-start
-part-rest-start c =
-    let p2 = c .before .before in
-    let a = p2 .before .before .before .args in
-    omega (arith, found-in (a .input .now) (a .pos) (sym (p2 .find-osc-string .ensures)))
-
-add-put-message : tie.Need-add-put-message
-add-put-message c =
-    let p3 = c .before .before .before in
-    let s = p3 .before .before .before in
-    omega (arith, found-in (s .args .input .now) (s .args .pos) (sym (p3 .find-osc-string .ensures)), s .pre .0)
-
 put-message-requires : tie.Need-put-message-requires
 put-message-requires c κs =
-    let p2 = c .before .before in
-    let p4 = p2 .before .before in
-    let s = p4 .before .before .before in
-    let a = s .args in
-    let l = a .input .now in
-    let u = p4 .find-osc-string .result .used in
-    let e = sym (p4 .find-osc-string .ensures) in
-    let w = found-in l (a .pos) e in
-    let t = types-tags l (p4 .find-osc-string .result .length) (p2 .tags-in .ensures) in (
-      rw (tail l u) (omega (arith, s .pre .0, length-drop u l)),
-      (
-        args-room (a .base) (a .item) l (a .pos) e t (tail l u) (s .pre .1 .0),
-        args-known (a .base) (a .item) l (a .pos) e t (tail l u) (s .pre .1 .1),
-      ),
-    )
+    let t = c .before .before in
+    let f = t .before .before in
+    let is = args-past (entry f .args .item) (types f) (t .tags-in .ensures) in
+    (omega (arith, types f), (past-room is (entry f .pre .1 .0), past-known is (entry f .pre .1 .1)))
 
 returns : tie.Need-returns
 returns c =
-    let p2 = c .before .before in
-    let p5 = p2 .before .before .before in
-    let p7 = p5 .before .before in
-    let a = p7 .before .before .before .args in
-    let l = a .input .now in
-    args-stored (a .base) (a .item) l (a .pos) (sym (p7 .find-osc-string .ensures))
-    (types-tags l (p7 .find-osc-string .result .length) (p5 .tags-in .ensures)) (tail l (p7 .find-osc-string .result .used)) (a .index)
-    (a .table .now) (p2 .put-message .ensures)
+    let w = c .before .before in
+    let t = w .before .before .before in
+    let f = t .before .before in
+    past-stored (args-past (entry f .args .item) (types f) (t .tags-in .ensures)) _ _ (w .put-message .ensures)
 
 pub write-message-spec : {M : Type 1} → statement M
 write-message-spec =
@@ -82,12 +44,12 @@ write-message-spec =
     find-osc-string-requires
     (λ c. search needs)
     (λ c. search needs)
-    part-tags-in-end
-    tags-in-requires
-    sub-rest
-    part-rest-start
+    (λ c. omega (arith, types c))
+    (λ c κs. rw sub-zero (found-in _ _ (types (c .before) .found) .2))
+    (λ c. omega (arith, types (c .before .before)))
+    (λ c. omega (arith, types (c .before .before)))
     (λ c. search needs)
-    add-put-message
+    (λ c. omega (arith, types (c .before .before .before)))
     put-message-requires
     (λ c. search needs)
     returns)

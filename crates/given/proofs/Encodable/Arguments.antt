@@ -39,7 +39,7 @@ use Rattle.osc10.proofs.Tags.{of-among, HasTag, HasSort, has-sort}
 -- ---- forests that obey the rules, and whose fields fit
 
 -- the nodes of a container obey the rules of a well-formed table, and their numbers fit a record
-pub record Sound (s : List ℕ) (container : ℕ) (F : Forest) : Type 0 where
+pub record SoundIn (s : List ℕ) (container : ℕ) (F : Forest) : Type 0 where
   pub obeys : Obeys s container F
   pub fits : FieldsFit F
 
@@ -49,16 +49,16 @@ pub record NodeSound (s : List ℕ) (container : ℕ) (item : Item) (inside : Fo
   pub range : rangeOk s item ≡ true
   pub may : allowed container (item .kind) ≡ true
   pub low : (item .a < 256 ^ 4) × (item .b < 256 ^ 4) × (item .start < 256 ^ 4)
-  pub in-sound : Sound s (item .kind) inside
+  pub in-sound : SoundIn s (item .kind) inside
 
 module _ {s : List ℕ} {container : ℕ} where
   -- an empty forest does
-  pub sound-nil : Sound s container nil
+  pub sound-nil : SoundIn s container nil
   unfolding Obeys FieldsFit
   sound-nil = record { obeys = tt; fits = tt }
 
   -- a node and those after it do, where each does
-  pub sound-node : {item : Item} {f g : Forest} → NodeSound s container item f → Sound s container g → Sound s container (node item f g)
+  pub sound-node : {item : Item} {f g : Forest} → NodeSound s container item f → SoundIn s container g → SoundIn s container (node item f g)
   unfolding Obeys FieldsFit
   sound-node n r =
       record {
@@ -66,8 +66,8 @@ module _ {s : List ℕ} {container : ℕ} where
         fits = (n .low .0, n .low .1, n .low .2, n .in-sound .fits, r .fits);
       }
 
-  sound-snoc : (F : Forest) {item : Item} {f : Forest} → NodeSound s container item f → Sound s container F
-      → Sound s container (snoc F item f)
+  sound-snoc : (F : Forest) {item : Item} {f : Forest} → NodeSound s container item f → SoundIn s container F
+      → SoundIn s container (snoc F item f)
   unfolding Obeys FieldsFit snoc
   sound-snoc nil n w = sound-node n w
   sound-snoc (node item' f' rest) n w =
@@ -78,7 +78,7 @@ module _ {s : List ℕ} {container : ℕ} where
       }
 
 -- what may stand in an array may stand in a message
-in-message : {s : List ℕ} (F : Forest) → Sound s arrayKind F → Sound s messageKind F
+in-message : {s : List ℕ} (F : Forest) → SoundIn s arrayKind F → SoundIn s messageKind F
 unfolding Obeys FieldsFit allowed
 in-message nil w = record { obeys = tt; fits = tt }
 in-message (node item f rest) w =
@@ -158,7 +158,7 @@ not-packet tag class e n = go (isPacket tag) refl
 
 -- an array that is open: what it and the frame that waits for it may hold
 abbrev OpenSound : List ℕ → Open → Type 0
-OpenSound s (waits outer item) = Sound s arrayKind outer × ((f : Forest) → Sound s arrayKind f → NodeSound s arrayKind item f)
+OpenSound s (waits outer item) = SoundIn s arrayKind outer × ((f : Forest) → SoundIn s arrayKind f → NodeSound s arrayKind item f)
 
 abbrev AllSound : List ℕ → List Open → Type 0
 AllSound s [] = Unit {0}
@@ -166,7 +166,7 @@ AllSound s (o ∷ os) = OpenSound s o × AllSound s os
 
 abbrev ArgsSound : List ℕ → Args → Type 0
 ArgsSound s (refused k) = Unit {0}
-ArgsSound s (args f used) = Sound s arrayKind f
+ArgsSound s (args f used) = SoundIn s arrayKind f
 
 later-sound : (s : List ℕ) (n : ℕ) (o : Args) → ArgsSound s o → ArgsSound s (later n o)
 later-sound s n (refused k) w = tt
@@ -193,7 +193,7 @@ module _ {s : List ℕ} (small : Bytes s) (low : length s < 256 ^ 4) (base : ℕ
       refused : arg.Given item used ≡ readArg tag Unknown base l p → ⊥
       refused q = let z : _≡_ {A = ℕ} 0 1 = cc in omega arith
 
-  array-node : {l : List ℕ} (p : ℕ) → At s (base + p) l → (F : Forest) → Sound s arrayKind F
+  array-node : {l : List ℕ} (p : ℕ) → At s (base + p) l → (F : Forest) → SoundIn s arrayKind F
       → NodeSound s arrayKind (arrayItem (base + p)) F
   unfolding ownRules rangeOk allowed sortOf
   array-node p at F w = record
@@ -203,8 +203,8 @@ module _ {s : List ℕ} (small : Bytes s) (low : length s < 256 ^ 4) (base : ℕ
 
   act-sound : (sort : Sort) (tag : ℕ) → sortOf tag ≡ sort → HasSort tag sort
       → (go : List ℕ → ℕ → Forest → List Open → Args) {l : List ℕ} (p : ℕ) (frame : Forest) (below : List Open)
-      → At s (base + p) l → Sound s arrayKind frame → AllSound s below
-      → ((m : List ℕ) (q : ℕ) (f : Forest) (b : List Open) → At s (base + q) m → Sound s arrayKind f → AllSound s b
+      → At s (base + p) l → SoundIn s arrayKind frame → AllSound s below
+      → ((m : List ℕ) (q : ℕ) (f : Forest) (b : List Open) → At s (base + q) m → SoundIn s arrayKind f → AllSound s b
       → ArgsSound s (go m q f b))
       → ArgsSound s (act sort go base tag l p frame below)
   act-sound Opens tag e t go {l} p frame below at w v h =
@@ -222,7 +222,7 @@ module _ {s : List ℕ} (small : Bytes s) (low : length s < 256 ^ 4) (base : ℕ
           (h (drop used l) (p + used) (snoc frame item nil) below (at-on base p used n at)
           (sound-snoc frame (leaf-node p at class tag e (t .1) g) w) v)
 
-  read-sound : (ts : List ℕ) {l : List ℕ} (p : ℕ) (frame : Forest) (below : List Open) → At s (base + p) l → Sound s arrayKind frame
+  read-sound : (ts : List ℕ) {l : List ℕ} (p : ℕ) (frame : Forest) (below : List Open) → At s (base + p) l → SoundIn s arrayKind frame
       → AllSound s below
       → ArgsSound s (readTags base ts l p frame below)
   unfolding readTags
@@ -233,5 +233,5 @@ module _ {s : List ℕ} (small : Bytes s) (low : length s < 256 ^ 4) (base : ℕ
 
   -- the arguments that a message is read to have obey the rules of a message's
   pub args-sound : (ts : List ℕ) {l : List ℕ} (p : ℕ) → At s (base + p) l → {kept : Forest} {used : ℕ}
-      → args kept used ≡ readArgs base ts l p → Sound s messageKind kept
+      → args kept used ≡ readArgs base ts l p → SoundIn s messageKind kept
   args-sound ts p at {kept} {used} e = in-message kept (subst (ArgsSound s) (sym e) (read-sound ts p nil [] at sound-nil tt))

@@ -17,15 +17,15 @@ use Rattle.heads.specs.Heads.{sizeOf, prefixOf}
 use Rattle.packet.specs.FirstText.{startOf}
 use Rattle.packet.specs.Packet.{readMessage, bundleBy, elementBy, elementsBy, packetBy, packetAt, readPacket}
 use Rattle.framing.specs.Framing.{udp, readFrame, tcp, framesAt, tcpVec}
-use Rattle.framing.specs.declared.Framing.the-variants.{Udp, Tcp, TcpVec}
+use Rattle.edition.specs.declared.Framing.the-variants.{Udp, Tcp, TcpVec}
 use Rattle.answering.specs.Limits.{decoded}
 use Rattle.table.specs.Formed.{WellFormed}
-use Rattle.answers.specs.Demands.{tableAfter}
+use Rattle.calls.specs.Demands.{tableAfter}
 use Rattle.given.specs.Encodable.{AreTrees}
 use Rattle.table.proofs.Examples.{small-bytes, mixed, nested, two, once, mixed-item, mixed-arguments, within}
 use Rattle.edition.specs.declared.Edition.the-variants.{Rosc}
-use Rattle.answers.proofs.Answered.{packets-give}
-use Rattle.answers.proofs.Room.Examples.{blank, nested-answer, two-answer}
+use Rattle.calls.proofs.Answered.{packets-give}
+use Rattle.calls.proofs.Room.Examples.{blank, nested-answer, two-answer}
 use Rattle.given.proofs.Encodable.Tables.{gives-trees, encodable}
 
 -- the message behind its length

@@ -33,7 +33,7 @@ use Rattle.wire.proofs.Numbers.{number-small}
 use Rattle.text.proofs.Within.{found-in}
 use Rattle.wire.proofs.Parts.{drop-small}
 use Rattle.osc10.proofs.Placed.{At, at-take, at-on, at-bytes}
-use Rattle.given.proofs.Encodable.Arguments.{Sound, NodeSound, sound-nil, sound-node, text-range, args-sound}
+use Rattle.given.proofs.Encodable.Arguments.{SoundIn, NodeSound, sound-nil, sound-node, text-range, args-sound}
 
 -- ---- what was read is sound
 
@@ -43,7 +43,7 @@ OutSound s (fault k) = Unit {0}
 OutSound s (one item f used) = NodeSound s bundleKind item f
 
 abbrev ElementsSound : List ℕ → Elements → Type 0
-ElementsSound s (upto f used) = Sound s bundleKind f
+ElementsSound s (upto f used) = SoundIn s bundleKind f
 
 -- so does one with bytes read before it
 pub after-sound : (s : List ℕ) (n : ℕ) (o : Out) → OutSound s o → OutSound s (after n o)
@@ -59,7 +59,7 @@ module _ {s : List ℕ} (small : Bytes s) (low : length s < 256 ^ 4) (base : ℕ
 
   -- the address of n bytes at q
   module _ (q n : ℕ) (address : rangeOk s (messageItem q n) ≡ true) (fits : q + n ≤ length s) where
-    with-sound : (o : Args) → ((kept : Forest) (used : ℕ) → args kept used ≡ o → Sound s messageKind kept)
+    with-sound : (o : Args) → ((kept : Forest) (used : ℕ) → args kept used ≡ o → SoundIn s messageKind kept)
         → OutSound s (messageWith (messageItem q n) o)
     unfolding ownRules allowed
     with-sound (refused k) h = tt

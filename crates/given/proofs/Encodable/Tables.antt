@@ -23,32 +23,32 @@ use Rattle.framing.specs.Framing.{Whole, trees, waiting, refusal, stopped, sing
 use Rattle.framing.specs.Framing.{wholly}
 use Rattle.framing.specs.Framing.{cutWith, cutFrame, first, tcp, tcp2, before, afterFrame, framesAt, refuses, stops, tcpVec, tcpVec2}
 use Rattle.framing.specs.Framing.{ruleOf}
-use Rattle.framing.specs.declared.Framing.{Framing}
-use Rattle.framing.specs.declared.Framing.the-variants.{Udp, Tcp, TcpVec}
+use Rattle.edition.specs.declared.Framing.{Framing}
+use Rattle.edition.specs.declared.Framing.the-variants.{Udp, Tcp, TcpVec}
 use Rattle.answering.specs.Limits.{decoded, forestOf}
-use Rattle.answering.specs.declared.Decoded.{Decoded}
-use Rattle.answers.specs.Words.{Gives}
-use Rattle.answers.specs.Demands.{tableAfter}
+use Rattle.results.specs.declared.Decoded.{Decoded}
+use Rattle.calls.specs.Words.{Gives}
+use Rattle.calls.specs.Demands.{tableAfter}
 use Rattle.osc10.specs.Words.{Bytes}
 use Rattle.given.specs.Encodable.{AreTrees, GivesTrees, Encodable}
 use Rattle.wire.proofs.Choices.{by-le, by-test}
 use Rattle.heads.proofs.Heads.{prefix-in, length-in}
 use Rattle.table.proofs.Grown.{kept-of}
 use Rattle.table.proofs.Theorem.{tree-formed}
-use Rattle.answers.proofs.Answered.{held, given-fits, given-held, packets-give}
+use Rattle.calls.proofs.Answered.{held, given-fits, given-held, packets-give}
 use Rattle.decoder.proofs.Sizes.{nodes-in, whole-in}
 use Rattle.osc10.proofs.Placed.{At, at-all, at-take, at-drop}
-use Rattle.given.proofs.Encodable.Arguments.{Sound, NodeSound, sound-nil, sound-node}
+use Rattle.given.proofs.Encodable.Arguments.{SoundIn, NodeSound, sound-nil, sound-node}
 use Rattle.given.proofs.Encodable.Packets.{OutSound, after-sound, packet-sound}
 use Rattle.given.proofs.Encodable.Reliable.{node-reliable}
 use Rattle.decoder.proofs.Chosen.{by-decoded}
 
 -- every tree that a call gives obeys the rules over the call's input
 abbrev WholeSound : List ℕ → Whole → Type 0
-WholeSound s (trees f left) = Sound s bundleKind f
+WholeSound s (trees f left) = SoundIn s bundleKind f
 WholeSound s waiting = Unit {0}
 WholeSound s (refusal k) = Unit {0}
-WholeSound s (stopped f left k at) = Sound s bundleKind f
+WholeSound s (stopped f left k at) = SoundIn s bundleKind f
 
 abbrev FrameSound : List ℕ → Frame → Type 0
 FrameSound s wait = Unit {0}
@@ -56,7 +56,7 @@ FrameSound s (read o) = OutSound s o
 FrameSound s (refused k) = Unit {0}
 
 -- so does the forest that it gives
-forest-sound : (s : List ℕ) (w : Whole) → WholeSound s w → Sound s bundleKind (forestOf w)
+forest-sound : (s : List ℕ) (w : Whole) → WholeSound s w → SoundIn s bundleKind (forestOf w)
 forest-sound s (trees f left) v = v
 forest-sound s waiting v = sound-nil
 forest-sound s (refusal k) v = sound-nil
@@ -178,7 +178,7 @@ gives-trees framing msg small limit table count dirty q =
     let a = held count dirty rule (capacity table) limit msg q in
     let w = gives-short count dirty rule (capacity table) limit msg q in
     let n = nodes-in (length msg) (rule msg) (whole-in framing limit msg) in
-    let s : Sound msg bundleKind F = forest-sound msg (rule msg) (whole-sound msg small (omega (arith, w)) framing limit) in
+    let s : SoundIn msg bundleKind F = forest-sound msg (rule msg) (whole-sound msg small (omega (arith, w)) framing limit) in
     let h = given-held count dirty rule limit msg table q F refl (s .fits) (omega (arith, w, a .counts)) in
     record {
       spans = h .spans;

@@ -5,13 +5,13 @@ use native.Mathlib.Omega.{arith}
 use lib.ListN.{length}
 use Rattle.node.specs.Records.{startAt}
 use Rattle.framing.specs.Framing.{udp, tcpVec}
-use Rattle.framing.specs.declared.Framing.the-variants.{Udp, TcpVec}
+use Rattle.edition.specs.declared.Framing.the-variants.{Udp, TcpVec}
 use Rattle.table.proofs.Examples.{small-bytes, nested, two}
-use Rattle.answers.specs.Demands.{tableAfter}
+use Rattle.calls.specs.Demands.{tableAfter}
 use Rattle.given.specs.Starts.{StartsHold}
 use Rattle.edition.specs.declared.Edition.the-variants.{Rosc}
-use Rattle.answers.proofs.Answered.{packets-give}
-use Rattle.answers.proofs.Room.Examples.{blank, nested-answer, two-answer}
+use Rattle.calls.proofs.Answered.{packets-give}
+use Rattle.calls.proofs.Room.Examples.{blank, nested-answer, two-answer}
 use Rattle.given.proofs.Starts.Tables.{gives-starts}
 
 -- the starts of the bundle's seven records

@@ -22,11 +22,11 @@ use Rattle.framing.specs.Framing.{wholly}
 use Rattle.framing.specs.Framing.{cutWith, cutFrame, first, tcp, tcp2, before, afterFrame, framesAt, refuses, stops, tcpVec, tcpVec2}
 use Rattle.framing.specs.Framing.{ruleOf}
 use Rattle.answering.specs.Limits.{forestOf}
-use Rattle.framing.specs.declared.Framing.{Framing}
-use Rattle.framing.specs.declared.Framing.the-variants.{Udp, Tcp, TcpVec}
+use Rattle.edition.specs.declared.Framing.{Framing}
+use Rattle.edition.specs.declared.Framing.the-variants.{Udp, Tcp, TcpVec}
 use Rattle.edition.specs.declared.Edition.the-variants.{Rosc, Standard}
 use Rattle.refusal.specs.declared.Refusal.{Refusal}
-use Rattle.answers.specs.Demands.{tableAfter}
+use Rattle.calls.specs.Demands.{tableAfter}
 use Rattle.given.specs.Starts.{OwnStart, GivesStarts}
 use Rattle.given.proofs.Encodable.Tables.{gives-trees}
 use Rattle.given.proofs.Starts.Forests.{Begun, none, also, begun-le, begun-from, begun-to, BegunAt, each-begun, begun-rise}

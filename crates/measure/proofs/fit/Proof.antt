@@ -1,6 +1,5 @@
 -- `measure::fit` meets its contract.
 use borrow.Author.Tests.{le-leb, lt-leb}
-use borrow.Author.Needs.{needs}
 use Rattle.measure.proofs.fit.Statement.{statement}
 use Rattle.measure.proofs.fit.Tie as tie
 

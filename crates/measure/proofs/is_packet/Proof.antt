@@ -1,92 +1,53 @@
 -- `measure::is_packet` meets its contract. A message is accepted if its extent is a tree, a bundle if its time tag is there.
-use Rattle.measure.proofs.Skims.{is-message, is-bundle, is-no-bundle, is-refused}
-use Rattle.packet.proofs.FirstText.{message-start-in, bundle-start-in}
+use mathlib.Core.Path.{_≡_, sym, _∙_}
+use lib.ListN.{length, take, drop}
+use Prim.Native.Nat.{ℕ, _+_, _-_, _≤_}
+use native.Mathlib.Omega.{arith}
+use borrow.Author.Needs.{needs}
 use Rattle.wire.proofs.Parts.{tail}
 use Rattle.argument.proofs.Stands.{stands-somewhere}
-use lib.ListN.{length, take, drop}
-use Prim.Native.Nat.{_+_, _-_}
-use native.Mathlib.Omega.{arith}
-use mathlib.Core.Path.{sym, _∙_}
-use borrow.Author.Needs.{needs}
+use Rattle.packet.specs.FirstText.{startOf}
+use Rattle.packet.specs.Packet.{readPacket}
+use Rattle.packet.specs.declared.Start.the-variants.{Message, Bundle}
+use Rattle.packet.proofs.FirstText.{message-start-in, bundle-start-in}
+use Rattle.measure.specs.CodeMeasure.{accepted}
+use Rattle.measure.specs.declared.Extent.{Extent}
+use Rattle.measure.proofs.Skims.{isTree, is-message, is-bundle, is-no-bundle, is-refused}
 use Rattle.measure.proofs.is_packet.Statement.{statement}
 use Rattle.measure.proofs.is_packet.Tie as tie
 
-sub-measure-message : tie.Need-sub-measure-message
-sub-measure-message c =
-    omega (arith, message-start-in _ _ (sym (c .before .used .given .1) ∙ (c .before .before .before .read-start .ensures)))
+-- ---- an address is read
 
-part-measure-message-start : tie.Need-part-measure-message-start
-part-measure-message-start c =
-    omega (arith, message-start-in _ _ (sym (c .before .used .given .1) ∙ (c .before .before .before .read-start .ensures)))
+abbrev start : tie.After-known-told → tie.Start
+start p = p .before .before .before .before .before
 
-add-measure-message : tie.Need-add-measure-message
-add-measure-message c =
-    let p2 = c .before .before in
-    let p4 = p2 .before .before in
-    omega (arith, message-start-in _ _ (sym (p2 .used .given .1) ∙ (p4 .read-start .ensures)))
+abbrev used : tie.After-known-told → ℕ
+used p = p .before .used .given .0 .1 .0
 
-measure-message-requires : tie.Need-measure-message-requires
-measure-message-requires c κs =
-    let p2 = c .before .before in
-    let p4 = p2 .before .before in
-    omega (arith, message-start-in _ _ (sym (p2 .used .given .1) ∙ (p4 .read-start .ensures)), (c .measure-message-arg .given .2))
+message : (p : tie.After-known-told)
+    → Message (p .before .used .given .0 .0) (used p) ≡ startOf (start p .args .input .now) (start p .args .pos)
+message p = sym (p .before .used .given .1) ∙ p .before .before .before .read-start .ensures
 
-sub-if1 : tie.Need-sub-if1
-sub-if1 c = omega (arith, bundle-start-in _ _ (sym (c .before .used2 .given .1) ∙ (c .before .before .before .read-start .ensures)))
+-- it lies in the input
+address-in : (p : tie.After-known-told) → used p ≤ length (start p .args .input .now)
+address-in p = message-start-in _ _ (message p) .1
 
-returns : tie.Need-returns
-returns c =
-    let p2 = c .before .before in
-    let p4 = p2 .before .before in
-    λ base. is-no-bundle base _ _ (sym (p2 .used2 .given .1) ∙ (p4 .read-start .ensures)) (c .if1 .taken)
-
-returns-2 : tie.Need-returns-2
-returns-2 c =
-    let p2 = c .before .before in
-    let p5 = p2 .before .before .before in
-    let p7 = p5 .before .before in
-    let a = p7 .before .before .args in
+-- the message after it is accepted as its extent says
+by-extent : (p : tie.After-measure-message) {x : Extent} → p .measure-message .result ≡ x
+    → let a = start (p .before .before) .args in (base : ℕ) → isTree x ≡ accepted (readPacket base (a .input .now) (a .pos))
+by-extent p e base =
+    let q = p .before .before in
+    let a = start q .args in
     let l = a .input .now in
-    let u = p5 .used .given .0 .1 .0 in
-    λ base. is-message base _ _ _ _ (sym (p5 .used .given .1) ∙ (p7 .read-start .ensures))
-    (tail l u)
-    (sym (c .enum-told .given .1)
-    ∙ (p2 .measure-message .ensures) base _ (stands-somewhere (base + (a .pos + u)) (take (length l - u) (drop u l))) _ _)
+    is-message base _ _ _ _ (message q) (tail l (used q))
+    (sym e
+    ∙ p .measure-message .ensures base _ (stands-somewhere (base + (a .pos + used q)) (take (length l - used q) (drop (used q) l))) _ _)
 
-returns-3 : tie.Need-returns-3
-returns-3 c =
-    let p2 = c .before .before in
-    let p5 = p2 .before .before .before in
-    let p7 = p5 .before .before in
-    let a = p7 .before .before .args in
-    let l = a .input .now in
-    let u = p5 .used .given .0 .1 .0 in
-    λ base. is-message base _ _ _ _ (sym (p5 .used .given .1) ∙ (p7 .read-start .ensures))
-    (tail l u)
-    (sym (c .enum-told2 .given .1)
-    ∙ (p2 .measure-message .ensures) base _ (stands-somewhere (base + (a .pos + u)) (take (length l - u) (drop u l))) _ _)
+-- ---- "#bundle" is read
 
-returns-4 : tie.Need-returns-4
-returns-4 c =
-    let p2 = c .before .before in
-    let p5 = p2 .before .before .before in
-    let p7 = p5 .before .before in
-    let a = p7 .before .before .args in
-    let l = a .input .now in
-    let u = p5 .used .given .0 .1 .0 in
-    λ base. is-message base _ _ _ _ (sym (p5 .used .given .1) ∙ (p7 .read-start .ensures))
-    (tail l u)
-    (sym (c .enum-told3 .given .1)
-    ∙ (p2 .measure-message .ensures) base _ (stands-somewhere (base + (a .pos + u)) (take (length l - u) (drop u l))) _ _)
-
-returns-5 : tie.Need-returns-5
-returns-5 c =
-    let p2 = c .before .before in
-    let p4 = p2 .before .before in
-    λ base. is-bundle base _ _ (sym (p2 .used2 .given .1) ∙ (p4 .read-start .ensures)) (c .if1 .left)
-
-returns-6 : tie.Need-returns-6
-returns-6 c = λ base. is-refused base _ _ (sym (c .enum-told4 .given .1) ∙ (c .before .before .read-start .ensures))
+bundle : (p : tie.After-known-told2) → let a = p .before .before .before .before .before .args in
+    Bundle (p .before .used2 .given .0 .0) ≡ startOf (a .input .now) (a .pos)
+bundle p = sym (p .before .used2 .given .1) ∙ p .before .before .before .read-start .ensures
 
 pub is-packet-spec : {M : Type 1} → statement M
 is-packet-spec =
@@ -94,20 +55,20 @@ is-packet-spec =
     (tie.spec
     (λ c κs. search needs)
     (λ c. search needs)
-    sub-measure-message
-    part-measure-message-start
+    (λ c. omega (arith, address-in c))
+    (λ c. omega (arith, address-in c))
     (λ c. search needs)
-    add-measure-message
-    measure-message-requires
-    (λ c. search needs)
-    (λ c. search needs)
+    (λ c. omega (arith, address-in (c .before)))
+    (λ c κs. omega (arith, address-in (c .before), c .measure-message-arg .given .2))
     (λ c. search needs)
     (λ c. search needs)
-    sub-if1
-    returns
     (λ c. search needs)
-    returns-2
-    returns-3
-    returns-4
-    returns-5
-    returns-6)
+    (λ c. search needs)
+    (λ c. omega (arith, bundle-start-in _ _ (bundle c)))
+    (λ c base. is-no-bundle base _ _ (bundle (c .before)) (c .if1 .taken))
+    (λ c. search needs)
+    (λ c. by-extent (c .before .before) (c .enum-told .given .1))
+    (λ c. by-extent (c .before .before) (c .enum-told2 .given .1))
+    (λ c. by-extent (c .before .before) (c .enum-told3 .given .1))
+    (λ c base. is-bundle base _ _ (bundle (c .before)) (c .if1 .left))
+    (λ c base. is-refused base _ _ (sym (c .enum-told4 .given .1) ∙ c .before .before .read-start .ensures)))

@@ -1,200 +1,101 @@
 -- `measure::measure_message` meets its contract. The extent of a message is that of its arguments, and one record more; its dirt is that of
 -- its address, of its type text and of its arguments.
-use Rattle.measure.proofs.Extents.{refused-is, message-exit, stands-after}
-use Rattle.heads.proofs.Heads.{types-tags, args-fit}
-use Rattle.text.proofs.Within.{found-in, found-ends}
-use Rattle.packet.proofs.Within.{types-lack}
-use Rattle.heads.specs.Heads.{messageItem}
-use Rattle.measure.specs.declared.Extent.the-variants.{Refused}
-use Rattle.arguments.proofs.Dirt.{measured-bounds}
-use Rattle.wire.proofs.Parts.{tail}
+use mathlib.Core.Path.{_≡_, refl, ap, sym, _∙_}
+use mathlib.Core.List.{List}
 use lib.ListN.{length, drop, length-drop, length-take}
-use Prim.Native.Nat.{_+_, _-_}
+use Prim.Native.Nat.{ℕ, _+_, _-_, _*_, _≤_, _<_}
 use native.Mathlib.Omega.{arith}
 use native.Mathlib.Nat.{sub-zero}
-use mathlib.Core.Path.{ap, sym, _∙_}
 use borrow.Author.Needs.{needs}
+use Rattle.wire.specs.Limits.{longest}
+use Rattle.wire.proofs.Parts.{tail}
+use Rattle.text.specs.Text.{readText}
+use Rattle.text.specs.declared.Text.the-variants.{Found}
+use Rattle.text.proofs.Within.{found-in, found-ends}
+use Rattle.argument.specs.CodeParts.{StandsAt}
+use Rattle.arguments.specs.declared.Measured.{Measured}
+use Rattle.arguments.proofs.Dirt.{measured-bounds}
+use Rattle.heads.specs.Heads.{messageItem}
+use Rattle.heads.proofs.Heads.{types-tags, args-fit}
+use Rattle.packet.specs.Packet.{readMessage}
+use Rattle.packet.proofs.Within.{types-lack}
+use Rattle.measure.specs.CodeMeasure.{extent, messageDirt}
+use Rattle.measure.specs.declared.Extent.{Extent}
+use Rattle.measure.specs.declared.Extent.the-variants.{Refused}
+use Rattle.measure.proofs.Extents.{refused-is, messageExtent, message-exit, stands-after}
 use Rattle.measure.proofs.measure_message.Statement.{statement}
 use Rattle.measure.proofs.measure_message.Tie as tie
 
-part-tags-in-end : tie.Need-part-tags-in-end
-part-tags-in-end c =
-    let p3 = c .before .before .before in
-    let a = p3 .before .before .args in
-    omega (arith, found-in (a .input .now) (a .pos) (sym (c .before .length .given .1) ∙ p3 .read-osc-string .ensures))
+-- ---- the type text is found
 
-tags-in-requires : tie.Need-tags-in-requires
-tags-in-requires c κs =
-    let p2 = c .before .before in
-    let p4 = p2 .before .before in
-    let a = p4 .before .before .args in
-    rw sub-zero (found-in (a .input .now) (a .pos) (sym (p2 .length .given .1) ∙ p4 .read-osc-string .ensures) .2)
+abbrev start : tie.After-known-told → tie.Start
+start p = p .before .before .before .before .before
 
-add-dirty-in : tie.Need-add-dirty-in
-add-dirty-in c =
-    let p3 = c .before .before .before in
-    let p5 = p3 .before .before in
-    let s = p5 .before .before in
-    omega (arith, s .pre, found-in (s .args .input .now) (s .args .pos) (sym (p3 .length .given .1) ∙ p5 .read-osc-string .ensures))
+-- its length, and the bytes that it takes with its padding
+abbrev text : tie.After-known-told → ℕ
+text p = p .before .length .given .0 .0
 
-sub-dirty-in : tie.Need-sub-dirty-in
-sub-dirty-in c =
-    let p3 = c .before .before .before in
-    let p5 = p3 .before .before in
-    let s = p5 .before .before in
-    omega (arith, found-in (s .args .input .now) (s .args .pos) (sym (p3 .length .given .1) ∙ p5 .read-osc-string .ensures))
+abbrev used : tie.After-known-told → ℕ
+used p = p .before .length .given .0 .1 .0
 
-part-dirty-in-start : tie.Need-part-dirty-in-start
-part-dirty-in-start c = sub-dirty-in c
+found : (p : tie.After-known-told) → Found (text p) (used p) ≡ readText (start p .args .input .now) (start p .args .pos)
+found p = sym (p .before .length .given .1) ∙ p .before .before .before .read-osc-string .ensures
 
-part-dirty-in-end : tie.Need-part-dirty-in-end
-part-dirty-in-end c =
-    let p3 = c .before .before .before in
-    let p5 = p3 .before .before in
-    let s = p5 .before .before in
-    omega (arith, found-in (s .args .input .now) (s .args .pos) (sym (p3 .length .given .1) ∙ p5 .read-osc-string .ensures))
+text-in : (p : tie.After-known-told) → (text p < used p) × (used p ≤ length (start p .args .input .now))
+text-in p = let w = found-in _ _ (found p) in (w .0, w .1)
 
-dirty-in-requires : tie.Need-dirty-in-requires
-dirty-in-requires c κs =
-    let p4 = c .before .before .before .before in
-    let p6 = p4 .before .before in
-    let a = p6 .before .before .args in
-    let n = p4 .length .given .0 .0 in
-    let u = p4 .length .given .0 .1 .0 in
-    omega (
-      arith,
-      found-ends (a .input .now) (a .pos) (sym (p4 .length .given .1) ∙ p6 .read-osc-string .ensures),
-      length-take (u - (n + 1)) (drop (n + 1) (a .input .now)),
-    )
+-- the same where its tags are found, and where its padding is counted
+tagged : (p : tie.After-tags-in) → let q = p .before .before in (text q < used q) × (used q ≤ length (start q .args .input .now))
+tagged p = text-in (p .before .before)
 
-sub-measure-osc-args : tie.Need-sub-measure-osc-args
-sub-measure-osc-args c =
-    let p5 = c .before .before .before .before .before in
-    let p7 = p5 .before .before in
-    let s = p7 .before .before in
-    omega (arith, found-in (s .args .input .now) (s .args .pos) (sym (p5 .length .given .1) ∙ p7 .read-osc-string .ensures))
+-- ---- the arguments are measured
 
-part-measure-osc-args-start : tie.Need-part-measure-osc-args-start
-part-measure-osc-args-start c = sub-measure-osc-args c
+abbrev typed : tie.After-measure-osc-args → tie.After-known-told
+typed p = p .before .before .before .before .before .before
 
-add-measure-osc-args : tie.Need-add-measure-osc-args
-add-measure-osc-args c =
-    let p6 = c .before .before .before .before .before .before in
-    let p8 = p6 .before .before in
-    let s = p8 .before .before in
-    omega (arith, s .pre, found-in (s .args .input .now) (s .args .pos) (sym (p6 .length .given .1) ∙ p8 .read-osc-string .ensures))
-
-measure-osc-args-requires : tie.Need-measure-osc-args-requires
-measure-osc-args-requires c κs =
-    let p6 = c .before .before .before .before .before .before in
-    let p8 = p6 .before .before in
-    let s = p8 .before .before in
-    let w = found-in (s .args .input .now) (s .args .pos) (sym (p6 .length .given .1) ∙ p8 .read-osc-string .ensures) in
-    let u = p6 .length .given .0 .1 .0 in
-    rw (tail (s .args .input .now) u) (omega (arith, w, s .pre, length-drop u (s .args .input .now)))
-
--- the arguments that were measured are no more than the bytes after the address
-add-fit-3 : tie.Need-add-fit-3
-add-fit-3 c =
-    let p3 = c .before .before .before in
-    let p8 = p3 .before .before .before .before .before in
-    let p10 = p8 .before .before in
-    let p12 = p10 .before .before in
-    let s = p12 .before .before in
-    let l = s .args .input .now in
-    let u = p10 .length .given .0 .1 .0 in
-    let w = found-in l (s .args .pos) (sym (p10 .length .given .1) ∙ p12 .read-osc-string .ensures) in
-    omega (
-      arith,
-      w,
-      s .pre,
-      measured-bounds _ _ _ (λ base msg w. sym (c .before .count .given .1) ∙ p3 .measure-osc-args .ensures base msg w),
-      length-take (length l - u) (drop u l),
-      length-drop u l,
-    )
-
-add-fit-2 : tie.Need-add-fit-2
-add-fit-2 c = omega (arith, add-fit-3 c)
-
-add-fit : tie.Need-add-fit
-add-fit c =
-    let p3 = c .before .before .before in
-    let p7 = p3 .before .before .before .before in
-    let p10 = p7 .before .before .before in
-    let p12 = p10 .before .before in
-    let s = p12 .before .before in
-    let l = s .args .input .now in
-    let w = found-in l (s .args .pos) (sym (p10 .length .given .1) ∙ p12 .read-osc-string .ensures) in
-    omega (
-      arith,
-      w,
-      s .pre,
-      measured-bounds _ _ _ (λ base msg w. sym (c .before .count .given .1) ∙ p3 .measure-osc-args .ensures base msg w),
-      args-fit l (p10 .length .given .0 .0) (p10 .length .given .0 .1 .0) (p7 .tags-in .ensures),
-    )
-
-add-fit-5 : tie.Need-add-fit-5
-add-fit-5 c =
-    let p3 = c .before .before .before in
-    let p5 = p3 .before .before in
-    let p7 = p5 .before .before in
-    let p10 = p7 .before .before .before in
-    let p12 = p10 .before .before in
-    let s = p12 .before .before in
-    let l = s .args .input .now in
-    let w = found-in l (s .args .pos) (sym (p10 .length .given .1) ∙ p12 .read-osc-string .ensures) in
-    omega (
-      arith,
-      w,
-      s .pre,
-      measured-bounds _ _ _ (λ base msg w. sym (c .before .count .given .1) ∙ p3 .measure-osc-args .ensures base msg w),
-      args-fit l (p10 .length .given .0 .0) (p10 .length .given .0 .1 .0) (p7 .tags-in .ensures),
-      p5 .dirty-in .ensures .0,
-    )
-
-add-fit-4 : tie.Need-add-fit-4
-add-fit-4 c = omega (arith, add-fit-5 c)
-
-returns : tie.Need-returns
-returns c =
-    let p4 = c .before .before .before .before in
-    let p6 = p4 .before .before in
-    let p8 = p6 .before .before in
-    let p11 = p8 .before .before .before in
-    let p13 = p11 .before .before in
-    let a = p13 .before .before .args in
+by-arguments : (p : tie.After-measure-osc-args) {x : Measured} {r : Extent} → p .measure-osc-args .result ≡ x
+    → let q = typed p in let a = start q .args in
+    r ≡ messageExtent (a .room) (a .pos + used q) (a .dirt + p .before .before .dirty-in .result) x
+    → (base : ℕ) (msg : List ℕ) → StandsAt msg (base + a .pos) (a .input .now) → (offset n : ℕ)
+    → r ≡ extent (a .room) (a .pos) (messageDirt base msg (base + a .pos) (a .dirt))
+    (readMessage base (messageItem offset n) (a .input .now) (a .pos))
+by-arguments p e g base msg w offset n =
+    let q = typed p in
+    let a = start q .args in
     let l = a .input .now in
-    let u = p11 .length .given .0 .1 .0 in
-    let e = sym (p11 .length .given .1) ∙ p13 .read-osc-string .ensures in
-    λ base msg w offset n. c .fit .ensures
-    ∙ message-exit base msg offset n _ l _ w (a .dirt) e (types-tags l (p11 .length .given .0 .0) (p8 .tags-in .ensures)) (tail l u)
-    (p6 .dirty-in .ensures .1)
-    (sym (c .before .before .count .given .1)
-    ∙ p4 .measure-osc-args .ensures base msg (stands-after base (a .pos) l msg w (found-in l (a .pos) e .1) (tail l u)))
+    g ∙ message-exit base msg offset n _ l _ w (a .dirt) (found q)
+    (types-tags l (text q) (p .before .before .before .before .tags-in .ensures)) (tail l (used q))
+    (p .before .before .dirty-in .ensures .1)
+    (sym e ∙ p .measure-osc-args .ensures base msg (stands-after base (a .pos) l msg w (text-in q .1) (tail l (used q))))
 
-returns-2 : tie.Need-returns-2
-returns-2 c =
-    let p3 = c .before .before .before in
-    let p5 = p3 .before .before in
-    let p7 = p5 .before .before in
-    let p10 = p7 .before .before .before in
-    let p12 = p10 .before .before in
-    let a = p12 .before .before .args in
-    let l = a .input .now in
-    let u = p10 .length .given .0 .1 .0 in
-    let e = sym (p10 .length .given .1) ∙ p12 .read-osc-string .ensures in
-    λ base msg w offset n.
-    message-exit base msg offset n _ l _ w (a .dirt) e (types-tags l (p10 .length .given .0 .0) (p7 .tags-in .ensures)) (tail l u)
-    (p5 .dirty-in .ensures .1)
-    (sym (c .before .fault .given .1)
-    ∙ p3 .measure-osc-args .ensures base msg (stands-after base (a .pos) l msg w (found-in l (a .pos) e .1) (tail l u)))
+-- what is kept of them is small: its records, where they end, and the dirt of all
+kept-small : (p : tie.After-known-told2) → let m = p .before .before .before in let q = typed m in let a = start q .args in
+    let g = p .before .count .given .0 in
+    (g .0 < longest) × (a .pos + used q + g .1 .1 .0 ≤ longest)
+    × (a .dirt + m .before .before .dirty-in .result + g .1 .1 .1 .0 ≤ 8 * longest)
+kept-small p =
+    let m = p .before .before .before in
+    let q = typed m in
+    let b = measured-bounds _ _ _ (λ base msg w. sym (p .before .count .given .1) ∙ m .measure-osc-args .ensures base msg w) in
+    let f = args-fit (start q .args .input .now) (text q) (used q) (m .before .before .before .before .tags-in .ensures) in
+    omega (arith, b, f, text-in q, start q .pre, m .before .before .dirty-in .ensures .0)
 
-returns-3 : tie.Need-returns-3
-returns-3 c =
-    let p2 = c .before .before in
-    let p4 = p2 .before .before in
-    λ base msg w offset n. ap Refused (c .fault-in .ensures)
-    ∙ refused-is _ _ _ (types-lack base (messageItem offset n) _ _ (sym (p2 .lack .given .1) ∙ p4 .read-osc-string .ensures))
+-- ---- the needs
+
+tags-are-text : tie.Need-tags-in-requires
+tags-are-text c κs = rw sub-zero (found-in _ _ (found (c .before)) .2)
+
+padding-is-short : tie.Need-dirty-in-requires
+padding-is-short c κs =
+    let q = c .before .before .before in
+    let l = start q .args .input .now in
+    omega (arith, found-ends l _ (found q), length-take (used q - (text q + 1)) (drop (text q + 1) l))
+
+data-is-short : tie.Need-measure-osc-args-requires
+data-is-short c κs =
+    let q = c .before .before .before .before .before in
+    let l = start q .args .input .now in
+    rw (tail l (used q)) (omega (arith, text-in q, start q .pre, length-drop (used q) l))
 
 pub measure-message-spec : {M : Type 1} → statement M
 measure-message-spec =
@@ -204,28 +105,30 @@ measure-message-spec =
     (λ c. search needs)
     (λ c. search needs)
     (λ c. search needs)
-    part-tags-in-end
-    tags-in-requires
-    add-dirty-in
-    sub-dirty-in
-    part-dirty-in-start
-    part-dirty-in-end
-    dirty-in-requires
-    sub-measure-osc-args
-    part-measure-osc-args-start
+    (λ c. omega (arith, text-in c))
+    tags-are-text
+    (λ c. omega (arith, tagged c))
+    (λ c. omega (arith, tagged c))
+    (λ c. omega (arith, tagged c))
+    (λ c. omega (arith, tagged c))
+    padding-is-short
+    (λ c. omega (arith, tagged (c .before .before)))
+    (λ c. omega (arith, tagged (c .before .before)))
     (λ c. search needs)
-    add-measure-osc-args
-    measure-osc-args-requires
+    (λ c. omega (arith, tagged (c .before .before .before)))
+    data-is-short
     (λ c. search needs)
-    add-fit
-    add-fit-2
-    add-fit-3
-    add-fit-4
-    add-fit-5
+    (λ c. omega (arith, kept-small c))
+    (λ c. omega (arith, kept-small c))
+    (λ c. omega (arith, kept-small c))
+    (λ c. omega (arith, kept-small c))
+    (λ c. omega (arith, kept-small c))
     (λ c κs. search needs)
     (λ c. search needs)
     (λ c. search needs)
     (λ c κs. search needs)
-    returns
-    returns-2
-    returns-3)
+    (λ c. let p = c .before in by-arguments (p .before .before .before) (p .before .count .given .1) (c .fit .ensures))
+    (λ c. by-arguments (c .before .before .before) (c .before .fault .given .1) refl)
+    (λ c base msg w offset n. let p = c .before in ap Refused (c .fault-in .ensures)
+    ∙ refused-is _ _ _ (types-lack base (messageItem offset n) _ _
+    (sym (p .before .lack .given .1) ∙ p .before .before .before .read-osc-string .ensures))))

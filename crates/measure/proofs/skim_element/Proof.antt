@@ -1,42 +1,40 @@
 -- `measure::skim_element` meets its contract. An element is accepted if its packet is.
-use Rattle.measure.proofs.Skims.{skim-packet, skim-none}
-use Rattle.heads.proofs.Heads.{part-4, size-in}
+use mathlib.Core.Path.{_≡_, sym, _∙_}
+use mathlib.Core.Bool.{Bool, cond}
+use lib.ListN.{length}
+use Prim.Native.Nat.{ℕ, _+_, _≤_}
 use native.Mathlib.Omega.{arith}
-use mathlib.Core.Path.{sym, _∙_}
 use borrow.Author.Needs.{needs}
+use Rattle.heads.specs.Heads.{sizeOf}
+use Rattle.heads.specs.declared.ElementSize.the-variants.{Holds}
+use Rattle.heads.proofs.Heads.{part-4, size-in}
+use Rattle.packet.specs.Packet.{readElement}
+use Rattle.measure.specs.CodeMeasure.{skimmed}
+use Rattle.measure.specs.declared.Skimmed.the-variants.{Takes, Fails}
+use Rattle.measure.proofs.Skims.{skim-packet, skim-none}
 use Rattle.measure.proofs.skim_element.Statement.{statement}
 use Rattle.measure.proofs.skim_element.Tie as tie
 
-add-is-packet : tie.Need-add-is-packet
-add-is-packet c = omega (arith, size-in _ (sym (c .before .size .given .1) ∙ (c .before .before .before .read-size .ensures)))
+-- ---- the size is read
 
-part-is-packet-end : tie.Need-part-is-packet-end
-part-is-packet-end c = omega (arith, size-in _ (sym (c .before .size .given .1) ∙ (c .before .before .before .read-size .ensures)))
+abbrev start : tie.After-known-told → tie.Start
+start p = p .before .before .before .before .before
 
-is-packet-requires : tie.Need-is-packet-requires
-is-packet-requires c κs =
-    let p2 = c .before .before in
-    let p4 = p2 .before .before in
-    omega (arith, size-in _ (sym (p2 .size .given .1) ∙ (p4 .read-size .ensures)), (c .is-packet-arg .given .2))
+abbrev size : tie.After-known-told → ℕ
+size p = p .before .size .given .0 .0
 
-returns : tie.Need-returns
-returns c =
-    let p4 = c .before .before .before .before in
-    let p6 = p4 .before .before in
-    let p8 = p6 .before .before in
-    λ base. skim-packet base _ _ _ (sym (p4 .size .given .1) ∙ (p6 .read-size .ensures))
-    (part-4 (p8 .args .input .now) (p4 .size .given .0 .0)) (sym (c .if1 .taken) ∙ (c .before .is-packet .ensures) base)
+holds : (p : tie.After-known-told) → Holds (size p) ≡ sizeOf (start p .args .input .now)
+holds p = sym (p .before .size .given .1) ∙ p .before .before .before .read-size .ensures
 
-returns-2 : tie.Need-returns-2
-returns-2 c =
-    let p4 = c .before .before .before .before in
-    let p6 = p4 .before .before in
-    let p8 = p6 .before .before in
-    λ base. skim-packet base _ _ _ (sym (p4 .size .given .1) ∙ (p6 .read-size .ensures))
-    (part-4 (p8 .args .input .now) (p4 .size .given .0 .0)) (sym (c .if1 .left) ∙ (c .before .is-packet .ensures) base)
+bytes-are-there : (p : tie.After-known-told) → 4 + size p ≤ length (start p .args .input .now)
+bytes-are-there p = size-in _ (holds p)
 
-returns-3 : tie.Need-returns-3
-returns-3 c = λ base. skim-none base _ _ (sym (c .enum-told .given .1) ∙ (c .before .before .read-size .ensures))
+-- the packet in those bytes is judged
+by-packet : (p : tie.After-is-packet) {r : Bool} → p .is-packet .result ≡ r → let q = p .before .before in let a = start q .args in
+    (base : ℕ) → cond r (Takes (size q)) Fails ≡ skimmed (readElement base (a .input .now) (a .pos))
+by-packet p e base =
+    let q = p .before .before in
+    skim-packet base _ _ _ (holds q) (part-4 (start q .args .input .now) (size q)) (sym e ∙ p .is-packet .ensures base)
 
 pub skim-element-spec : {M : Type 1} → statement M
 skim-element-spec =
@@ -44,13 +42,13 @@ skim-element-spec =
     (tie.spec
     (λ c κs. search needs)
     (λ c. search needs)
-    add-is-packet
+    (λ c. omega (arith, bytes-are-there c))
     (λ c. search needs)
     (λ c. search needs)
-    part-is-packet-end
+    (λ c. omega (arith, bytes-are-there c))
     (λ c. search needs)
-    is-packet-requires
-    returns
+    (λ c κs. omega (arith, bytes-are-there (c .before), c .is-packet-arg .given .2))
+    (λ c. by-packet (c .before) (c .if1 .taken))
     (λ c. search needs)
-    returns-2
-    returns-3)
+    (λ c. by-packet (c .before) (c .if1 .left))
+    (λ c base. skim-none base _ _ (sym (c .enum-told .given .1) ∙ c .before .before .read-size .ensures)))

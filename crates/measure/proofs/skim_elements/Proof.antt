@@ -1,8 +1,10 @@
 -- `measure::skim_elements` meets its contract. The invariant: where the elements end is counted from `at`.
 use Rattle.measure.proofs.Skims.{skim-on, skim-end}
-use Rattle.packet.specs.Packet.{usedBy, readElements}
+use Rattle.measure.specs.CodeMeasure.{skimmed}
+use Rattle.measure.specs.declared.Skimmed.the-variants.{Takes}
+use Rattle.packet.specs.Packet.{usedBy, readElements, readElement}
 use lib.ListN.{length}
-use Prim.Native.Nat.{ℕ, _+_}
+use Prim.Native.Nat.{ℕ, _+_, _≤_}
 use mathlib.Core.Path.{_≡_, refl, sym, _∙_}
 use native.Mathlib.Omega.{arith}
 use borrow.Author.Needs.{needs}
@@ -17,71 +19,33 @@ Inv-loop input pos rest₀ at₀ rest at =
 abbrev μ-loop : tie.MeasureT-loop
 μ-loop input pos rest₀ at₀ rest at = length rest
 
-loop-holds : tie.Need-loop-holds Inv-loop μ-loop
-loop-holds c = (search needs, λ base. refl)
+-- ---- the next element is accepted, and takes so many bytes after its size
 
-add-rest : tie.Need-add-rest Inv-loop μ-loop
-add-rest c =
-    let p3 = c .before .before .before in
-    let p4 = p3 .before in
-    omega (arith, skim-on 0 (p4 .loop .rest .now) (p4 .loop .at) (sym (c .before .size .given .1) ∙ (p3 .skim-element .ensures) 0) .0)
+abbrev head : tie.After-known-told Inv-loop μ-loop → tie.At-loop Inv-loop μ-loop
+head p = p .before .before .before .before
 
-sub-rest : tie.Need-sub-rest Inv-loop μ-loop
-sub-rest c =
-    let p3 = c .before .before .before in
-    let p4 = p3 .before in
-    omega (arith, skim-on 0 (p4 .loop .rest .now) (p4 .loop .at) (sym (c .before .size .given .1) ∙ (p3 .skim-element .ensures) 0) .0)
+abbrev size : tie.After-known-told Inv-loop μ-loop → ℕ
+size p = p .before .size .given .0 .0
 
-part-rest-start : tie.Need-part-rest-start Inv-loop μ-loop
-part-rest-start c =
-    let p3 = c .before .before .before in
-    let p4 = p3 .before in
-    omega (arith, skim-on 0 (p4 .loop .rest .now) (p4 .loop .at) (sym (c .before .size .given .1) ∙ (p3 .skim-element .ensures) 0) .0)
+takes : (p : tie.After-known-told Inv-loop μ-loop) (base : ℕ)
+    → Takes (size p) ≡ skimmed (readElement base (head p .loop .rest .now) (head p .loop .at))
+takes p base = sym (p .before .size .given .1) ∙ p .before .before .before .skim-element .ensures base
 
-add-at : tie.Need-add-at Inv-loop μ-loop
-add-at c =
-    let p2 = c .before .before in
-    let p4 = p2 .before .before in
-    let p5 = p4 .before in
-    omega (arith, skim-on 0 (p5 .loop .rest .now) (p5 .loop .at) (sym (p2 .size .given .1) ∙ (p4 .skim-element .ensures) 0) .0)
+-- they are there
+bytes-are-there : (p : tie.After-known-told Inv-loop μ-loop) → 4 + size p ≤ length (head p .loop .rest .now)
+bytes-are-there p = skim-on 0 _ _ (takes p 0) .0
 
-add-at-2 : tie.Need-add-at-2 Inv-loop μ-loop
-add-at-2 c =
-    let p2 = c .before .before in
-    let p4 = p2 .before .before in
-    let p5 = p4 .before in
-    omega (arith, skim-on 0 (p5 .loop .rest .now) (p5 .loop .at) (sym (p2 .size .given .1) ∙ (p4 .skim-element .ensures) 0) .0)
+-- ---- the needs
 
-loop-less : tie.Need-loop-less Inv-loop μ-loop
-loop-less c =
-    let p2 = c .before .before in
-    let p4 = p2 .before .before in
-    let p5 = p4 .before in
-    omega (
-      arith,
-      skim-on 0 (p5 .loop .rest .now) (p5 .loop .at) (sym (p2 .size .given .1) ∙ (p4 .skim-element .ensures) 0) .0,
-      (c .rest .given .2),
-    )
+rest-is-shorter : tie.Need-loop-less Inv-loop μ-loop
+rest-is-shorter c = omega (arith, bytes-are-there (c .before), c .rest .given .2)
 
 loop-again : tie.Need-loop-again Inv-loop μ-loop
 loop-again c =
-    let p2 = c .before .before in
-    let p4 = p2 .before .before in
-    let p5 = p4 .before in (
-      omega (
-        arith,
-        skim-on 0 (p5 .loop .rest .now) (p5 .loop .at) (sym (p2 .size .given .1) ∙ (p4 .skim-element .ensures) 0) .0,
-        (c .rest .given .2),
-      ),
-      λ base. (p5 .loop .inv .1) base ∙ skim-on base (p5 .loop .rest .now) (p5 .loop .at) (sym (p2 .size .given .1)
-          ∙ (p4 .skim-element .ensures) base) .1,
+    let p = c .before in (
+      omega (arith, bytes-are-there p, c .rest .given .2, head p .loop .inv .0),
+      λ base. head p .loop .inv .1 base ∙ skim-on base _ _ (takes p base) .1,
     )
-
-returns : tie.Need-returns Inv-loop μ-loop
-returns c =
-    let p2 = c .before .before in
-    let p3 = p2 .before in
-    λ base. skim-end base _ _ (sym (c .enum-told .given .1) ∙ (p2 .skim-element .ensures) base) ∙ sym ((p3 .loop .inv .1) base)
 
 pub skim-elements-spec : {M : Type 1} → statement M
 skim-elements-spec =
@@ -89,16 +53,17 @@ skim-elements-spec =
     (tie.spec
     Inv-loop
     μ-loop
-    loop-holds
+    (λ c. (search needs, λ base. refl))
     (λ c κs. search needs)
     (λ c. search needs)
-    add-rest
-    sub-rest
-    part-rest-start
+    (λ c. omega (arith, bytes-are-there c))
+    (λ c. omega (arith, bytes-are-there c))
+    (λ c. omega (arith, bytes-are-there c))
     (λ c. search needs)
-    add-at
-    add-at-2
-    loop-less
+    (λ c. omega (arith, bytes-are-there (c .before)))
+    (λ c. omega (arith, bytes-are-there (c .before)))
+    rest-is-shorter
     loop-again
     (λ c. search needs)
-    returns)
+    (λ c base. let p = c .before .before in
+    skim-end base _ _ (sym (c .enum-told .given .1) ∙ p .skim-element .ensures base) ∙ sym (p .before .loop .inv .1 base)))

@@ -1,32 +1,23 @@
--- `osc::osc_read_portion` meets its contract: what the step answers fits its bits.
+-- `osc::osc_read_portion` meets its contract: the record of the answer has its bits.
+use mathlib.Core.Path.{sym, subst}
 use borrow.Author.Needs.{needs}
-use Rattle.osc.proofs.Fits.{portion-fits}
+use Rattle.told.specs.Told.{Bounded}
+use Rattle.told.proofs.Unpacked.{tells-by}
+use Rattle.apart.proofs.Bounds.{portion-fits}
 use Rattle.osc.proofs.osc_read_portion.Statement.{statement}
 use Rattle.osc.proofs.osc_read_portion.Tie as tie
 
-portion-more-requires : tie.Need-portion-more-requires
-portion-more-requires c κs =
-    let p2 = c .before .before in
-    let a = p2 .before .before .before .before .args in
-    portion-fits _ (a .bytes .now) (a .table .now) (p2 .read-portion .ensures .answers)
-
-portion-number-requires : tie.Need-portion-number-requires
-portion-number-requires c κs =
-    let p3 = c .before .before .before in
-    let a = p3 .before .before .before .before .args in
-    portion-fits _ (a .bytes .now) (a .table .now) (p3 .read-portion .ensures .answers)
+tell-requires : tie.Need-tell-requires
+tell-requires c κs =
+    let p4 = c .before .before .before .before in
+    let a = p4 .before .before .before .before .args in
+    subst Bounded (sym (c .before .of-portion .ensures))
+    (portion-fits _ (a .bytes .now) (a .table .now) (p4 .read-portion .ensures .answers))
 
 returns : tie.Need-returns
 returns c =
-    let p1 = c .before in
-    record {
-      answer = _;
-      steps = p1 .before .before .before .read-portion .ensures;
-      number = c .portion-number .ensures;
-      beside = p1 .portion-more .ensures;
-    }
+    let p2 = c .before .before in
+    tells-by _ (p2 .before .before .before .read-portion .ensures) (p2 .of-portion .ensures) (c .tell .ensures)
 
 pub osc-read-portion-spec : {M : Type 1} → statement M
-osc-read-portion-spec =
-    tie.close
-    (tie.spec (λ c κs. search needs) portion-more-requires portion-number-requires (λ c. search needs) returns)
+osc-read-portion-spec = tie.close (tie.spec (λ c κs. search needs) (λ c κs. search needs) tell-requires (λ c. search needs) returns)

@@ -6,9 +6,9 @@ use lib.ListN.{length}
 use borrow.Author.Needs.{needs}
 use Rattle.framing.specs.Framing.{ruleOf}
 use Rattle.answering.specs.Limits.{decoded, forestOf}
-use Rattle.answering.specs.declared.Decoded.{Decoded}
+use Rattle.results.specs.declared.Decoded.{Decoded}
 use Rattle.node.specs.Records.{recordSize, recordsOf}
-use Rattle.telling.specs.Answers.{decodedLine}
+use Rattle.telling.specs.Replies.{decodedLine}
 use Rattle.telling.proofs.Told.{says-as}
 use Rattle.outcomes.specs.Kept.{rootsOf, hasTable, keptTrees}
 use Rattle.outcomes.specs.Told.{decodedWith}

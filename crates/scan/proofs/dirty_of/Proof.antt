@@ -1,6 +1,6 @@
 -- `scan::dirty_of` meets its contract. Each arm is a case of `paddingFrom`.
-use mathlib.Core.Path.{_∙_, sym, subst, ap}
-use Prim.Native.Nat.{_+_, _-_, _≤_}
+use mathlib.Core.Path.{_≡_, _∙_, sym, subst, ap}
+use Prim.Native.Nat.{ℕ, _+_, _-_, _≤_}
 use native.Mathlib.Omega.{arith}
 use lib.ListN.{drop, length-take}
 use borrow.Author.Needs.{needs}
@@ -11,62 +11,57 @@ use Rattle.scan.proofs.Passed.{no-dirt}
 use Rattle.scan.proofs.dirty_of.Statement.{statement}
 use Rattle.scan.proofs.dirty_of.Tie as tie
 
-sub-dirty-in : tie.Need-sub-dirty-in
-sub-dirty-in c =
-    let a = c .before .before .before .before in
-    subst (λ (k : Class). paddingFrom k (a .args .item) (a .args .used) ≤ a .args .used) (c .before .enum-told .given .1) (a .pre .0)
+-- ---- the class is known
 
-part-dirty-in-start : tie.Need-part-dirty-in-start
-part-dirty-in-start c = sub-dirty-in c
-
-dirty-in-requires : tie.Need-dirty-in-requires
-dirty-in-requires c κs =
-    let p2 = c .before .before in
-    let s = p2 .before .before .before in
+-- the padding is there, and short
+short-padding : (s : tie.Start) {k : Class} → let a = s .args in a .class ≡ k
+    → (paddingFrom k (a .item) (a .used) ≤ a .used) × (a .used - paddingFrom k (a .item) (a .used) ≤ 3)
+short-padding s e =
     let a = s .args in
+    subst (λ (k : Class). (paddingFrom k (a .item) (a .used) ≤ a .used) × (a .used - paddingFrom k (a .item) (a .used) ≤ 3)) e
+    (s .pre .0, s .pre .1)
+
+-- its dirt is the answer
+dirt-by : (s : tie.Start) {k : Class} {r : ℕ} → let a = s .args in a .class ≡ k
+    → r ≡ nonZero (between (paddingFrom k (a .item) (a .used)) (a .used) (a .input .now))
+    → r ≡ nonZero (between (paddingFrom (a .class) (a .item) (a .used)) (a .used) (a .input .now))
+dirt-by s e w =
+    let a = s .args in
+    w ∙ ap (λ (k : Class). nonZero (between (paddingFrom k (a .item) (a .used)) (a .used) (a .input .now))) (sym e)
+
+abbrev text : tie.After-enum-told → tie.Start
+text p = p .before .before .before
+
+abbrev blob : tie.After-enum-told2 → tie.Start
+blob p = p .before .before .before
+
+-- ---- the needs
+
+text-padding : tie.Need-sub-dirty-in
+text-padding c = short-padding (text (c .before)) (c .before .enum-told .given .1) .0
+
+text-is-short : tie.Need-dirty-in-requires
+text-is-short c κs =
+    let p = c .before .before in
+    let a = text p .args in
     omega (
       arith,
-      subst (λ (k : Class). a .used - paddingFrom k (a .item) (a .used) ≤ 3) (p2 .enum-told .given .1) (s .pre .1),
+      short-padding (text p) (p .enum-told .given .1) .1,
       length-take (a .used - (a .item .b + 1)) (drop (a .item .b + 1) (a .input .now)),
     )
 
-sub-dirty-in-2 : tie.Need-sub-dirty-in-2
-sub-dirty-in-2 c =
-    let a = c .before .before .before .before in
-    subst (λ (k : Class). paddingFrom k (a .args .item) (a .args .used) ≤ a .args .used) (c .before .enum-told2 .given .1) (a .pre .0)
+blob-padding : tie.Need-sub-dirty-in-2
+blob-padding c = short-padding (blob (c .before)) (c .before .enum-told2 .given .1) .0
 
-part-dirty-in-start-2 : tie.Need-part-dirty-in-start-2
-part-dirty-in-start-2 c = sub-dirty-in-2 c
-
-dirty-in-requires-2 : tie.Need-dirty-in-requires-2
-dirty-in-requires-2 c κs =
-    let p2 = c .before .before in
-    let s = p2 .before .before .before in
-    let a = s .args in
+blob-is-short : tie.Need-dirty-in-requires-2
+blob-is-short c κs =
+    let p = c .before .before in
+    let a = blob p .args in
     omega (
       arith,
-      subst (λ (k : Class). a .used - paddingFrom k (a .item) (a .used) ≤ 3) (p2 .enum-told2 .given .1) (s .pre .1),
+      short-padding (blob p) (p .enum-told2 .given .1) .1,
       length-take (a .used - (4 + a .item .b)) (drop (4 + a .item .b) (a .input .now)),
     )
-
-returns : tie.Need-returns
-returns c =
-    let p3 = c .before .before .before in
-    let a = p3 .before .before .before .args in
-    c .dirty-in .ensures .1
-    ∙ ap (λ (k : Class). nonZero (between (paddingFrom k (a .item) (a .used)) (a .used) (a .input .now))) (sym (p3 .enum-told .given .1))
-
-returns-2 : tie.Need-returns-2
-returns-2 c =
-    let p3 = c .before .before .before in
-    let a = p3 .before .before .before .args in
-    c .dirty-in2 .ensures .1
-    ∙ ap (λ (k : Class). nonZero (between (paddingFrom k (a .item) (a .used)) (a .used) (a .input .now))) (sym (p3 .enum-told2 .given .1))
-
-returns-3 : tie.Need-returns-3
-returns-3 c =
-    let a = c .before .before .args in
-    no-dirt (a .class) (a .item) (a .used) (a .input .now) (c .match .keys3)
 
 pub dirty-of-spec : {M : Type 1} → statement M
 dirty-of-spec =
@@ -75,17 +70,17 @@ dirty-of-spec =
     (λ c. search needs)
     (λ c. search needs)
     (λ c. search needs)
-    sub-dirty-in
-    part-dirty-in-start
+    text-padding
+    text-padding
     (λ c. search needs)
-    dirty-in-requires
+    text-is-short
     (λ c. search needs)
     (λ c. search needs)
     (λ c. search needs)
-    sub-dirty-in-2
-    part-dirty-in-start-2
+    blob-padding
+    blob-padding
     (λ c. search needs)
-    dirty-in-requires-2
-    returns
-    returns-2
-    returns-3)
+    blob-is-short
+    (λ c. let p = c .before .before .before in dirt-by (text p) (p .enum-told .given .1) (c .dirty-in .ensures .1))
+    (λ c. let p = c .before .before .before in dirt-by (blob p) (p .enum-told2 .given .1) (c .dirty-in2 .ensures .1))
+    (λ c. let a = c .before .before .args in no-dirt (a .class) (a .item) (a .used) (a .input .now) (c .match .keys3)))

@@ -15,7 +15,7 @@ use Rattle.heads.specs.Heads.{prefixOf}
 use Rattle.heads.specs.declared.Prefix.the-variants as prefix
 use Rattle.framing.specs.Framing.{Whole, trees, udp, readFrame, tcp}
 use Rattle.answering.specs.Limits.{decoded}
-use Rattle.answering.specs.declared.Decoded.the-variants as decoder
+use Rattle.results.specs.declared.Decoded.the-variants as decoder
 use Rattle.osc10.specs.Osc10.{Packet, Allowed, deep, oscInt32, StandsFor}
 use Rattle.standards.specs.Standards.{oscFrame, AcceptedAs, Osc10Accepted, FrameAccepted}
 use Rattle.wire.proofs.Numbers.{length-bytes, read-written}

@@ -28,7 +28,7 @@ use Rattle.table.specs.Tree.{IsTree}
 use Rattle.strings.specs.Atomic.{oscString, oscBlob}
 use Rattle.writers.specs.Osc.{writeData, writeTags, writeMessage, writeBundle, writeElements, writePacket}
 use Rattle.encoder.specs.Outcome.{formed, unframed, prefixed, treeOutcome, bytesOutcome}
-use Rattle.answers.specs.Demands.{tableAfter}
+use Rattle.calls.specs.Demands.{tableAfter}
 use Rattle.osc10.specs.Words.{NoNul}
 use Rattle.osc10.specs.Osc10.{end, atom, array, word, long, string, blob, char, Packet, message, bundle, none, also, ArgumentsAllowed}
 use Rattle.osc10.specs.Osc10.{Allowed, AllAllowed, argumentsDeep, deep, tagsOf, as-word, as-long, as-string, as-blob, as-char, no-argument}

@@ -19,11 +19,11 @@ use Rattle.values.specs.Value.{bareOf, narrowOf, valueBy, valueOf}
 use Rattle.values.specs.Look.{partOr}
 use Rattle.framing.specs.Framing.{ruleOf}
 use Rattle.answering.specs.Limits.{forestOf}
-use Rattle.framing.specs.declared.Framing.{Framing}
+use Rattle.edition.specs.declared.Framing.{Framing}
 use Rattle.edition.specs.declared.Edition.the-variants.{Rosc}
-use Rattle.framing.specs.declared.Framing.the-variants.{Udp, Tcp}
-use Rattle.answering.specs.declared.Decoded.the-variants.{Packets}
-use Rattle.answers.specs.Demands.{tableAfter, answerTo}
+use Rattle.edition.specs.declared.Framing.the-variants.{Udp, Tcp}
+use Rattle.results.specs.declared.Decoded.the-variants.{Packets}
+use Rattle.calls.specs.Demands.{tableAfter, answerTo}
 use Rattle.osc10.specs.Osc10.{Atom, word, long, bare, string, blob, char, OscArguments, end, atom, array, Packet, message, bundle, none}
 use Rattle.osc10.specs.Osc10.{also, words, longs, bares, AtomAllowed, ArgumentsAllowed, Allowed, AllAllowed, RangeHolds, AtomIs, ArrayIs}
 use Rattle.osc10.specs.Osc10.{ArgumentsAre, no-node, leaf, branch, StandsFor, is-message, is-bundle, StandFor, no-packet}
@@ -34,7 +34,7 @@ use Rattle.standards.specs.Standards.{AcceptedAs, SeenAs, Osc10Seen, Fra
 use Rattle.values.proofs.Looks.{is-value}
 use Rattle.table.proofs.Spanned.{spans-size}
 use Rattle.decoder.proofs.Sizes.{WholeIn, whole-in}
-use Rattle.answers.proofs.Answered.{after-fits, after-held}
+use Rattle.calls.proofs.Answered.{after-fits, after-held}
 use Rattle.osc10.proofs.Tags.{of-among, classIs, atom-sort}
 use Rattle.given.proofs.Starts.Forests.{Begun}
 use Rattle.given.proofs.Starts.Tables.{WholeBegun, whole-begun}

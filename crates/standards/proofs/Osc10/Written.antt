@@ -16,7 +16,7 @@ use Rattle.table.specs.Tree.{Obeys, IsTree, FieldsFit}
 use Rattle.writers.specs.Osc.{writePacket}
 use Rattle.encoder.specs.Outcome.{Outcome, Encodes, formed, unframed, framedBy, prefixed, treeOutcome, bytesOutcome}
 use Rattle.edition.specs.declared.Edition.the-variants.{Standard}
-use Rattle.encoder.specs.declared.Encoded.the-variants.{Written}
+use Rattle.results.specs.declared.Encoded.the-variants.{Written}
 use Rattle.osc10.specs.Words.{Bytes}
 use Rattle.osc10.specs.Strict.{StrictTree}
 use Rattle.osc10.specs.Osc10.{Spelled}

@@ -17,7 +17,7 @@ use Rattle.heads.specs.declared.Length.the-variants as cut
 use Rattle.heads.proofs.Heads.{length-known, length-cuts}
 use Rattle.packet.specs.Packet.{readPacket, one}
 use Rattle.framing.specs.Framing.{trees, read, cutWith, cutFrame, tcp2}
-use Rattle.framing.specs.declared.Framing.the-variants.{Tcp}
+use Rattle.edition.specs.declared.Framing.the-variants.{Tcp}
 use Rattle.writers.specs.Osc.{writeElement, writePacket}
 use Rattle.writers.proofs.Lengths.{packet-even, element-even}
 use Rattle.encoder.specs.Outcome.{framedBy, treeOutcome}

@@ -10,21 +10,21 @@ use Rattle.node.specs.Forest.{Forest, nil, node, size, depth}
 use Rattle.node.specs.Records.{capacity}
 use Rattle.node.specs.declared.record.Item.{Item}
 use Rattle.framing.specs.Framing.{udp, ruleOf}
-use Rattle.framing.specs.declared.Framing.{Framing}
+use Rattle.edition.specs.declared.Framing.{Framing}
 use Rattle.answering.specs.Limits.{decoded, forestOf}
-use Rattle.framing.specs.declared.Framing.the-variants.{Udp}
-use Rattle.answering.specs.declared.Decoded.the-variants.{Packets}
+use Rattle.edition.specs.declared.Framing.the-variants.{Udp}
+use Rattle.results.specs.declared.Decoded.the-variants.{Packets}
 use Rattle.table.specs.Tree.{IsTree, FieldsFit}
 use Rattle.writers.specs.Osc.{writePacket}
 use Rattle.encoder.specs.Outcome.{unframed, treeOutcome}
-use Rattle.answers.specs.Demands.{tableAfter, answerTo}
+use Rattle.calls.specs.Demands.{tableAfter, answerTo}
 use Rattle.osc10.specs.Osc10.{Spelled}
 use Rattle.standards.specs.Trip.{Same, SameTable, RoundTrip}
 use Rattle.standards.specs.Trip as trip
 use Rattle.standards.specs.Standards.{AcceptedAs}
 use Rattle.table.proofs.Theorem.{tree-size}
 use Rattle.writers.proofs.Lengths.{packet-even}
-use Rattle.answers.proofs.Answered.{after-held}
+use Rattle.calls.proofs.Answered.{after-held}
 use Rattle.osc10.proofs.Depth.{tree-deep}
 use Rattle.osc10.proofs.Spelled.{packet-is}
 use Rattle.given.proofs.Starts.Forests.{Begun}

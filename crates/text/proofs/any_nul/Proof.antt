@@ -4,7 +4,7 @@ use mathlib.Core.Logic.{⊎-elim}
 use Prim.Native.Nat.{_<_, _≤_, _-_}
 use native.Mathlib.Omega.{arith}
 use borrow.Author.Needs.{needs}
-use borrow.Author.Tests.{le-ltb, eq-eqb, ne-eqb}
+use borrow.Author.Tests.{le-ltb}
 use lib.Dec.{ltb}
 use lib.ListN.{length}
 use Rattle.text.specs.CodePlain.{nul, countTo}
@@ -18,28 +18,35 @@ Inv-loop input any₀ seen₀ any seen = (seen ≤ 16) × (any ≡ ltb (countTo 
 abbrev μ-loop : tie.MeasureT-loop
 μ-loop input any₀ seen₀ any seen = 16 - seen
 
-loop-holds : tie.Need-loop-holds Inv-loop μ-loop
-loop-holds c = (search needs, sym (le-ltb (countTo nul (c .args .input .now)) 0 (omega arith)))
-
 loop-again : tie.Need-loop-again Inv-loop μ-loop
 loop-again c =
-    let p3 = c .before .before .before in
-    let l = p3 .loop in
-    let input = p3 .before .args .input .now in
-    let within : l .seen < length input = omega arith in (
+    let t = c .before in
+    let k = t .before .before .before in
+    let l = k .before .before .args .input .now in
+    let within : k .loop .seen < length l = omega arith in (
       search needs,
       ⊎-elim
-          (λ w. w .1 ∙ met nul input (l .seen) within (eq-eqb _ 0 (w .0 .taken)))
-          (λ w. w .1 ∙ l .inv .1 ∙ not-met nul input (l .seen) within (ne-eqb _ 0 (w .0 .left)))
+          (λ w. w .1 ∙ met nul l (k .loop .seen) within (sym (t .is-stop .ensures) ∙ w .0 .taken))
+          (λ w. w .1 ∙ k .loop .inv .1 ∙ not-met nul l (k .loop .seen) within (sym (t .is-stop .ensures) ∙ w .0 .left))
           (c .if1 .came),
     )
 
 returns : tie.Need-returns Inv-loop μ-loop
 returns c =
-    let l = c .before .loop in
-    let e : l .seen ≡ 16 = omega arith in
-    rw e at (l .inv .1)
+    let k = c .before .loop in
+    let e : k .seen ≡ 16 = omega arith in
+    rw e at (k .inv .1)
 
 pub any-nul-spec : {M : Type 1} → statement M
 any-nul-spec =
-    tie.close (tie.spec Inv-loop μ-loop loop-holds (λ c. search needs) (λ c. search needs) (λ c. search needs) loop-again returns)
+    tie.close
+    (tie.spec
+    Inv-loop
+    μ-loop
+    (λ c. (search needs, sym (le-ltb (countTo nul (c .before .args .input .now)) 0 (omega arith))))
+    (λ c. search needs)
+    (λ c κs. search needs)
+    (λ c. search needs)
+    (λ c. search needs)
+    loop-again
+    returns)

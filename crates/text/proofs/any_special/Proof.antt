@@ -18,28 +18,24 @@ Inv-loop input any₀ i₀ any i = (i ≤ 16) × (any ≡ ltb (countTo special i
 abbrev μ-loop : tie.MeasureT-loop
 μ-loop input any₀ i₀ any i = 16 - i
 
-loop-holds : tie.Need-loop-holds Inv-loop μ-loop
-loop-holds c = (search needs, sym (le-ltb (countTo special (c .before .args .input .now)) 0 (omega arith)))
-
 loop-again : tie.Need-loop-again Inv-loop μ-loop
 loop-again c =
-    let p4 = c .before .before .before .before in
-    let p6 = p4 .before .before in
-    let l = p4 .loop in
-    let input = p6 .args .input .now in
-    let within : l .i < length input = omega arith in (
+    let t = c .before in
+    let k = t .before .before .before in
+    let l = k .before .before .args .input .now in
+    let within : k .loop .i < length l = omega arith in (
       search needs,
       ⊎-elim
-          (λ w. w .1 ∙ met special input (l .i) within (sym (c .before .is-special .ensures) ∙ w .0 .taken))
-          (λ w. w .1 ∙ l .inv .1 ∙ not-met special input (l .i) within (sym (c .before .is-special .ensures) ∙ w .0 .left))
+          (λ w. w .1 ∙ met special l (k .loop .i) within (sym (t .is-stop .ensures) ∙ w .0 .taken))
+          (λ w. w .1 ∙ k .loop .inv .1 ∙ not-met special l (k .loop .i) within (sym (t .is-stop .ensures) ∙ w .0 .left))
           (c .if1 .came),
     )
 
 returns : tie.Need-returns Inv-loop μ-loop
 returns c =
-    let l = c .before .loop in
-    let e : l .i ≡ 16 = omega arith in
-    rw e at (l .inv .1)
+    let k = c .before .loop in
+    let e : k .i ≡ 16 = omega arith in
+    rw e at (k .inv .1)
 
 pub any-special-spec : {M : Type 1} → statement M
 any-special-spec =
@@ -47,7 +43,7 @@ any-special-spec =
     (tie.spec
     Inv-loop
     μ-loop
-    loop-holds
+    (λ c. (search needs, sym (le-ltb (countTo special (c .before .args .input .now)) 0 (omega arith))))
     (λ c. search needs)
     (λ c κs. search needs)
     (λ c. search needs)

@@ -6,7 +6,7 @@ use Rattle.text.proofs.until_nul.Statement.{statement}
 use Rattle.text.proofs.until_nul.Tie as tie
 
 returns : tie.Need-returns
-returns c = omega (arith, nul-count (c .before .before .before .args .input .now), c .nul-by-four .ensures)
+returns c = omega (arith, nul-count (c .before .before .before .args .input .now), c .count-by-four .ensures)
 
 pub until-nul-spec : {M : Type 1} → statement M
 until-nul-spec = tie.close (tie.spec (λ c κs. search needs) (λ c κs. search needs) returns)

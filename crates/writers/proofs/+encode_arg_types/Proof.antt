@@ -1,110 +1,107 @@
 -- `writers::encode_arg_types` meets its contract: of the row, what is written and what is left. The number of records falls.
-use Prim.Native.Nat.{_-_, ℕ, _<_}
+use Prim.Native.Nat.{ℕ, _+_, _-_, _<_, _≤_}
 use native.Mathlib.Omega.{arith}
-use lib.ListN.{length-set}
+use borrow.Fn.Kinds.{In}
+use borrow.Fn.PlainCycle.{Measures, is, falls, and}
+use borrow.Rule.Slice.PartMut.{putMid}
+use lib.ListN.{length, set, length-set}
+use Rattle.wire.specs.Limits.{longest}
 use Rattle.wire.proofs.Writers.{filled-length}
+use Rattle.node.proofs.record.kind_at.Reads as kind-at-reads
+use Rattle.node.proofs.record.field_at.Reads as field-at-reads
 use Rattle.writers.specs.Osc.{writeTags}
 use Rattle.writers.specs.CodeWriters.{Any}
 use Rattle.writers.proofs.Classed.{tags-none}
 use Rattle.writers.proofs.Rows.{Going, begun-empty, ended, ends, tag-room, tags-inside, close-room, tags-array-gone, tags-leaf-gone}
-use Rattle.node.proofs.record.kind_at.Reads as kind-at-reads
-use Rattle.node.proofs.record.field_at.Reads as field-at-reads
-use borrow.Fn.Kinds.{In}
-use borrow.Fn.PlainCycle.{Measures, is, falls, and}
-use Rattle.writers.proofs.encode_arg_types.Reads as encode-arg-types
-use Rattle.writers.proofs.encode_arg_types.Kinds as encode-arg-types-kinds
-use Rattle.writers.proofs.+encode_arg_types.Lts-encode_arg_types as encode-arg-types-lts
+use Rattle.writers.proofs.encode_arg_types.Reads as reads
+use Rattle.writers.proofs.encode_arg_types.Kinds as kinds
+use Rattle.writers.proofs.+encode_arg_types.Lts-encode_arg_types as lts
 use Rattle.writers.proofs.+encode_arg_types.{statement}
 use Rattle.writers.proofs.+encode_arg_types.Tie.{close}
 
-abbrev μ-encode-arg-types : Measures 2 encode-arg-types-kinds.ps ℕ
-μ-encode-arg-types κs a = a .1 .1 .0 - a .1 .0
+abbrev μ-call : Measures 2 kinds.ps ℕ
+μ-call κs a = a .1 .1 .0 - a .1 .0
 
-abbrev encode-arg-types-at : ℕ → In 2 encode-arg-types-kinds.ps
-encode-arg-types-at t =
-    and
-    2
-    encode-arg-types-kinds.ps
-    (is 2 encode-arg-types-kinds.ps μ-encode-arg-types t)
-    encode-arg-types.Pre
+-- a call at the measure t, and one below it
+abbrev at-measure : ℕ → In 2 kinds.ps
+at-measure t = and 2 kinds.ps (is 2 kinds.ps μ-call t) reads.Pre
 
-abbrev encode-arg-types-below : ℕ → In 2 encode-arg-types-kinds.ps
-encode-arg-types-below t =
-    and
-    2
-    encode-arg-types-kinds.ps
-    (falls 2 encode-arg-types-kinds.ps _<_ μ-encode-arg-types t)
-    encode-arg-types.Pre
+abbrev below : ℕ → In 2 kinds.ps
+below t = and 2 kinds.ps (falls 2 kinds.ps _<_ μ-call t) reads.Pre
 
-abbrev encode-arg-types-Inv-loop : encode-arg-types-lts.InvT-loop
-encode-arg-types-Inv-loop table lo hi out₀ at₀ written₀ out at written = Going Any writeTags writeTags table lo hi out₀ out at written
+abbrev Inv-loop : lts.InvT-loop
+Inv-loop table lo hi out₀ at₀ written₀ out at written = Going Any writeTags writeTags table lo hi out₀ out at written
 
-abbrev encode-arg-types-μ-loop : encode-arg-types-lts.MeasureT-loop
-encode-arg-types-μ-loop table lo hi out₀ at₀ written₀ out at written = hi - at
+abbrev μ-loop : lts.MeasureT-loop
+μ-loop table lo hi out₀ at₀ written₀ out at written = hi - at
+
+abbrev claims : ℕ → lts.Claims
+claims t = (kind-at-reads.Asked, kind-at-reads.Learnt, field-at-reads.Asked, field-at-reads.Learnt, below t, reads.Post)
+
+-- a turn of the loop, from where its record was read
+abbrev Recorded : ℕ → Type 0
+Recorded t = lts.After-field-at (claims t) (at-measure t) reads.Post Inv-loop μ-loop
+
+abbrev test : {t : ℕ} → Recorded t → lts.In-loop (claims t) (at-measure t) reads.Post Inv-loop μ-loop
+test f = f .before .before
+
+-- there is room for its tag, and it ends in the row
+tag-fits : {t : ℕ} (f : Recorded t)
+    → let k = test f .before .loop in
+    let end = f .field-at .result in
+    (k .written + 1 ≤ length (k .out)) × (k .written + 1 ≤ longest) × (k .at < end)
+    × (end ≤ test f .before .before .before .before .args .hi)
+tag-fits f =
+    let w = test f .before .loop .inv in
+    let h = test f .loop-test .taken in
+    let room = tag-room w h in
+    let end = ends w h (f .field-at .ensures) in (omega (arith, filled-length (w .filled)), room .1, end .0, end .1)
+
+-- what an array contains was written, in this turn
+abbrev Written : ℕ → Type 0
+Written t = lts.After-encode-arg-types (claims t) (at-measure t) reads.Post Inv-loop μ-loop
+
+abbrev array : {t : ℕ} → Written t → Recorded t
+array x = x .before .before .before
+
+-- there is room for its closing bracket
+bracket-fits : {t : ℕ} (x : Written t)
+    → let k = test (array x) .before .loop in
+    let opened = set (k .out) (k .written) (array x .before .kind-at .result) in
+    let at = k .written + 1 in
+    let n = x .encode-arg-types .result in
+    (at + n + 1 ≤ length (putMid at (length opened - at) opened (x .encode-arg-types .last .1 .1 .1 .0))) × (at + n + 1 ≤ longest)
+bracket-fits x =
+    let f = array x in
+    close-room (test f .before .loop .inv) (test f .loop-test .taken) (f .before .kind-at .ensures) (f .field-at .ensures)
+    (x .before .before .if1 .taken) (x .encode-arg-types .ensures)
 
 pub +encode-arg-types-spec : {M : Type 1} → statement M
-+encode-arg-types-spec = close μ-encode-arg-types λ t. encode-arg-types-lts.spec (
-  kind-at-reads.Asked,
-  kind-at-reads.Learnt,
-  field-at-reads.Asked,
-  field-at-reads.Learnt,
-  encode-arg-types-below t,
-  encode-arg-types.Post,
-)
-    (encode-arg-types-at t)
-    encode-arg-types.Post
-    encode-arg-types-Inv-loop
-    encode-arg-types-μ-loop
++encode-arg-types-spec = close μ-call λ t. lts.spec (claims t) (at-measure t) reads.Post Inv-loop μ-loop
     (λ c. begun-empty (c .before .before .pre .1))
     (λ c κs. omega (arith, c .before .loop .inv .table))
     (λ c κs. (omega (arith, c .before .before .loop .inv .table), omega arith))
     (λ c. omega arith)
-    (λ c. let p2 = c .before .before in let p3 = p2 .before in
-    omega (arith, tag-room (p3 .loop .inv) (p2 .loop-test .taken), filled-length (p3 .loop .inv .filled)))
-    (λ c. let p2 = c .before .before in let p3 = p2 .before in omega (arith, tag-room (p3 .loop .inv) (p2 .loop-test .taken)))
-    (λ c. let p3 = c .before .before .before in let p4 = p3 .before in
-    omega (arith, ends (p4 .loop .inv) (p3 .loop-test .taken) (c .before .field-at .ensures)))
-    (λ c. let p3 = c .before .before .before in let p4 = p3 .before in
-    simp length-set (omega (arith, tag-room (p4 .loop .inv) (p3 .loop-test .taken), filled-length (p4 .loop .inv .filled))))
-    (λ c. let p3 = c .before .before .before in let p4 = p3 .before in
-    simp length-set (omega (arith, tag-room (p4 .loop .inv) (p3 .loop-test .taken), filled-length (p4 .loop .inv .filled))))
+    (λ c. omega (arith, tag-fits c))
+    (λ c. omega (arith, tag-fits c))
+    (λ c. omega (arith, tag-fits (c .before)))
+    (λ c. simp length-set (omega (arith, tag-fits (c .before))))
+    (λ c. simp length-set (omega (arith, tag-fits (c .before))))
     (λ c. omega arith)
-    (λ c κs. let p2 = c .before .before in let p3 = p2 .before in let p4 = p3 .before in let p5 = p4 .before in
-    let p8 = p5 .before .before .before in (
-      omega (arith, ends (p5 .loop .inv) (p4 .loop-test .taken) (p2 .field-at .ensures), p5 .loop .inv .passed, p8 .pre .0),
-      tags-inside
-          (p5 .loop .inv) (p4 .loop-test .taken) (p3 .kind-at .ensures) (p2 .field-at .ensures) (c .before .if1 .taken),
+    (λ c κs. let f = c .before .before in let k = test f .before in (
+      omega (arith, tag-fits f, k .loop .inv .passed, k .before .before .before .pre .0),
+      tags-inside (k .loop .inv) (test f .loop-test .taken) (f .before .kind-at .ensures) (f .field-at .ensures) (c .before .if1 .taken),
     ))
-    (λ c. let p2 = c .before .before in let p4 = p2 .before .before in let p5 = p4 .before in let p6 = p5 .before in
-    let p7 = p6 .before in let p8 = p7 .before in
-    omega (
-      arith,
-      close-room (p8 .loop .inv) (p7 .loop-test .taken) (p6 .kind-at .ensures) (p5 .field-at .ensures) (p4 .if1 .taken)
-          (p2 .encode-arg-types .ensures),
-    ))
-    (λ c. let p2 = c .before .before in let p4 = p2 .before .before in let p5 = p4 .before in let p6 = p5 .before in
-    let p7 = p6 .before in let p8 = p7 .before in
-    omega (
-      arith,
-      close-room (p8 .loop .inv) (p7 .loop-test .taken) (p6 .kind-at .ensures) (p5 .field-at .ensures) (p4 .if1 .taken)
-          (p2 .encode-arg-types .ensures),
-    ))
-    (λ c. let p2 = c .before .before in let p4 = p2 .before .before in let p5 = p4 .before in let p6 = p5 .before in
-    let p7 = p6 .before in let p8 = p7 .before in
-    omega (
-      arith,
-      close-room (p8 .loop .inv) (p7 .loop-test .taken) (p6 .kind-at .ensures) (p5 .field-at .ensures) (p4 .if1 .taken)
-          (p2 .encode-arg-types .ensures),
-    ))
-    (λ c. let p5 = c .before .before .before .before .before in let p7 = p5 .before .before in let p8 = p7 .before in
-    omega (arith, ends (p8 .loop .inv) (p7 .loop-test .taken) (p5 .field-at .ensures)))
-    (λ c. let p2 = c .before .before in let p4 = p2 .before .before in let p5 = p4 .before in let p6 = p5 .before in
-    let p7 = p6 .before in let p8 = p7 .before in
-    tags-array-gone (p8 .loop .inv) (p7 .loop-test .taken) (p6 .kind-at .ensures) (p5 .field-at .ensures) (p4 .if1 .taken)
-    (p2 .encode-arg-types .ensures))
-    (λ c. let p3 = c .before .before .before in let p4 = p3 .before in
-    omega (arith, ends (p4 .loop .inv) (p3 .loop-test .taken) (c .before .field-at .ensures)))
-    (λ c. let p2 = c .before .before in let p3 = p2 .before in let p4 = p3 .before in
-    tags-leaf-gone (p4 .loop .inv) (p3 .loop-test .taken) (p2 .kind-at .ensures) (c .before .field-at .ensures) (c .if1 .left))
+    (λ c. omega (arith, bracket-fits (c .before .before)))
+    (λ c. omega (arith, bracket-fits (c .before .before)))
+    (λ c. omega (arith, bracket-fits (c .before .before)))
+    (λ c. omega (arith, tag-fits (array (c .before .before))))
+    (λ c. let x = c .before .before in let f = array x in
+    tags-array-gone (test f .before .loop .inv) (test f .loop-test .taken) (f .before .kind-at .ensures) (f .field-at .ensures)
+    (x .before .before .if1 .taken) (x .encode-arg-types .ensures))
+    (λ c. omega (arith, tag-fits (c .before)))
+    (λ c. let f = c .before in
+    tags-leaf-gone (test f .before .loop .inv) (test f .loop-test .taken) (f .before .kind-at .ensures) (f .field-at .ensures)
+    (c .if1 .left))
     (λ c. filled-length (c .before .loop .inv .filled))
     (λ c. ended (c .before .loop .inv) tags-none (c .loop-test .left))

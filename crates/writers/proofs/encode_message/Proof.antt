@@ -1,138 +1,85 @@
 -- `writers::encode_message` meets its contract: three writers, each after the one before it.
+use Prim.Native.Nat.{_+_, _-_, _≤_}
 use native.Mathlib.Omega.{arith}
-use Rattle.writers.proofs.Packets.{before-end, address-asked, address-fits, text-asked, head-room, data-asked, message-end}
-use Rattle.writers.proofs.Packets.{message-filled}
 use borrow.Author.Needs.{needs}
+use borrow.Rule.Slice.PartMut.{putMid}
+use lib.ListN.{length}
+use Rattle.wire.specs.Limits.{longest}
+use Rattle.writers.proofs.Packets.{before-end, MessageToWrite, address-asked, address-fits, text-asked, head-room, data-asked}
+use Rattle.writers.proofs.Packets.{message-end, message-filled}
 use Rattle.writers.proofs.encode_message.Statement.{statement}
 use Rattle.writers.proofs.encode_message.Tie as tie
 
-field-at-requires : tie.Need-field-at-requires
-field-at-requires c κs = let s = c .before .before .before in (before-end (s .args .out .now) (s .pre .1) .1, omega arith)
+abbrev entry : tie.After-item-at → tie.Start
+entry i = i .before .before .before .before .before
 
-item-at-requires : tie.Need-item-at-requires
-item-at-requires c κs =
-    let p4 = c .before .before .before .before in
-    let s = p4 in before-end (s .args .out .now) (s .pre .1) .1
+-- the message's record was read
+message : (i : tie.After-item-at)
+    → let a = entry i .args in
+    MessageToWrite (a .source .now) (a .table .now) (a .at) (a .out .now) (i .before .field-at .result) (i .item-at .result)
+message i = record { kind = entry i .pre .0; ready = entry i .pre .1; ends = i .before .field-at .ensures; numbers = i .item-at .ensures }
+
+-- its record, from where its address, its type tags and its data were written
+abbrev addressed : tie.After-encode-leaf-data → tie.After-item-at
+addressed d = d .before .before
+
+abbrev tagged : tie.After-encode-type-tags → tie.After-encode-leaf-data
+tagged g = g .before .before .before .before
+
+abbrev filled : tie.After-encode-arg-data → tie.After-encode-type-tags
+filled x = x .before .before .before .before
+
+-- address and type tag text fit the output
+head-fits : (g : tie.After-encode-type-tags)
+    → let k = tagged g .encode-leaf-data .result in
+    let m = g .encode-type-tags .result in
+    let o = tagged g .encode-leaf-data .last .1 .1 .1 .0 in
+    (k + m ≤ length (putMid k (length o - k) o (g .encode-type-tags .last .1 .1 .1 .0))) × (k + m ≤ longest)
+head-fits g = let d = tagged g in head-room (message (addressed d)) (d .encode-leaf-data .ensures) (g .encode-type-tags .ensures)
 
 encode-leaf-data-requires : tie.Need-encode-leaf-data-requires
-encode-leaf-data-requires c κs =
-    let p2 = c .before .before in
-    let p6 = p2 .before .before .before .before in
-    let s = p6 in (
-      (λ _. address-asked (s .args .out .now) (s .pre .0) (s .pre .1) (p2 .field-at .ensures) (c .before .item-at .ensures)),
-      address-fits (s .args .out .now) (s .pre .0) (s .pre .1) (p2 .field-at .ensures) (c .before .item-at .ensures),
-    )
-
-add-encode-type-tags : tie.Need-add-encode-type-tags
-add-encode-type-tags c =
-    let p9 = c .before .before .before .before .before .before .before .before .before in
-    let s = p9 in omega (arith, before-end (s .args .out .now) (s .pre .1))
-
-encode-type-tags-requires : tie.Need-encode-type-tags-requires
-encode-type-tags-requires c κs =
-    let p3 = c .before .before .before in
-    let p5 = p3 .before .before in
-    let p6 = p5 .before in
-    let p10 = p6 .before .before .before .before in
-    let s = p10 in text-asked (s .args .out .now) (s .pre .0) (s .pre .1) (p6 .field-at .ensures) (p5 .item-at .ensures)
-    (p3 .encode-leaf-data .ensures)
-
-add-head : tie.Need-add-head
-add-head c =
-    let p2 = c .before .before in
-    let p6 = p2 .before .before .before .before in
-    let p8 = p6 .before .before in
-    let p9 = p8 .before in
-    let p13 = p9 .before .before .before .before in
-    let s = p13 in omega (
-      arith,
-      head-room (s .args .out .now) (s .pre .0) (s .pre .1) (p9 .field-at .ensures) (p8 .item-at .ensures) (p6 .encode-leaf-data .ensures)
-          (p2 .encode-type-tags .ensures),
-    )
-
-add-encode-arg-data : tie.Need-add-encode-arg-data
-add-encode-arg-data c =
-    let p13 = c .before .before .before .before .before .before .before .before .before .before .before .before .before in
-    let s = p13 in omega (arith, before-end (s .args .out .now) (s .pre .1))
-
-sub-encode-arg-data : tie.Need-sub-encode-arg-data
-sub-encode-arg-data c =
-    let p2 = c .before .before in
-    let p6 = p2 .before .before .before .before in
-    let p8 = p6 .before .before in
-    let p9 = p8 .before in
-    let p13 = p9 .before .before .before .before in
-    let s = p13 in omega (
-      arith,
-      head-room (s .args .out .now) (s .pre .0) (s .pre .1) (p9 .field-at .ensures) (p8 .item-at .ensures) (p6 .encode-leaf-data .ensures)
-          (p2 .encode-type-tags .ensures),
-    )
-
-part-encode-arg-data-start : tie.Need-part-encode-arg-data-start
-part-encode-arg-data-start c =
-    let p2 = c .before .before in
-    let p6 = p2 .before .before .before .before in
-    let p8 = p6 .before .before in
-    let p9 = p8 .before in
-    let p13 = p9 .before .before .before .before in
-    let s = p13 in omega (
-      arith,
-      head-room (s .args .out .now) (s .pre .0) (s .pre .1) (p9 .field-at .ensures) (p8 .item-at .ensures) (p6 .encode-leaf-data .ensures)
-          (p2 .encode-type-tags .ensures),
-    )
+encode-leaf-data-requires c κs = let m = message (c .before) in ((λ _. address-asked m), address-fits m)
 
 encode-arg-data-requires : tie.Need-encode-arg-data-requires
 encode-arg-data-requires c κs =
-    let p3 = c .before .before .before in
-    let p7 = p3 .before .before .before .before in
-    let p9 = p7 .before .before in
-    let p10 = p9 .before in
-    let p14 = p10 .before .before .before .before in
-    let s = p14 in data-asked (s .args .out .now) (s .pre .0) (s .pre .1) (p10 .field-at .ensures) (p9 .item-at .ensures)
-    (p7 .encode-leaf-data .ensures) (p3 .encode-type-tags .ensures)
+    let g = c .before .before .before in
+    let d = tagged g in
+    data-asked (message (addressed d)) (d .encode-leaf-data .ensures) (g .encode-type-tags .ensures)
 
 add-result : tie.Need-add-result
 add-result c =
-    let p2 = c .before .before in
-    let p6 = p2 .before .before .before .before in
-    let p10 = p6 .before .before .before .before in
-    let p12 = p10 .before .before in
-    let p13 = p12 .before in
-    let p17 = p13 .before .before .before .before in
-    let s = p17 in omega (
+    let x = c .before .before in
+    let g = filled x in
+    let d = tagged g in
+    omega (
       arith,
-      message-end (s .args .out .now) (s .pre .0) (s .pre .1) (p13 .field-at .ensures) (p12 .item-at .ensures)
-          (p10 .encode-leaf-data .ensures) (p6 .encode-type-tags .ensures) (p2 .encode-arg-data .ensures),
+      message-end (message (addressed d)) (d .encode-leaf-data .ensures) (g .encode-type-tags .ensures) (x .encode-arg-data .ensures),
     )
 
 returns : tie.Need-returns
 returns c =
-    let p2 = c .before .before in
-    let p6 = p2 .before .before .before .before in
-    let p10 = p6 .before .before .before .before in
-    let p12 = p10 .before .before in
-    let p13 = p12 .before in
-    let p17 = p13 .before .before .before .before in
-    let s = p17 in message-filled (s .args .out .now) (s .pre .0) (s .pre .1) (p13 .field-at .ensures) (p12 .item-at .ensures)
-    (p10 .encode-leaf-data .ensures) (p6 .encode-type-tags .ensures) (p2 .encode-arg-data .ensures)
+    let x = c .before .before in
+    let g = filled x in
+    let d = tagged g in
+    message-filled (message (addressed d)) (d .encode-leaf-data .ensures) (g .encode-type-tags .ensures) (x .encode-arg-data .ensures)
 
 pub encode-message-spec : {M : Type 1} → statement M
 encode-message-spec =
     tie.close
     (tie.spec
-    field-at-requires
+    (λ c κs. (before-end (c .before .before .before .pre .1) .1, omega arith))
     (λ c. search needs)
-    item-at-requires
+    (λ c κs. before-end (c .before .before .before .before .pre .1) .1)
     encode-leaf-data-requires
-    add-encode-type-tags
+    (λ c. omega (arith, before-end (entry (addressed (c .before .before)) .pre .1)))
     (λ c. search needs)
     (λ c. search needs)
     (λ c. search needs)
-    encode-type-tags-requires
-    add-head
-    add-encode-arg-data
-    sub-encode-arg-data
-    part-encode-arg-data-start
+    (λ c κs. let d = c .before .before .before in text-asked (message (addressed d)) (d .encode-leaf-data .ensures))
+    (λ c. omega (arith, head-fits (c .before .before)))
+    (λ c. omega (arith, before-end (entry (addressed (tagged (c .before .before))) .pre .1)))
+    (λ c. omega (arith, head-fits (c .before .before)))
+    (λ c. omega (arith, head-fits (c .before .before)))
     (λ c. search needs)
     encode-arg-data-requires
     add-result

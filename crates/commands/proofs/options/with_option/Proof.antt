@@ -1,7 +1,7 @@
 -- `commands::options::with_option` meets its contract: each name by its test.
 use mathlib.Core.Path.{refl, ap, _∙_}
 use borrow.Author.Needs.{needs}
-use Rattle.telling.specs.declared.troubles.Trouble.the-variants.{Twice}
+use Rattle.troubles.specs.declared.Trouble.the-variants.{Twice}
 use Rattle.commands.specs.declared.options.Chosen.the-variants.{Wrong}
 use Rattle.commands.specs.Options.{depthSet, recordsSet, chosenBy}
 use Rattle.commands.proofs.Tests.{tested, else-is}

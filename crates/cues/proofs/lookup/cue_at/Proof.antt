@@ -7,7 +7,7 @@ use borrow.Author.Needs.{needs}
 use lib.ListN.{length}
 use Rattle.refusal.specs.declared.Refusal.the-variants.{BadTable}
 use Rattle.cues.specs.Cues.{entrySize, cueOffset, cueSize, cueRecords, cueIn}
-use Rattle.cues.specs.declared.lookup.CueAt.the-variants.{At, Refused}
+use Rattle.results.specs.declared.CueAt.the-variants.{At, Refused}
 use Rattle.cues.proofs.lookup.cue_at.Statement.{statement}
 use Rattle.cues.proofs.lookup.cue_at.Tie as tie
 

@@ -1,50 +1,44 @@
 -- `decoder::frames::decode_cut` meets its contract. What is written of the packet that the length cuts.
-use Rattle.decoder.proofs.FrameFills.{cut-room, cut-fills, cut-nothing}
-use Rattle.fill.proofs.Fills.{fills-none}
-use Rattle.heads.proofs.Heads.{length-in}
+use mathlib.Core.Path.{_≡_, refl, sym, _∙_}
 use native.Mathlib.Omega.{arith}
-use mathlib.Core.Path.{refl, sym, _∙_}
 use borrow.Author.Needs.{needs}
+use Rattle.heads.specs.Heads.{lengthOf}
+use Rattle.heads.specs.declared.Length.the-variants.{Cuts}
+use Rattle.heads.proofs.Heads.{length-in}
+use Rattle.fill.proofs.Fills.{fills-none}
+use Rattle.decoder.proofs.FrameFills.{cut-room, cut-fills, cut-nothing}
 use Rattle.decoder.proofs.frames.decode_cut.Statement.{statement}
 use Rattle.decoder.proofs.frames.decode_cut.Tie as tie
 
-add-decode-packet : tie.Need-add-decode-packet
-add-decode-packet c =
-    let p3 = c .before .before .before in
-    let w = length-in (p3 .before .before .before .args .input .now) (sym (c .before .n .given .1) ∙ p3 .read-length .ensures) in
-    omega (arith, w .short)
+-- ---- the length is read, and the frame is all there
 
-part-decode-packet-end : tie.Need-part-decode-packet-end
-part-decode-packet-end c =
-    let p3 = c .before .before .before in
-    length-in (p3 .before .before .before .args .input .now) (sym (c .before .n .given .1) ∙ p3 .read-length .ensures) .fits
+abbrev start : tie.After-known-told → tie.Start
+start p = p .before .before .before .before .before .before
 
-decode-packet-requires : tie.Need-decode-packet-requires
-decode-packet-requires c κs =
-    let p3 = c .before .before .before in
-    let p5 = p3 .before .before in
-    let s = p5 .before .before .before in
-    let l = s .args .input .now in
-    let e = sym (p3 .n .given .1) ∙ p5 .read-length .ensures in
-    let w = length-in l e in
-    (omega (arith, w .fits, c .before .decode-packet-arg .given .2, s .pre .0), cut-room (s .args .base) l e (s .pre .1))
+cuts : (p : tie.After-known-told) → Cuts (p .before .n .given .0 .0) ≡ lengthOf (start p .args .input .now)
+cuts p = sym (p .before .n .given .1) ∙ p .before .before .before .read-length .ensures
 
-returns : tie.Need-returns
-returns c =
-    let p2 = c .before .before in
-    let p6 = p2 .before .before .before .before in
-    let p8 = p6 .before .before in
-    let s = p8 .before .before .before in
-    cut-fills (s .args .base) (s .args .input .now) (sym (p6 .n .given .1) ∙ p8 .read-length .ensures) (p2 .decode-packet .ensures)
+-- ---- the needs
 
-returns-2 : tie.Need-returns-2
-returns-2 c = fills-none (cut-nothing _ _ (sym (c .enum-told .given .1) ∙ c .before .before .read-length .ensures) refl)
+frame-is-short : tie.Need-add-decode-packet
+frame-is-short c = omega (arith, length-in _ (cuts c) .short)
 
-returns-3 : tie.Need-returns-3
-returns-3 c = fills-none (cut-nothing _ _ (sym (c .enum-told2 .given .1) ∙ c .before .before .read-length .ensures) refl)
+frame-is-there : tie.Need-part-decode-packet-end
+frame-is-there c = length-in _ (cuts c) .fits
 
-returns-4 : tie.Need-returns-4
-returns-4 c = fills-none (cut-nothing _ _ (sym (c .enum-told3 .given .1) ∙ c .before .before .read-length .ensures) refl)
+packet-has-room : tie.Need-decode-packet-requires
+packet-has-room c κs =
+    let p = c .before .before in
+    let s = start p in (
+      omega (arith, length-in _ (cuts p) .fits, c .before .decode-packet-arg .given .2, s .pre .0),
+      cut-room (s .args .base) _ (cuts p) (s .pre .1),
+    )
+
+packet-is-written : tie.Need-returns
+packet-is-written c =
+    let w = c .before .before in
+    let p = w .before .before .before in
+    cut-fills (start p .args .base) _ (cuts p) (w .decode-packet .ensures)
 
 pub decode-cut-spec : {M : Type 1} → statement M
 decode-cut-spec =
@@ -52,16 +46,16 @@ decode-cut-spec =
     (tie.spec
     (λ c κs. search needs)
     (λ c. search needs)
-    add-decode-packet
+    frame-is-short
     (λ c. search needs)
     (λ c. search needs)
-    part-decode-packet-end
-    decode-packet-requires
+    frame-is-there
+    packet-has-room
     (λ c. search needs)
     (λ c. search needs)
     (λ c. search needs)
     (λ c. search needs)
-    returns
-    returns-2
-    returns-3
-    returns-4)
+    packet-is-written
+    (λ c. fills-none (cut-nothing _ _ (sym (c .enum-told .given .1) ∙ c .before .before .read-length .ensures) refl))
+    (λ c. fills-none (cut-nothing _ _ (sym (c .enum-told2 .given .1) ∙ c .before .before .read-length .ensures) refl))
+    (λ c. fills-none (cut-nothing _ _ (sym (c .enum-told3 .given .1) ∙ c .before .before .read-length .ensures) refl)))

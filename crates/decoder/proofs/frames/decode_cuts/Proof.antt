@@ -1,6 +1,7 @@
 -- `decoder::frames::decode_cuts` meets its contract. The invariant: the table, completed by the frames that are left, is the table at the
 -- end; and while fewer records are written than were counted, the next frame is given.
-use Rattle.decoder.proofs.FrameFills.{Listing, remaining2, cuts-start, cuts-end, cuts-some, cuts-fit, cuts-written, cuts-in, cuts-on}
+use Rattle.decoder.proofs.FrameFills.{Listing, remaining2, cuts-start}
+use Rattle.decoder.proofs.FrameTurns.{CutTurn, CutWritten, cuts-end, cut-fits, cut-turn, cut-not-nothing, cut-written}
 use Rattle.framing.specs.Framing.{tcpVec2}
 use Rattle.answering.specs.Limits.{forestOf}
 use native.Mathlib.Omega.{arith}
@@ -17,101 +18,55 @@ Inv-loop msg table₀ depth count from₀ written₀ table from written =
 abbrev μ-loop : tie.MeasureT-loop
 μ-loop msg table₀ depth count from₀ written₀ table from written = length msg - from
 
+-- ---- a turn: something is written of the frame at `from`
+
+abbrev turn : tie.After-slice-known2 Inv-loop μ-loop → CutTurn
+turn p =
+    let d = p .before .before in
+    let i = d .before .before .before in
+    let l = i .before .loop in
+    let s = i .before .before .before .before in
+    let a = s .args in
+    cut-turn (a .depth) (a .msg .now) (a .table .now) (l .table) (l .from) (l .written) (l .inv .1) (s .pre .1 .0) (i .loop-test .taken)
+    (d .decode-cut .ensures)
+
+-- its records and its bytes
+written : (p : tie.After-known-told Inv-loop μ-loop)
+    → let g = p .before .n .given .0 in CutWritten (turn (p .before .before .before)) (g .0) (g .1 .0)
+written p = cut-written (turn (p .before .before .before)) (p .before .n .given .1)
+
+-- ---- the needs
+
 loop-holds : tie.Need-loop-holds Inv-loop μ-loop
 loop-holds c =
-    let p2 = c .before .before in
-    (search needs, cuts-start (p2 .args .depth) (p2 .args .msg .now) (p2 .args .table .now) (p2 .pre .1 .1))
+    let s = c .before .before in
+    (search needs, cuts-start (s .args .depth) (s .args .msg .now) (s .args .table .now) (s .pre .1 .1))
 
-mul-decode-cut : tie.Need-mul-decode-cut Inv-loop μ-loop
-mul-decode-cut c = omega (arith, (c .before .before .loop .inv .1) .fits)
-
-sub-decode-cut-2 : tie.Need-sub-decode-cut-2 Inv-loop μ-loop
-sub-decode-cut-2 c = omega (arith, (c .before .before .loop .inv .1) .fits)
-
-part-decode-cut-start-2 : tie.Need-part-decode-cut-start-2 Inv-loop μ-loop
-part-decode-cut-start-2 c = omega (arith, (c .before .before .loop .inv .1) .fits)
-
-decode-cut-requires : tie.Need-decode-cut-requires Inv-loop μ-loop
-decode-cut-requires c κs =
-    let p = c .before .before .before in
-    let s = p .before .before .before in
+frame-has-room : tie.Need-decode-cut-requires Inv-loop μ-loop
+frame-has-room c κs =
+    let i = c .before .before in
+    let l = i .before .loop in
+    let s = i .before .before .before .before in
     let a = s .args in (
       omega (arith, c .before .decode-cut-arg .given .2, s .pre .0),
-      cuts-fit (a .depth) (a .msg .now) (a .table .now) (p .loop .table) (p .loop .from) (p .loop .written) (p .loop .inv .1) (s .pre .1 .0)
-          (c .before .before .loop-test .taken),
+      cut-fits (a .depth) (a .msg .now) (a .table .now) (l .table) (l .from) (l .written) (l .inv .1) (s .pre .1 .0) (i .loop-test .taken),
     )
 
-add-written : tie.Need-add-written Inv-loop μ-loop
-add-written c =
-    let p = c .before .before .before .before .before .before .before .before .before in
-    let s = p .before .before .before in
+-- a frame that was counted is written
+nothing-is-no-answer : tie.Need-returns Inv-loop μ-loop
+nothing-is-no-answer c =
+    let d = c .before .before .before .before in
+    let i = d .before .before .before in
+    let l = i .before .loop in
+    let s = i .before .before .before .before in
     let a = s .args in
-    omega (
-      arith,
-      cuts-in (a .depth) (a .msg .now) (a .table .now) (p .loop .table) (p .loop .from) (p .loop .written) (p .loop .inv .1) (s .pre .1 .0)
-          (c .before .before .before .before .before .before .before .before .loop-test .taken)
-          (c .before .before .before .before .before .decode-cut .ensures) (c .before .n .given .1),
-    )
+    absurd (cut-not-nothing (a .depth) (a .msg .now) (a .table .now) (l .table) (l .from) (l .written) (l .inv .1) (s .pre .1 .0)
+    (i .loop-test .taken) (d .decode-cut .ensures) (c .enum-told .given .1))
 
-add-from : tie.Need-add-from Inv-loop μ-loop
-add-from c =
-    let p = c .before .before .before .before .before .before .before .before .before in
-    let s = p .before .before .before in
-    let a = s .args in
-    omega (
-      arith,
-      cuts-in (a .depth) (a .msg .now) (a .table .now) (p .loop .table) (p .loop .from) (p .loop .written) (p .loop .inv .1) (s .pre .1 .0)
-          (c .before .before .before .before .before .before .before .before .loop-test .taken)
-          (c .before .before .before .before .before .decode-cut .ensures) (c .before .n .given .1),
-    )
-
-loop-less : tie.Need-loop-less Inv-loop μ-loop
-loop-less c =
-    let p = c .before .before .before .before .before .before .before .before .before in
-    let s = p .before .before .before in
-    let a = s .args in
-    omega (
-      arith,
-      cuts-in (a .depth) (a .msg .now) (a .table .now) (p .loop .table) (p .loop .from) (p .loop .written) (p .loop .inv .1) (s .pre .1 .0)
-          (c .before .before .before .before .before .before .before .before .loop-test .taken)
-          (c .before .before .before .before .before .decode-cut .ensures) (c .before .n .given .1),
-    )
-
-loop-again : tie.Need-loop-again Inv-loop μ-loop
-loop-again c =
-    let p = c .before .before .before .before .before .before .before .before .before in
-    let s = p .before .before .before in
-    let a = s .args in (
-      omega (
-        arith,
-        cuts-in (a .depth) (a .msg .now) (a .table .now) (p .loop .table) (p .loop .from) (p .loop .written) (p .loop .inv .1)
-            (s .pre .1 .0)
-            (c .before .before .before .before .before .before .before .before .loop-test .taken)
-            (c .before .before .before .before .before .decode-cut .ensures) (c .before .n .given .1),
-      ),
-      cuts-on (a .depth) (a .msg .now) (a .table .now) (p .loop .table) (p .loop .from) (p .loop .written) (p .loop .inv .1) (s .pre .1 .0)
-          (c .before .before .before .before .before .before .before .before .loop-test .taken)
-          (c .before .before .before .before .before .decode-cut .ensures) (c .before .n .given .1),
-    )
-
-returns : tie.Need-returns Inv-loop μ-loop
-returns c =
-    let p = c .before .before .before .before .before .before .before .before in
-    let s = p .before .before .before in
-    let a = s .args in
-    absurd
-    (cuts-written (a .depth) (a .msg .now) (a .table .now) (p .loop .table) (p .loop .from) (p .loop .written) (p .loop .inv .1)
-    (s .pre .1 .0)
-    (c .before .before .before .before .before .before .before .loop-test .taken)
-    (c .before .before .before .before .decode-cut .ensures) (c .enum-told .given .1))
-
-returns-2 : tie.Need-returns-2 Inv-loop μ-loop
-returns-2 c =
-    let p = c .before in
-    let s = p .before .before .before in
-    let a = s .args in
-    cuts-end (a .depth) (a .msg .now) (a .table .now) (p .loop .table) (p .loop .from) (p .loop .written) (p .loop .inv .1) (s .pre .1 .0)
-    (search needs)
+all-is-written : tie.Need-returns-2 Inv-loop μ-loop
+all-is-written c =
+    let s = c .before .before .before .before in
+    cuts-end (s .args .depth) (s .args .msg .now) (c .before .loop .inv .1) (s .pre .1 .0) (search needs)
 
 pub decode-cuts-spec : {M : Type 1} → statement M
 decode-cuts-spec =
@@ -123,18 +78,18 @@ decode-cuts-spec =
     (λ c. search needs)
     (λ c. search needs)
     (λ c. search needs)
-    mul-decode-cut
-    sub-decode-cut-2
-    part-decode-cut-start-2
+    (λ c. omega (arith, (c .before .before .loop .inv .1) .fits))
+    (λ c. omega (arith, (c .before .before .loop .inv .1) .fits))
+    (λ c. omega (arith, (c .before .before .loop .inv .1) .fits))
     (λ c. search needs)
-    decode-cut-requires
+    frame-has-room
     (λ c. search needs)
-    add-written
-    add-from
-    loop-less
-    loop-again
+    (λ c. omega (arith, written c))
+    (λ c. omega (arith, written c))
+    (λ c. omega (arith, written c))
+    (λ c. (written c .within, written c .listing))
     (λ c. search needs)
     (λ c. search needs)
-    returns
+    nothing-is-no-answer
     (λ c. search needs)
-    returns-2)
+    all-is-written)

@@ -1,55 +1,40 @@
 -- `decoder::frames::decode_frame` meets its contract. What is written of the packet after the prefix.
-use Rattle.decoder.proofs.FrameFills.{frame-room, frame-fills, waits-nothing, short-nothing}
-use Rattle.fill.proofs.Fills.{fills-none}
-use Rattle.heads.proofs.Heads.{prefix-in}
-use Rattle.wire.proofs.Parts.{tail}
+use mathlib.Core.Path.{_≡_, sym, _∙_}
 use native.Mathlib.Omega.{arith}
-use mathlib.Core.Path.{sym, _∙_}
 use borrow.Author.Needs.{needs}
+use Rattle.wire.proofs.Parts.{tail}
+use Rattle.heads.specs.Heads.{prefixOf}
+use Rattle.heads.specs.declared.Prefix.the-variants.{Ready}
+use Rattle.heads.proofs.Heads.{prefix-in}
+use Rattle.fill.proofs.Fills.{fills-none}
+use Rattle.decoder.proofs.FrameFills.{frame-room, frame-fills, waits-nothing, short-nothing}
 use Rattle.decoder.proofs.frames.decode_frame.Statement.{statement}
 use Rattle.decoder.proofs.frames.decode_frame.Tie as tie
 
-sub-decode-packet : tie.Need-sub-decode-packet
-sub-decode-packet c =
-    let p2 = c .before .before in
-    let p5 = p2 .before .before .before in
-    omega (arith, prefix-in (p5 .args .input .now) (sym (c .enum-told .given .1) ∙ (p2 .read-prefix .ensures)))
+-- ---- the prefix is read, and the frame is ready
 
-part-decode-packet-start : tie.Need-part-decode-packet-start
-part-decode-packet-start c =
-    let p2 = c .before .before in
-    let p5 = p2 .before .before .before in
-    omega (arith, prefix-in (p5 .args .input .now) (sym (c .enum-told .given .1) ∙ (p2 .read-prefix .ensures)))
+abbrev start : tie.After-enum-told → tie.Start
+start p = p .before .before .before .before .before
 
-decode-packet-requires : tie.Need-decode-packet-requires
-decode-packet-requires c κs =
-    let p2 = c .before .before in
-    let p4 = p2 .before .before in
-    let p7 = p4 .before .before .before in (
-      omega (
-        arith,
-        prefix-in (p7 .args .input .now) (sym (p2 .enum-told .given .1) ∙ (p4 .read-prefix .ensures)),
-        (c .before .decode-packet-arg .given .2),
-        (p7 .pre .0),
-      ),
-      frame-room (p7 .args .base) (p7 .args .input .now) _ (sym
-          (p2 .enum-told .given .1) ∙ (p4 .read-prefix .ensures)) (tail (p7 .args .input .now) 4) (p7 .pre .1),
+ready : (p : tie.After-enum-told) → Ready ≡ prefixOf (start p .args .input .now)
+ready p = sym (p .enum-told .given .1) ∙ p .before .before .read-prefix .ensures
+
+-- ---- the needs
+
+packet-has-room : tie.Need-decode-packet-requires
+packet-has-room c κs =
+    let p = c .before .before in
+    let s = start p in (
+      omega (arith, prefix-in _ (ready p), c .before .decode-packet-arg .given .2, s .pre .0),
+      frame-room (s .args .base) (s .args .input .now) _ (ready p) (tail (s .args .input .now) 4) (s .pre .1),
     )
 
-returns : tie.Need-returns
-returns c =
-    let p2 = c .before .before in
-    let p5 = p2 .before .before .before in
-    let p7 = p5 .before .before in
-    let p10 = p7 .before .before .before in
-    frame-fills (p10 .args .base) (p10 .args .input .now) _ (sym (p5 .enum-told .given .1) ∙ (p7 .read-prefix .ensures))
-    (tail (p10 .args .input .now) 4) (p2 .decode-packet .ensures)
-
-returns-2 : tie.Need-returns-2
-returns-2 c = fills-none (waits-nothing _ _ (sym (c .enum-told2 .given .1) ∙ (c .before .before .read-prefix .ensures)))
-
-returns-3 : tie.Need-returns-3
-returns-3 c = fills-none (short-nothing _ _ (sym (c .enum-told3 .given .1) ∙ (c .before .before .read-prefix .ensures)))
+packet-is-written : tie.Need-returns
+packet-is-written c =
+    let w = c .before .before in
+    let p = w .before .before .before in
+    let a = start p .args in
+    frame-fills (a .base) (a .input .now) _ (ready p) (tail (a .input .now) 4) (w .decode-packet .ensures)
 
 pub decode-frame-spec : {M : Type 1} → statement M
 decode-frame-spec =
@@ -57,13 +42,13 @@ decode-frame-spec =
     (tie.spec
     (λ c κs. search needs)
     (λ c. search needs)
-    sub-decode-packet
-    part-decode-packet-start
+    (λ c. omega (arith, prefix-in _ (ready c)))
+    (λ c. omega (arith, prefix-in _ (ready c)))
     (λ c. search needs)
-    decode-packet-requires
+    packet-has-room
     (λ c. search needs)
     (λ c. search needs)
     (λ c. search needs)
-    returns
-    returns-2
-    returns-3)
+    packet-is-written
+    (λ c. fills-none (waits-nothing _ _ (sym (c .enum-told2 .given .1) ∙ c .before .before .read-prefix .ensures)))
+    (λ c. fills-none (short-nothing _ _ (sym (c .enum-told3 .given .1) ∙ c .before .before .read-prefix .ensures))))

@@ -1,11 +1,9 @@
 -- `decoder::frames::decode_frames` meets its contract. The invariant: the table, completed by the frames that are left, is the
 -- table at the end.
-use Rattle.decoder.proofs.FrameFills.{Listing, remaining, fills-tail, listing-start, listing-end, none-left, next-fits, next-in}
-use Rattle.decoder.proofs.FrameFills.{listing-on, listing-waits}
-use Rattle.framing.specs.Framing.{refuses, tcpVec}
-use Rattle.framing.proofs.FrameKnot.{frame-in}
+use Rattle.decoder.proofs.FrameFills.{Listing, remaining, listing-start, listing-end, none-left}
+use Rattle.decoder.proofs.FrameTurns.{RoscTurn, RoscWritten, frame-fits, fills-tail, rosc-written, rosc-waits}
+use Rattle.framing.specs.Framing.{tcpVec}
 use Rattle.answering.specs.Limits.{forestOf}
-use Rattle.wire.proofs.Parts.{tail}
 use native.Mathlib.Omega.{arith}
 use lib.ListN.{length}
 use Prim.Native.Nat.{_-_, _≤_}
@@ -19,102 +17,52 @@ Inv-loop msg table₀ at₀ count₀ table at count = (at ≤ length msg) × Lis
 abbrev μ-loop : tie.MeasureT-loop
 μ-loop msg table₀ at₀ count₀ table at count = length msg - at
 
+-- ---- a turn: something is written of the frame at `at`
+
+abbrev turn : tie.After-slice-known2 Inv-loop μ-loop → RoscTurn
+turn p =
+    let d = p .before .before in
+    let i = d .before .before .before in
+    let l = i .before .loop in
+    let a = i .before .before .before .before .args in
+    record {
+      limit = 0;
+      msg = a .msg .now;
+      blank = a .table .now;
+      table = l .table;
+      at = l .at;
+      count = l .count;
+      so-far = l .inv .1;
+      more = i .loop-test .taken;
+      wrote = d .decode-frame .result;
+      last = d .decode-frame .last .1 .1 .0;
+      fills = fills-tail (a .msg .now) (l .at) (d .decode-frame .ensures);
+    }
+
+-- its records and its bytes
+written : (p : tie.After-known-told Inv-loop μ-loop)
+    → let g = p .before .n .given .0 in RoscWritten (turn (p .before .before .before)) (g .0) (g .1 .0)
+written p = rosc-written (turn (p .before .before .before)) (p .before .n .given .1)
+
+-- ---- the needs
+
 loop-holds : tie.Need-loop-holds Inv-loop μ-loop
 loop-holds c =
-    let p2 = c .before .before in
-    (search needs, listing-start (p2 .args .msg .now) (p2 .args .table .now) (p2 .pre .1 .0) (p2 .pre .1 .1))
+    let s = c .before .before in
+    (search needs, listing-start (s .args .msg .now) (s .args .table .now) (s .pre .1 .0) (s .pre .1 .1))
 
-mul-decode-frame : tie.Need-mul-decode-frame Inv-loop μ-loop
-mul-decode-frame c = omega (arith, (c .before .before .loop .inv .1) .fits)
+frame-has-room : tie.Need-decode-frame-requires Inv-loop μ-loop
+frame-has-room c κs =
+    let i = c .before .before in
+    let s = i .before .before .before .before in
+    let w = frame-fits (s .args .msg .now) (i .before .loop .inv .1) (i .loop-test .taken) in
+    (omega (arith, c .before .decode-frame-arg .given .2, s .pre .0), w)
 
-sub-decode-frame-2 : tie.Need-sub-decode-frame-2 Inv-loop μ-loop
-sub-decode-frame-2 c = omega (arith, (c .before .before .loop .inv .1) .fits)
-
-part-decode-frame-start-2 : tie.Need-part-decode-frame-start-2 Inv-loop μ-loop
-part-decode-frame-start-2 c = omega (arith, (c .before .before .loop .inv .1) .fits)
-
-decode-frame-requires : tie.Need-decode-frame-requires Inv-loop μ-loop
-decode-frame-requires c κs =
-    let p2 = c .before .before in
-    let p3 = p2 .before in
-    let p6 = p3 .before .before .before in (
-      omega (arith, (c .before .decode-frame-arg .given .2), (p6 .pre .0)),
-      rw (tail (p6 .args .msg .now) (p3 .loop .at))
-          (next-fits _ refuses frame-in (p6 .args .msg .now) (p6 .args .table .now) (p3 .loop .table) (p3 .loop .at) (p3 .loop .count)
-          (p3 .loop .inv .1)
-          (p2 .loop-test .taken)),
-    )
-
-add-count : tie.Need-add-count Inv-loop μ-loop
-add-count c =
-    let p5 = c .before .before .before .before .before in
-    let p8 = p5 .before .before .before in
-    let p9 = p8 .before in
-    let p12 = p9 .before .before .before in
-    omega (
-      arith,
-      next-in _ refuses frame-in (p12 .args .msg .now) (p12 .args .table .now) (p9 .loop .table) (p9 .loop .at) (p9 .loop .count)
-          (p9 .loop .inv .1) (p8 .loop-test .taken) (fills-tail (p12 .args .msg .now) (p9 .loop .at) (p5 .decode-frame .ensures))
-          (c .before .n .given .1),
-    )
-
-add-at : tie.Need-add-at Inv-loop μ-loop
-add-at c =
-    let p5 = c .before .before .before .before .before in
-    let p8 = p5 .before .before .before in
-    let p9 = p8 .before in
-    let p12 = p9 .before .before .before in
-    omega (
-      arith,
-      next-in _ refuses frame-in (p12 .args .msg .now) (p12 .args .table .now) (p9 .loop .table) (p9 .loop .at) (p9 .loop .count)
-          (p9 .loop .inv .1) (p8 .loop-test .taken) (fills-tail (p12 .args .msg .now) (p9 .loop .at) (p5 .decode-frame .ensures))
-          (c .before .n .given .1),
-    )
-
-loop-less : tie.Need-loop-less Inv-loop μ-loop
-loop-less c =
-    let p5 = c .before .before .before .before .before in
-    let p8 = p5 .before .before .before in
-    let p9 = p8 .before in
-    let p12 = p9 .before .before .before in
-    omega (
-      arith,
-      next-in _ refuses frame-in (p12 .args .msg .now) (p12 .args .table .now) (p9 .loop .table) (p9 .loop .at) (p9 .loop .count)
-          (p9 .loop .inv .1) (p8 .loop-test .taken) (fills-tail (p12 .args .msg .now) (p9 .loop .at) (p5 .decode-frame .ensures))
-          (c .before .n .given .1),
-    )
-
-loop-again : tie.Need-loop-again Inv-loop μ-loop
-loop-again c =
-    let p5 = c .before .before .before .before .before in
-    let p8 = p5 .before .before .before in
-    let p9 = p8 .before in
-    let p12 = p9 .before .before .before in (
-      omega (
-        arith,
-        next-in _ refuses frame-in (p12 .args .msg .now) (p12 .args .table .now) (p9 .loop .table) (p9 .loop .at) (p9 .loop .count)
-            (p9 .loop .inv .1) (p8 .loop-test .taken) (fills-tail (p12 .args .msg .now) (p9 .loop .at) (p5 .decode-frame .ensures))
-            (c .before .n .given .1),
-      ),
-      listing-on _ refuses frame-in (p12 .args .msg .now) (p12 .args .table .now) (p9 .loop .table) (p9 .loop .at) (p9 .loop .count)
-          (p9 .loop .inv .1) (p8 .loop-test .taken) (fills-tail (p12 .args .msg .now) (p9 .loop .at) (p5 .decode-frame .ensures))
-          (c .before .n .given .1),
-    )
-
-returns : tie.Need-returns Inv-loop μ-loop
-returns c =
-    let p4 = c .before .before .before .before in
-    let p7 = p4 .before .before .before in
-    let p8 = p7 .before in
-    let p11 = p8 .before .before .before in
-    listing-waits (p11 .args .msg .now) (p11 .args .table .now) (p8 .loop .table) (p8 .loop .at) (p8 .loop .count) (p8 .loop .inv .1)
-    (p7 .loop-test .taken) (fills-tail (p11 .args .msg .now) (p8 .loop .at) (p4 .decode-frame .ensures)) (c .enum-told .given .1)
-
-returns-2 : tie.Need-returns-2 Inv-loop μ-loop
-returns-2 c =
-    let p4 = c .before .before .before .before in
-    listing-end (p4 .args .msg .now) (p4 .args .table .now) (c .before .loop .table) (c .before .loop .at) (c .before .loop .count)
-    (c .before .loop .inv .1) (none-left (p4 .args .msg .now) (c .before .loop .at) (search needs))
+all-is-written : tie.Need-returns-2 Inv-loop μ-loop
+all-is-written c =
+    let l = c .before .loop in
+    let a = c .before .before .before .before .args in
+    listing-end (a .msg .now) (a .table .now) (l .table) (l .at) (l .count) (l .inv .1) (none-left (a .msg .now) (l .at) (search needs))
 
 pub decode-frames-spec : {M : Type 1} → statement M
 decode-frames-spec =
@@ -126,18 +74,18 @@ decode-frames-spec =
     (λ c. search needs)
     (λ c. search needs)
     (λ c. search needs)
-    mul-decode-frame
-    sub-decode-frame-2
-    part-decode-frame-start-2
+    (λ c. omega (arith, (c .before .before .loop .inv .1) .fits))
+    (λ c. omega (arith, (c .before .before .loop .inv .1) .fits))
+    (λ c. omega (arith, (c .before .before .loop .inv .1) .fits))
     (λ c. search needs)
-    decode-frame-requires
+    frame-has-room
     (λ c. search needs)
-    add-count
-    add-at
-    loop-less
-    loop-again
+    (λ c. omega (arith, written c))
+    (λ c. omega (arith, written c))
+    (λ c. omega (arith, written c))
+    (λ c. (written c .within, written c .listing))
     (λ c. search needs)
     (λ c. search needs)
-    returns
+    (λ c. rosc-waits (turn (c .before .before)) (c .enum-told .given .1))
     (λ c. search needs)
-    returns-2)
+    all-is-written)

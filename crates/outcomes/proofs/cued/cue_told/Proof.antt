@@ -6,10 +6,10 @@ use Prim.Native.Nat.{ℕ, _<_, _≤_}
 use borrow.Author.Tests.{lt-ltb, le-ltb}
 use borrow.Author.Needs.{needs}
 use Rattle.refusal.specs.declared.Refusal.the-variants.{BadTable}
-use Rattle.cues.specs.declared.checked.Checked.{Checked}
-use Rattle.cues.specs.declared.checked.Checked.the-variants.{Fits, Differs}
+use Rattle.results.specs.declared.Checked.{Checked}
+use Rattle.results.specs.declared.Checked.the-variants.{Fits, Differs}
 use Rattle.telling.specs.Forms.{Says}
-use Rattle.telling.specs.Answers.{refusedLine}
+use Rattle.telling.specs.Refusals.{refusedLine}
 use Rattle.telling.specs.Indexes.{checkedLine}
 use Rattle.outcomes.specs.Cued.{hasCue, noCueLine}
 use Rattle.outcomes.proofs.cued.cue_told.Statement.{statement}

@@ -1,20 +1,18 @@
 -- `telling::indexes::tell_index` meets its contract: the line says what became of the index.
-use mathlib.Core.Path.{_∙_}
-use mathlib.Core.List.{[]}
 use borrow.Author.Needs.{needs}
 use Rattle.telling.proofs.Told.{says-as}
-use Rattle.telling.proofs.Said.{same-said, index-said}
 use Rattle.telling.proofs.indexes.tell_index.Statement.{statement}
 use Rattle.telling.proofs.indexes.tell_index.Tie as tie
 
 returns : tie.Need-returns
-returns c =
-    let p2 = c .before .before in
-    let p5 = p2 .before .before .before in
-    let a = p5 .before .before .args in
-    says-as (same-said [] (p5 .index-line .ensures) ∙ index-said (a .records) (a .at) (a .end)) (p2 .tell .ensures)
+returns c = let p2 = c .before .before in says-as (p2 .before .before .before .index-line .ensures) (p2 .tell .ensures)
 
 pub tell-index-spec : {M : Type 1} → statement M
 tell-index-spec =
     tie.close
-    (tie.spec (λ c κs. search needs) (λ c. search needs) (λ c κs. search needs) (λ c. search needs) returns)
+    (tie.spec
+    (λ c κs. search needs)
+    (λ c. search needs)
+    (λ c κs. search needs)
+    (λ c. search needs)
+    returns)

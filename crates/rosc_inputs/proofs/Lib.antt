@@ -1,0 +1,4 @@
+pub mod FrameExtents
+pub mod Counting
+pub mod ListTotals
+pub mod Totals

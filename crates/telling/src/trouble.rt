@@ -1,0 +1,41 @@
+// The line for trouble with a word or a file.
+use crate::form::fill_in;
+use crate::lines::line_at;
+use troubles::Trouble;
+use troubles::place_of;
+ghost use Rattle.telling.specs.Forms.{Says};
+ghost use Rattle.telling.specs.Troubles.{troubleLine};
+
+// The troubles, a line to each, in the order of `Trouble`.
+const TROUBLES: [u8; 944] = *b"\
+osc: the first word is not decode, encode, look, index, check, cue, help or --version: ~
+osc: decode takes udp|tcp|tcp-vec|tcp2|tcp2-vec INPUT TABLE [--depth N] [--records N]
+osc: encode takes udp|tcp|tcp2 TABLE SOURCE OUTPUT
+osc: look takes TABLE INDEX
+osc: not udp, tcp, tcp-vec, tcp2 or tcp2-vec: ~
+osc: encode writes one packet: udp, tcp or tcp2, not ~
+osc: not --depth or --records: ~
+osc: given twice: ~
+osc: not a number of at most nine digits: ~
+osc: more than 65535 for --records: ~
+osc: the name of a file is empty
+osc: ~: the name of the file is too long
+osc: ~: not a file that can be replaced
+osc: ~: the output is the same file, or cannot be told from it
+osc: ~: the file is too large: it has at least % bytes
+osc: ~: a table has a multiple of 20 bytes, and this has % bytes
+osc: index takes RECORDING INDEX
+osc: check takes RECORDING INDEX
+osc: cue takes RECORDING INDEX K TABLE
+osc: ~: the file became shorter while it was read
+";
+
+// Puts the line for a trouble with a word, or with a file and a number of its bytes, at the front of `out`, and answers how long it is.
+// What has no room is left out.
+//
+// Ruled out: the words of another trouble; another number.
+pub fn tell_trouble(trouble: Trouble, number: u64, word: &[u8], out: &mut [u8]) -> usize
+    ensures { λ r. ⌜ Says (troubleLine trouble number (now (word .entry))) (now (out .exit)) r ⌝ }
+{
+    fill_in(line_at(&TROUBLES, place_of(trouble)), &[number], word, out)
+}

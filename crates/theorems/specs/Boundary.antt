@@ -1,0 +1,53 @@
+-- The C boundary: what the sixteen functions of include/osc.h answer in numbers.
+use Rattle.told.specs.Told.{Unpacks, KindsApart}
+use Rattle.apart.specs.Boundary.{CSettled, EndsListed, ToldApart, StopsApart, EndsApart, IndexEndsApart, DiffersApart}
+use Rattle.apart.specs.ReadBack.{DecodedApart, PortionApart, EncodedApart, StringApart, ToldOnce, ToldAlone, NoneWaits, RefusalTold}
+use Rattle.apart.specs.ReadBack.{StepTold, StepOnce, IndexTold, CueTold, EncodedOnce, PadOnce}
+
+-- The C boundary
+pub record CBoundary : Type 1 where
+  -- Demand 1: each of the sixteen functions ends in an answer; or in a refusal that is listed for it and leaves every lent byte; or it
+  -- stops at a refused frame that is listed; or, for an index that differs, at a record. These four can be told apart.
+  -- definitions: apart/CCall, apart/CMeets
+  -- edits: apart/positions_are_even, osc/refused_record_told_as_0, osc/start_refused_by_0
+  pub ends-listed : EndsListed
+  pub refusals-apart : ToldApart
+  pub stops-apart : StopsApart
+  pub ends-apart : EndsApart
+  pub index-ends-apart : IndexEndsApart
+  pub differs-apart : DiffersApart
+  -- An answer is packed into 64 bits, and 64 bits more beside them. All of its parts are read back, and two kinds of answers that no answer
+  -- is both of never have the same bits.
+  -- edits: told/frame_in_the_place_of_the_field, told/stop_without_its_refusal, told/offset_in_the_low_bits
+  pub read-back : Unpacks
+  pub kinds-apart : KindsApart
+  -- A decoder's number, with what is written beside it, stands for one answer. Alone it stands for every refusal but 17 to 21, which have
+  -- an offset; packets have their dirty padding beside it. Count 0 of `osc_decode_tcp` is Waiting. The number alone tells a list that
+  -- stops from a refused call, and all parts of such an answer are read back (Ticket 1).
+  -- edits: apart/list_has_a_packet, apart/seventeen_tells_alone, told/waiting_told_as_nothing_left
+  pub decoded-once : ToldOnce
+  pub decoded-alone : ToldAlone
+  pub tcp-none-waits : NoneWaits
+  pub refusal-told : RefusalTold
+  -- The number of a step over a stream, with what is written beside it, stands for one answer. A step that reads on, one that a refused
+  -- frame ends, and a refused call can be told apart, and all parts are read back (Ticket 14).
+  -- edits: told/kept_bytes_one_short, told/end_without_its_refusal
+  pub step-told : StepTold
+  pub step-once : StepOnce
+  pub portion-apart : PortionApart
+  -- Of a step that writes an index, and of a cue that is looked up, every part of the answer is read back from the number and what is
+  -- written beside it (Ticket 5).
+  -- definitions: apart/IndexBack, apart/CueBack
+  -- edits: told/refused_frame_of_an_index_waits, osc/record_counted_within_its_part, told/offset_left_of_no_cue
+  pub index-told : IndexTold
+  pub cue-told : CueTold
+  -- The parts of an answer's number are what was answered. The number of an encoder and of `osc_pad` stands for one answer.
+  -- edits: told/count_with_the_refusal, told/count_in_the_low_bits, told/refusal_in_the_low_bits, told/half_of_the_bytes_told
+  pub decoded-apart : DecodedApart
+  pub told-apart : EncodedApart
+  pub string-told-apart : StringApart
+  pub encoded-once : EncodedOnce
+  pub pad-once : PadOnce
+  -- A contract settles the number and every lent byte.
+  -- edits: apart/bytes_left_open, osc/text_measured_only, osc/stream_without_a_length
+  pub c-settled : CSettled

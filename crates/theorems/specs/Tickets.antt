@@ -1,0 +1,223 @@
+-- Document 02's tickets, a sentence to a row.
+use mathlib.Core.Path.{_≡_}
+use mathlib.Core.Bool.{true}
+use mathlib.Core.List.{List, [], _∷_, _++_}
+use Prim.Native.Nat.{ℕ, _+_, _-_, _*_, _^_, _≤_, _<_}
+use lib.ListN.{length, take}
+use Rattle.edition.specs.declared.Edition.{Edition}
+use Rattle.edition.specs.declared.Framing.{Framing}
+use Rattle.refusal.specs.Refusal.{numberOf}
+use Rattle.refusal.specs.declared.Refusal.{Refusal}
+use Rattle.wire.specs.Limits.{longest, deepest}
+use Rattle.node.specs.Forest.{Forest, nil, node}
+use Rattle.node.specs.Tags.{among}
+use Rattle.node.specs.declared.record.Item.{Item}
+use Rattle.argument.specs.Dirt.{dirtyIn}
+use Rattle.packet.specs.Packet.{one, readPacket}
+use Rattle.framing.specs.Framing.{udp, tcp, tcp2, read, cutFrame}
+use Rattle.answering.specs.Limits.{decoded}
+use Rattle.results.specs.declared.Decoded.the-variants.{Packets}
+use Rattle.results.specs.declared.End.{End}
+use Rattle.results.specs.declared.Indexed.the-variants.{Written}
+use Rattle.decoder.specs.Cases.{Each}
+use Rattle.decoder.specs.Examples.{standard, misread}
+use Rattle.decoder.specs.Offsets.{OffsetsLow}
+use Rattle.cues.specs.Cues.{mostInACue, cueOf, entrySize, mostEntries, index, indexOf, writtenOf, Indexes, KeptIsShort}
+use Rattle.cues.specs.Checks.{FitsExactly, DiffersFirst, CheckInParts}
+use Rattle.cues.specs.declared.cue.Cue.the-variants.{Given}
+use Rattle.writers.specs.Osc.{longestElement}
+use Rattle.survey.specs.Surveys.{Surveys}
+use Rattle.encoder.specs.Outcome.{Outcome, Encodes, unframed, framedBy}
+use Rattle.encoder.specs.AfterNo.{AfterNo, NoOutcome}
+use Rattle.osc10.specs.Osc10.{Packet, Allowed, Spells}
+use Rattle.calls.specs.Demands.{MoreRoom, MoreBytes, DirtLow, CleanOnly}
+use Rattle.calls.specs.Fields.{FieldsShort, FrameShort, CutFieldsShort, CutFrameShort}
+use Rattle.given.specs.Starts.{GivesStarts}
+use Rattle.cutting.specs.Cutting.{EveryCut, AnyPortions}
+use Rattle.recordings.specs.Recordings.{CutIndex, AnyBuffers, EveryWalk, EveryCheck, WalkChecks, WhereCuesLie, CheckedCue, EveryCue}
+use Rattle.check_walk.specs.Chain.{WalkTells}
+use Rattle.tool_walks.specs.Runs.{RunWrites, RunChecks}
+use Rattle.standards.specs.Trip.{RoundTrip}
+use Rattle.standards.specs.Streams.{CutAccepted, CutSeen, StreamAccepted, CutWritten, StrictCutWritten, CutTrip, FramesTrip}
+
+-- Ticket 1: Framing as the standard has it (edition 2)
+pub record Ticket1 : Type 0 where
+  -- An OSC 1.0 stream, each packet after its int32 size, is accepted as those packets: one frame, and a list of any length.
+  -- edits: standards/stream_without_sizes, framing/packet_past_its_frame
+  pub cut-accepted : CutAccepted
+  pub cut-seen : CutSeen
+  pub stream-accepted : StreamAccepted
+  -- What `encode_tcp` writes is such a frame, of a bundle too. `decode_tcp` reads it back as the same table, and `decode_tcp_vec` reads
+  -- frames written one after another as the same trees.
+  -- edits: encoder/bundle_without_a_length, standards/trip_with_dirt
+  pub cut-written : CutWritten
+  pub strict-cut-written : StrictCutWritten
+  pub cut-trip : CutTrip
+  pub frames-trip : FramesTrip
+  -- The readings that the ticket names, 24 cases as calls with the whole table afterwards. If a list stops, what is left begins with the
+  -- refused frame and has at least the 4 bytes of its prefix.
+  -- definitions: decoder/WholeLow
+  -- edits: decoder/frame_after_its_prefix, decoder/three_bytes_are_short, framing/fifteen_before_four
+  -- edits: standard_inputs/nine_told_as_fifteen, answering/stopped_list_never_full
+  pub editions : Each standard
+  pub whole-low : OffsetsLow
+
+-- Ticket 2: Tell us which field was short
+pub record Ticket2 : Type 0 where
+  -- The offset beside 17 to 21 is at most the input's length, and the field that begins there is cut short: a text has no NUL from there
+  -- on; a number or a blob needs more bytes than follow; padding needs more than follow up to a multiple of 4; a prefix has fewer than 4
+  -- bytes, a time tag fewer than 8. In a list this is counted from the start of its frame.
+  -- definitions: calls/FieldShort, calls/ShortIn
+  -- edits: text/padding_at_the_text, measure/type_text_at_the_start, measure/elements_fault_told, packet/address_told_as_type_text
+  -- edits: argument/blobs_padding_at_its_bytes, rosc_inputs/frame_offset_left_out, decoder/base_added_twice
+  -- edits: calls/time_tag_of_four_bytes
+  pub fields-short-udp : FieldsShort udp
+  pub fields-short-tcp : FieldsShort tcp
+  pub frame-field-short : FrameShort
+  -- In edition 2 the field is cut short within its frame, whatever follows the frame. Padding is never short there, nor is a prefix.
+  -- definitions: calls/CutShort
+  -- edits: calls/frame_cut_a_word_later
+  pub cut-fields-short : CutFieldsShort
+  pub cut-frame-short : CutFrameShort
+
+-- Ticket 4: Nesting counts arrays too
+pub record Ticket4 : Type 0 where
+  -- Depth counts bundles and arrays together, along any path of the tree that is returned. A message adds none, and what an unclosed
+  -- bracket loses does not count. The contracts and refusal 9 go by the definition `depth`; five of the misread inputs show it.
+  -- definitions: node/depth, answering/decoded, encoder/Encodes
+  -- edits: scan/lost_tags_counted, scan/arrays_side_by_side_add_up, measure/arrays_beside_bundles, measure/message_adds_a_level
+  -- edits: table/arrays_not_counted, table/siblings_add_up, survey/array_takes_no_level, encoder/too_deep_is_one
+  -- edits: osc10/arrays_add_no_depth
+  pub depth-cases : Each misread
+  -- The survey says "yes" exactly if the table is well formed, at most 64 deep, and its packet at most 65,535 bytes. It has one answer.
+  -- definitions: survey/Surveys
+  -- code: survey/survey
+  -- edits: survey/never_sure, survey/unsure_of_17_levels, survey/sure_of_65_levels, survey/array_takes_no_level
+  -- edits: survey/message_takes_levels
+  pub survey-only : (t : List ℕ) (count : ℕ) (source : List ℕ) (r s : ℕ) → Surveys t count source r → Surveys t count source s → r ≡ s
+  -- If it says "no", `encode` and `encode_tcp` both refuse with 11, 9 or 1, in that order, and write nothing.
+  -- laws: encoder/no-leads
+  -- definitions: encoder/AfterNo, encoder/NoOutcome
+  -- edits: encoder/nine_before_eleven, encoder/too_deep_is_one, encoder/too_long_is_nine, encoder/twelve_before_one, encoder/depth_63
+  pub encode-no : (t : List ℕ) (count : ℕ) (source out : List ℕ) (n : ℕ) (r : Outcome) → Surveys t count source n → longestElement < n
+      → Encodes unframed t count source out r → NoOutcome t count source out r
+  pub encode-tcp-no : (t : List ℕ) (count : ℕ) (source out : List ℕ) (n : ℕ) (r : Outcome) → Surveys t count source n
+      → longestElement < n → (edition : Edition) → Encodes (framedBy edition) t count source out r → NoOutcome t count source out r
+  pub no-number : (t : List ℕ) (count : ℕ) (source : List ℕ) (x : Refusal) → AfterNo t count source x
+      → among (numberOf x) (11 ∷ 9 ∷ 1 ∷ []) ≡ true
+
+-- Ticket 5: A cue index
+pub record Ticket5 : Type 0 where
+  -- The index of a recording is one record for each accepted frame, in order, of 16 bytes, big-endian: the offset of the prefix, the length
+  -- without the prefix, and the records of its table. It goes up to the first frame that is not accepted (depth 64, 3,276 records, or
+  -- Waiting), and says where that is and why. A frame is judged as the decoder of one frame answers it.
+  -- definitions: cues/indexOf, cues/cueOf, cues/entryOf, cues/Indexes
+  -- code: cues/index_step
+  -- edits: cues/low_half_first, cues/length_with_its_prefix, cues/cue_of_3277_records
+  pub answer-judges : (msg : List ℕ) (count left dirty : ℕ) → length msg ≤ longest
+      → decoded (tcp2 deepest) mostInACue deepest msg ≡ Packets count left dirty → cueOf msg ≡ Given (length msg - left) count
+  -- An index written through any row of buffers, each holding the unread remainder and what follows, is the index of the whole, for a
+  -- recording of any length below 2^63. Whatever the portions and outputs of a program that repeats the step, it writes the index of the
+  -- whole, and stops where and why that does.
+  -- definitions: folding/Walk
+  -- edits: folding/walk_keeps_a_byte_less, folding/walk_stops_where_it_waits, recordings/recording_of_2_63_bytes
+  pub cut-index : CutIndex
+  pub any-buffers : AnyBuffers
+  pub every-walk : EveryWalk
+  -- The bytes of an unfinished frame leave room in a buffer of 65,535 bytes. An output of 5,461 records is never too short for the index of
+  -- a buffer, because an accepted frame has at least 12 bytes. A step's answer and output are the index of its bytes.
+  -- edits: cues/room_for_5460_records
+  pub kept-is-short : KeptIsShort
+  pub written-fits : (base : ℕ) (l : List ℕ) → length l ≤ longest → length (writtenOf (indexOf base l)) ≤ entrySize * mostEntries
+  pub frame-long : (limit base : ℕ) (l : List ℕ) (item : Item) (inside : Forest) (used : ℕ)
+      → cutFrame limit base l ≡ read (one item inside used) → 12 ≤ used
+  pub stepped : (l : List ℕ) (base : ℕ) (out after : List ℕ) (n used : ℕ) (why : End) → Indexes l base out (Written n used why) after
+      → indexOf base l ≡ index (take (entrySize * n) after) (base + used) why
+  -- The check accepts exactly if the bytes equal a freshly written index. Otherwise it answers 25 and the number, from 0, of the first
+  -- record that differs, is missing or is extra; a part of a record counts as one.
+  -- code: cues/compare
+  -- edits: cues/differing_record_told_late, cues/extra_part_accepted
+  pub fits-exactly : (fresh given : List ℕ) → FitsExactly fresh given
+  pub differs-first : (fresh given : List ℕ) → DiffersFirst fresh given
+  -- A check in parts, each part of the fresh index against as many bytes of the other, and at the end against what that still has, says the
+  -- same.
+  -- edits: recordings/part_counted_from_0, outcomes/record_numbered_in_its_part
+  pub check-in-parts : CheckInParts
+  pub every-check : EveryCheck
+  -- A walk over a recording that checks what each step has written, each check going on from the number that the last one answered, answers
+  -- in the end as the check of the whole does: how many records the index has, or 25 and the number of the first record that differs.
+  -- definitions: recordings/checkedInParts, check_walk/chained
+  -- edits: check_walk/each_part_from_0, check_walk/given_from_its_start
+  pub walk-checks : WalkChecks
+  pub walk-tells : WalkTells
+  -- The loop of the program `osc` only reads and writes: whatever portions its reads give, what its steps wrote is the index of the whole
+  -- recording, with where and why it ends; and where they check an index, it answers as the check of the whole does.
+  -- definitions: tool_walks/Run, tool_walks/CheckRun, walks/WalkStep
+  -- code: walks/walk_step
+  -- edits: walks/byte_kept_too_few, walks/reads_on_after_a_refused_frame, tool_walks/portion_alone_in_the_buffer
+  pub run-writes : RunWrites
+  pub run-checks : RunChecks
+  -- The index determines where each cue lies: the first at 0, each next one where the frame before it ends, and the last ends where writing
+  -- stopped.
+  -- definitions: recordings/EndToEnd
+  -- edits: recordings/frames_without_their_prefix
+  pub where-cues-lie : WhereCuesLie
+  -- A lookup in an index that was checked against a recording gives, for a number below that of its records, a place where the recording
+  -- has a frame that `decode_tcp` decodes to that many records, with nothing left over; and 11 for every other number.
+  -- definitions: recordings/CueFound, recordings/CueThere
+  -- code: cues/cue_at
+  -- edits: recordings/cue_with_bytes_left, cues/part_of_a_record_found, outcomes/cue_n_of_n_records
+  pub checked-cue : CheckedCue
+  pub every-cue : EveryCue
+
+-- Ticket 8: Dirty padding is to be seen
+pub record Ticket8 : Type 0 where
+  -- Every accepted packet comes with the number of its padding bytes that are not zero, counted over all that is kept; a list with the sum.
+  -- `decoded` goes by the definition `dirtyIn`; five of the misread inputs show it.
+  -- definitions: argument/dirtyIn, answering/decoded
+  -- edits: argument/nul_counted_as_padding, text/third_byte_unseen, arguments/lost_dirt_counted, measure/type_texts_dirt_left_out
+  -- edits: measure/elements_dirt_left_out, decoder/failed_element_counted, answering/left_told_as_dirt
+  pub dirt-cases : Each misread
+  -- It is at most three for each text, blob and `#bundle` that is kept (a message has two texts of its own), and 0 exactly if every padding
+  -- byte of what is kept is 0. This holds for every framing.
+  -- edits: calls/two_dirty_bytes_to_a_text, scan/blobs_dirt_from_its_size
+  pub dirt-low : DirtLow
+  pub clean-only : CleanOnly
+  -- What `encode` writes decodes with 0, and so does every packet that OSC 1.0 allows. With appended bytes the number stays the same for a
+  -- message and does not fall for a bundle (`GoesOn`). More room does not change it (`Unchanged`).
+  -- definitions: calls/GoesOn, calls/Unchanged
+  -- edits: standards/trip_with_dirt, calls/bundle_never_dirtier
+  pub trip-clean : RoundTrip
+  pub call-clean : (packet : Packet) (l : List ℕ) → Spells packet l → Allowed packet → length l < 256 ^ 4
+      → (item : Item) (inside : Forest) (used : ℕ) → readPacket 0 l 0 ≡ one item inside used → dirtyIn l (node item inside nil) ≡ 0
+  pub dirt-of-more-udp : MoreBytes udp
+  pub dirt-of-more-tcp : MoreBytes tcp
+  pub dirt-of-room : MoreRoom
+
+-- Ticket 10: Where each item began
+pub record Ticket10 : Type 0 where
+  -- The fifth numbers of a decoder's table lie in the input and do not fall in preorder. A message's and a text's is its `a`, a blob's its
+  -- `a` less 4. This holds for every framing.
+  -- definitions: given/StartsHold
+  -- edits: given/starts_fall, argument/blob_starts_at_its_bytes, arguments/array_begins_with_the_data
+  -- edits: arguments/array_begins_at_its_end, fill/bundle_begins_at_its_time
+  pub gives-starts : (framing : Framing) → GivesStarts framing
+
+-- Ticket 14: Cutting the stream changes nothing
+pub record Ticket14 : Type 0 where
+  -- A stream is cut in two, and the call for all of it gives records, for which the other tables have room. Then the list from its
+  -- beginning is the first part of the list from all of it. A frame refused there is refused again, at the same offset, with the same
+  -- number and field. If none was, the unread remainder followed by the later bytes yields the rest: counts and dirty padding add up; the
+  -- list ends in the same way; offsets (the frame's, the field's, `a` of `/`, `s` and `b`, and the fifth number) are moved by the bytes
+  -- consumed, and each record's end by the records given before.
+  -- laws: cutting/cut-list, cutting/rest-moved
+  -- definitions: cutting/CutChangesNothing, cutting/FirstPart, cutting/RefusedAgain, cutting/YieldsRest
+  -- edits: cutting/offsets_not_moved, cutting/a_of_an_i_moved, cutting/ends_not_moved, cutting/frame_told_from_the_remainder
+  -- edits: cutting/field_told_from_the_remainder, cutting/dirt_of_the_rest_alone, cutting/refused_frame_with_fewer_left
+  pub every-cut : EveryCut
+  -- A stream read in any portions by `read_portion`, keeping the unread remainder each time, gives the packets of the whole stream, portion
+  -- by portion, each record moved to its place, and ends as the whole does.
+  -- definitions: cutting/Recorded, portions/Steps
+  -- code: portions/read_portion
+  -- edits: cutting/remainder_one_byte_short, portions/remainder_one_byte_short, portions/refused_frame_read_over
+  pub any-portions : AnyPortions

@@ -1,0 +1,88 @@
+// Lines written: an answer on standard output, trouble on standard error.
+use commands::VERSION;
+use libc::STDERR_FILENO;
+use libc::STDOUT_FILENO;
+use telling::tell_progress;
+use telling::tell_trouble;
+use telling::tell_version;
+use troubles::Trouble;
+use words::line::front;
+
+// An answer.
+pub fn answer(line: &[u8]) {
+    io::write_all(STDOUT_FILENO, line);
+}
+
+// Trouble with word `i`, or with the file that it names and a number of its bytes.
+pub fn trouble(trouble: Trouble, i: usize, number: usize) {
+    let mut word = io::buffer();
+    let n = os::arg(i, &mut word);
+    let mut line = io::large_buffer();
+    let m = tell_trouble(trouble, number as u64, &word[..n], &mut line);
+    io::write_all(STDERR_FILENO, &line[..m]);
+}
+
+// Writes to standard error where that is a terminal.
+fn show(bytes: &[u8]) {
+    if libc::isatty(STDERR_FILENO) == 1 {
+        io::write_all(STDERR_FILENO, bytes);
+    }
+}
+
+// How much of a recording is read. The next line is written over it: progress over what was said before, or trouble.
+pub fn progress(mebibytes: u64) {
+    let mut line = io::buffer();
+    let n = tell_progress(mebibytes, &mut line);
+    show(until_end(&line[..n]));
+    show(b"\r");
+}
+
+// A line without its end.
+fn until_end(line: &[u8]) -> &[u8] {
+    let n = line.len();
+    if n == 0 {
+        return line;
+    }
+    front(line, n - 1)
+}
+
+// Takes away what was said of how much is read.
+pub fn no_progress() {
+    show(b"                                        \r");
+}
+
+// The version.
+pub fn version() {
+    let mut line = io::buffer();
+    let n = tell_version(&VERSION, &mut line);
+    answer(&line[..n]);
+}
+
+// What the commands are.
+const HELP: [u8; 1255] = *b"\
+osc decode udp|tcp|tcp-vec|tcp2|tcp2-vec INPUT TABLE [--depth N] [--records N]
+    reads INPUT and writes its records, 20 bytes each, to TABLE
+osc encode udp|tcp|tcp2 TABLE SOURCE OUTPUT
+    writes the packet of TABLE, whose texts stand in SOURCE, to OUTPUT
+osc look TABLE INDEX
+    says what record INDEX of TABLE holds; the first is 0
+osc index RECORDING INDEX
+    writes an index of RECORDING, frames of tcp2 end to end, to INDEX: 16 bytes for each frame, up to the first that is not accepted
+osc check RECORDING INDEX
+    says whether INDEX is the index of RECORDING
+osc cue RECORDING INDEX K TABLE
+    checks INDEX and writes the records of frame K of RECORDING to TABLE; the first is 0
+osc help, osc --help, osc -h
+    says this
+osc --version
+    says the version
+udp is one packet, tcp the first packet of a stream, and tcp-vec all of them, as rosc has a stream: a length cuts nothing, and none
+stands before a bundle. tcp2 and tcp2-vec are the same as OSC 1.0 has it: every packet stands behind its length, which cuts it.
+Exit status: 0 an answer; 1 a refusal; 2 trouble with a word or a file; 3 Waiting; 4 tcp2-vec or index stopped at a frame.
+After 1 and 3 no TABLE or OUTPUT is left. After 4 TABLE or INDEX holds what stands before that frame.
+";
+
+// Says what the commands are.
+pub fn help() {
+    answer(&HELP);
+}

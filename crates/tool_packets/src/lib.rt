@@ -1,0 +1,4 @@
+// The commands of the program `osc` for packets and their tables.
+pub mod decode; // decode.rt: the command decode
+pub mod encode; // encode.rt: the command encode
+pub mod look; // look.rt: the command look

@@ -1,2 +1,0 @@
-pub mod FrameExtents
-pub mod Totals
