@@ -150,8 +150,9 @@ pub record Ticket5 : Type 0 where
   -- edits: check_walk/each_part_from_0, check_walk/given_from_its_start
   pub walk-checks : WalkChecks
   pub walk-tells : WalkTells
-  -- The loop of the program `osc` only reads and writes: whatever portions its reads give, what its steps wrote is the index of the whole
-  -- recording, with where and why it ends; and where they check an index, it answers as the check of the whole does.
+  -- Whatever portions are read, a row of the steps that the program `osc` repeats writes the index of the whole recording, with where and
+  -- why it ends; and where their records are checked part by part, the answer is that of the check of the whole. That the program's loop
+  -- makes such a row is tested and not proved.
   -- definitions: tool_walks/Run, tool_walks/CheckRun, walks/WalkStep
   -- code: walks/walk_step
   -- edits: walks/byte_kept_too_few, walks/reads_on_after_a_refused_frame, tool_walks/portion_alone_in_the_buffer
