@@ -56,6 +56,7 @@ ticket5 =
       walk-tells = Rattle.check_walk.proofs.Chain.walk-tells;
       run-writes = Rattle.tool_walks.proofs.Runs.run-writes;
       run-checks = Rattle.tool_walks.proofs.Checks.run-checks;
+      loop-writes = Rattle.tool_recordings.proofs.Ends.loop-writes;
       where-cues-lie = Rattle.recordings.proofs.Lookup.where-cues-lie;
       checked-cue = Rattle.recordings.proofs.Lookup.checked-cue;
       every-cue = Rattle.recordings.proofs.Lookup.every-cue;

@@ -37,6 +37,7 @@ use Rattle.cutting.specs.Cutting.{EveryCut, AnyPortions}
 use Rattle.recordings.specs.Recordings.{CutIndex, AnyBuffers, EveryWalk, EveryCheck, WalkChecks, WhereCuesLie, CheckedCue, EveryCue}
 use Rattle.check_walk.specs.Chain.{WalkTells}
 use Rattle.tool_walks.specs.Runs.{RunWrites, RunChecks}
+use Rattle.tool_recordings.specs.Loops.{LoopWrites}
 use Rattle.standards.specs.Trip.{RoundTrip}
 use Rattle.standards.specs.Streams.{CutAccepted, CutSeen, StreamAccepted, CutWritten, StrictCutWritten, CutTrip, FramesTrip}
 
@@ -151,13 +152,16 @@ pub record Ticket5 : Type 0 where
   pub walk-checks : WalkChecks
   pub walk-tells : WalkTells
   -- Whatever portions are read, a row of the steps that the program `osc` repeats writes the index of the whole recording, with where and
-  -- why it ends; and where their records are checked part by part, the answer is that of the check of the whole. That the program's loop
-  -- makes such a row is tested and not proved.
-  -- definitions: tool_walks/Run, tool_walks/CheckRun, walks/WalkStep
-  -- code: walks/walk_step
+  -- why it ends; and where their records are checked part by part, the answer is that of the check of the whole. The program's loop makes
+  -- such a row: where it comes to the end of a recording, the records that it handed on, buffer by buffer, are the index of all that was
+  -- read.
+  -- definitions: tool_walks/Run, tool_walks/CheckRun, walks/WalkStep, tool_recordings/Looped
+  -- code: walks/walk_step, tool_recordings/walk_over
   -- edits: walks/byte_kept_too_few, walks/reads_on_after_a_refused_frame, tool_walks/portion_alone_in_the_buffer
+  -- edits: tool_recordings/records_numbered_afresh
   pub run-writes : RunWrites
   pub run-checks : RunChecks
+  pub loop-writes : LoopWrites
   -- The index determines where each cue lies: the first at 0, each next one where the frame before it ends, and the last ends where writing
   -- stopped.
   -- definitions: recordings/EndToEnd

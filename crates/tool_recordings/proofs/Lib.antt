@@ -1,1 +1,3 @@
 pub mod Lows
+pub mod Loops
+pub mod Ends

@@ -22,6 +22,7 @@ LowCame least (Ended last why) = LowPosition last
 LowCame least (Differs k) = Unit {0}
 LowCame least Failed = Unit {0}
 
--- a walk stands as it did, or is over: what was so of it is still so
-abbrev pub Passes : Came → Came → Type 0
-Passes next r = (least : ℕ) → LowCame least next → LowCame least r
+-- a walk stands as it did, or what went wrong was said
+pub data StaysOrFails (came r : Came) : Type 0 where
+  stays : r ≡ came → StaysOrFails came r
+  fails : r ≡ Failed → StaysOrFails came r

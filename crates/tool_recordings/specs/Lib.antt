@@ -1,1 +1,2 @@
 pub mod CodeCame
+pub mod Loops

@@ -13,12 +13,14 @@ use walks::Walked;
 use walks::walk_step;
 use words::line::front;
 ghost use mathlib.Core.Path.{_≡_};
-ghost use Prim.Native.Nat.{_+_, _*_, _≤_};
+ghost use Prim.Native.Nat.{_*_, _≤_};
 ghost use lib.ListN.{length};
 ghost use Rattle.wire.specs.Limits.{longest};
 ghost use Rattle.cues.specs.Cues.{entrySize, mostEntries, longestRecording};
 ghost use Rattle.walks.specs.Walks.{LowPosition};
-ghost use Rattle.tool_recordings.specs.CodeCame.{LowCame, Passes, Room};
+ghost use Rattle.tool_walks.specs.Runs.{begun};
+ghost use Rattle.tool_recordings.specs.CodeCame.{LowCame, StaysOrFails, Room};
+ghost use Rattle.tool_recordings.specs.Loops.{ComparedOn, HandedOn, TurnsTo, LoopsAt, LoopsFrom};
 
 // How often it is said how much is read: 16 MiB.
 const OFTEN: u64 = 0x100_0000;
@@ -71,7 +73,7 @@ fn compare(
     next: Came,
 ) -> Came
     requires { ⌜ (before ≤ longestRecording) × (length (now fresh) ≤ length (now given)) ⌝ }
-    ensures { λ r. ⌜ Passes next r ⌝ }
+    ensures { λ r. ⌜ ComparedOn before (now (fresh .entry)) (now (given .exit)) next r ⌝ }
 {
     let m = fresh.len();
     let got = files::read_on(fd, index_name, &mut given[..m], 0);
@@ -94,7 +96,7 @@ fn hand_on(
     next: Came,
 ) -> Came
     requires { ⌜ (before ≤ longestRecording) × (length (now fresh) ≤ length (now given)) ⌝ }
-    ensures { λ r. ⌜ Passes next r ⌝ }
+    ensures { λ r. ⌜ HandedOn aim before (now (fresh .entry)) (now (given .exit)) next r ⌝ }
 {
     match aim {
         Aim::Write(fd) => {
@@ -117,28 +119,16 @@ fn tell_read(before: u64, now: u64) {
 // A walk whose last buffer has `count` bytes, of a recording that had `size` bytes: it has ended, unless bytes were lost since.
 fn unless_shorter(fd: i32, size: u64, count: usize, came: Came) -> Came
     requires { ⌜ LowCame 0 came ⌝ }
-    ensures { λ r. ⌜ Passes came r ⌝ }
+    ensures { λ r. ⌜ StaysOrFails came r ⌝ }
 {
-    match came {
-        Came::Ended(last, end) => {
-            let total = last.at + last.kept as u64;
-            if files::is_shorter(fd, size, total, count < wire::LONGEST) {
-                say::trouble(Trouble::Shorter, 2, 0);
-                return Came::Failed;
-            }
-            came
+    if let Came::Ended(last, _) = came {
+        let total = last.at + last.kept as u64;
+        if files::is_shorter(fd, size, total, count < wire::LONGEST) {
+            say::trouble(Trouble::Shorter, 2, 0);
+            return Came::Failed;
         }
-        Came::On(_) => came,
-        Came::Differs(_) => came,
-        Came::Failed => came,
     }
-}
-
-// The first `n` bytes of an output: the records of a buffer.
-fn records_in(out: &[u8], n: usize) -> &[u8]
-    ensures { λ r. ⌜ length (now r) ≤ length (now (out .entry)) ⌝ }
-{
-    front(out, n)
+    came
 }
 
 // Goes over one buffer more of an open recording, which had `size` bytes.
@@ -154,19 +144,20 @@ fn walk_on(
     given: &mut [u8],
 ) -> Came
     requires { ⌜ Room (now buf) (now out) (now given) × LowPosition from ⌝ }
-    ensures { λ r. ⌜ LowCame (from .at + 1) r ⌝ }
+    ensures { λ r. ⌜ TurnsTo aim from (now (buf .entry)) (now (buf .exit)) (now (out .entry)) (now (out .exit)) (now (given .exit)) r ⌝ }
 {
     let got = files::read_on(fd, name, buf, from.kept);
     if !got.is_read {
         return Came::Failed;
     }
     let count = got.count;
+    let before = from.records;
     match walk_step(from, buf, count, out) {
         Walked::On { written, next } => hand_on(
             aim,
             index_name,
-            from.records,
-            records_in(out, written),
+            before,
+            front(out, written),
             given,
             Came::On(next),
         ),
@@ -177,8 +168,8 @@ fn walk_on(
             hand_on(
                 aim,
                 index_name,
-                from.records,
-                records_in(out, written),
+                before,
+                front(out, written),
                 given,
                 Came::Ended(last, end),
             ),
@@ -202,27 +193,24 @@ fn walk_in(
     given: &mut [u8],
 ) -> Came
     requires { ⌜ Room (now buf) (now out) (now given) ⌝ }
-    ensures { λ r. ⌜ LowCame 0 r ⌝ }
+    ensures { λ r. ⌜ LoopsAt aim begun (now (buf .entry)) r × LowCame 0 r ⌝ }
 {
     let mut walk = walks::start();
     loop {
-        match walk_on(fd, name, size, aim, index_name, walk, buf, out, given) {
-            Came::On(next) => {
-                tell_read(walk.at, next.at);
-                walk = next;
-            }
-            Came::Ended(last, end) => return Came::Ended(last, end),
-            Came::Differs(k) => return Came::Differs(k),
-            Came::Failed => return Came::Failed,
-        }
+        let came = walk_on(fd, name, size, aim, index_name, walk, buf, out, given);
+        let Came::On(next) = came else {
+            return came;
+        };
+        tell_read(walk.at, next.at);
+        walk = next;
     }
 }
 
 // Walks over an open recording, and lends the buffers.
 //
-// Ruled out: more records than a recording has bytes; a walk that stands beyond the longest recording.
+// Ruled out: records compared with those of another buffer, or under another number; a walk that goes on elsewhere than it stood.
 pub fn walk_over(fd: i32, name: &[u8], aim: Aim, index_name: &[u8]) -> Came
-    ensures { λ r. ⌜ LowCame 0 r ⌝ }
+    ensures { λ r. ⌜ LoopsFrom aim begun r × LowCame 0 r ⌝ }
 {
     let mut buf = bytes();
     let mut out = entries();

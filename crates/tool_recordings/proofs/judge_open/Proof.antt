@@ -8,7 +8,7 @@ use Rattle.tool_recordings.proofs.judge_open.Tie as tie
 
 judge-rest-requires : tie.Need-judge-rest-requires
 judge-rest-requires c κs =
-    let low = subst (LowCame 0) (c .before .last .given .1) (c .before .before .before .walk-over .ensures) in
+    let low = subst (LowCame 0) (c .before .last .given .1) (c .before .before .before .walk-over .ensures .1) in
     omega (arith, low .few, low .near)
 
 pub judge-open-spec : {M : Type 1} → statement M

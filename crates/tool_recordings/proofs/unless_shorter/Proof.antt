@@ -1,8 +1,8 @@
--- `tool_recordings::unless_shorter` meets its contract: by the case of the walk.
-use mathlib.Core.Path.{subst}
+-- `tool_recordings::unless_shorter` meets its contract: the numbers of a walk are low.
+use mathlib.Core.Path.{refl, sym, subst}
 use native.Mathlib.Omega.{arith}
 use borrow.Author.Needs.{needs}
-use Rattle.tool_recordings.specs.CodeCame.{LowCame}
+use Rattle.tool_recordings.specs.CodeCame.{LowCame, stays, fails}
 use Rattle.tool_recordings.proofs.unless_shorter.Statement.{statement}
 use Rattle.tool_recordings.proofs.unless_shorter.Tie as tie
 
@@ -13,9 +13,6 @@ add-total c =
     let low = subst (LowCame 0) (place .came .given .1) (start .pre) in
     omega (arith, low .near, low .short)
 
-returns-2 : tie.Need-returns-2
-returns-2 c least low = subst (LowCame least) (c .before .before .before .before .came .given .1) low
-
 pub unless-shorter-spec : {M : Type 1} → statement M
 unless-shorter-spec =
     tie.close
@@ -24,11 +21,6 @@ unless-shorter-spec =
     add-total
     (λ c κs. search needs)
     (λ c κs. search needs)
-    (λ c. search needs)
-    (λ c. search needs)
-    (λ c. search needs)
-    (λ c. search needs)
-    returns-2
-    (λ c. search needs)
-    (λ c. search needs)
-    (λ c. search needs))
+    (λ c. fails refl)
+    (λ c. stays (sym (c .before .before .before .before .came .given .1)))
+    (λ c. stays refl))
