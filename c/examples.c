@@ -587,6 +587,7 @@ static void indexes(const char *name, const char *hex, uint64_t base, const char
     uint64_t more = 0xAAAAAAAAAAAAAAAAu, answer = osc_index_step(msg, n, base, out, size + 1, &more);
     same(name, answer, (uint64_t)(size / OSC_ENTRY) << 32 | used);
     same(name, more, beside);
+    same(name, osc_field(more), beside >> 32 & 0xFFFFu);
     holds(name, out, size + 1, index, size);
     if (size) {
         memset(out, 0xAA, size);
@@ -687,7 +688,11 @@ static void cues(void) {
     indexes("a step further on", PLAIN_FRAME, 0x123456789ABCDEF0u, "123456789ABCDEF0 00000008 00000001", 12, 0);
     indexes("a frame that is not all there", PLAIN_FRAME "00000008 2F61", 0, FIRST_ENTRY, 12, 1);
     indexes("a prefix that is not all there", "000000", 0, "", 0, 1);
-    indexes("a refused frame", PLAIN_FRAME "00000004 2F616263" PLAIN_FRAME, 0, FIRST_ENTRY, 12, (uint64_t)OSC_SHORT_ADDRESS << 48);
+    indexes("a refused frame", PLAIN_FRAME "00000004 2F616263" PLAIN_FRAME, 0, FIRST_ENTRY, 12,
+            (uint64_t)OSC_SHORT_ADDRESS << 48 | (uint64_t)16 << 32);
+    indexes("the first frame refused", "00000008 2F610000 2C690000", 0x123456789ABCDEF0u, "", 0,
+            (uint64_t)OSC_SHORT_DATA << 48 | (uint64_t)12 << 32);
+    indexes("a refused frame with no field", PLAIN_FRAME "00000008 2F610000 2C780000", 0, FIRST_ENTRY, 12, (uint64_t)OSC_UNKNOWN_TAG << 48);
     indexes("a length of 65,532", "0000FFFC", 0, "", 0, (uint64_t)OSC_TOO_LONG << 48);
     same("a recording of 2^63 bytes", osc_index_step(msg, 1, 0x7FFFFFFFFFFFFFFFu, out, OSC_ENTRY, &more), (uint64_t)OSC_TOO_LONG << 56);
     same("a recording of 2^63 bytes", more, 0);
@@ -754,6 +759,99 @@ static void leaves(void) {
     looks("false", "46000000 00000001 00000000 00000000 00000000", 0, 0, 'F');
 }
 
+/* Numbers that need all their bits, each taken out of an answer by its function. */
+static void wide_numbers(void) {
+    uint8_t *msg = blank(65535), *table = blank(2 * OSC_RECORD), *out = blank(65535);
+    uint64_t more, answer;
+    memcpy(msg, "/a\0\0,\0\0\0", 8);
+    answer = decode(UDP, msg, 65535, table, 2 * OSC_RECORD, 64, &more);
+    same("65,527 bytes left", osc_left(answer), 65527);
+    memset(msg, 'T', 65535);
+    memcpy(msg, "/a\0\0,b", 6);
+    memset(msg + 65531, 0, 4);
+    answer = decode(UDP, msg, 65535, NULL, 0, 64, &more);
+    same("a field at 65,532", osc_refusal(answer), OSC_SHORT_DATA);
+    same("a field at 65,532", osc_field(more), 65532);
+    memset(msg, 'a', 65531);
+    answer = osc_encode_string(msg, 65531, out, 65535);
+    same("65,532 bytes written", osc_written(answer), 65532);
+    memset(msg, 0, 65535);
+    memcpy(msg, "\0\0\xFF\xF8/a\0\0,b\0\0\0\0\xFF\xEC", 16);
+    answer = osc_read_portion(msg, 65535, table, 2 * OSC_RECORD, 64, &more);
+    same("65,532 bytes used", osc_used(answer), 65532);
+    answer = osc_index_step(msg, 65535, 0, out, OSC_ENTRY, &more);
+    same("65,532 bytes of a recording used", osc_used(answer), 65532);
+    same("65,532 bytes of a recording used", (uint64_t)osc_waits(more), 1);
+    answer = osc_cue(out, OSC_ENTRY, 0, &more);
+    same("a cue of 65,528 bytes", osc_cue_length(answer), 65528);
+    free(msg);
+    free(table);
+    free(out);
+}
+
+/* The same of padding and of many records: "/a" with 13,102 texts of no bytes, each with 3 bytes of padding, before a refused frame. */
+static void many_numbers(void) {
+    enum { TEXTS = 13102, LENGTH = 6 + TEXTS + 4 * TEXTS };
+    uint8_t *msg = blank(LENGTH + 8), *table = blank((TEXTS + 1) * OSC_RECORD);
+    uint64_t more, answer;
+    size_t i;
+    memset(msg + 4, 's', 5 + TEXTS);
+    memcpy(msg, "\0\0\xFF\xEC/a\0\0,", 9);
+    msg[9 + TEXTS] = 0;
+    for (i = 10 + TEXTS; i < LENGTH + 4; i += 4) msg[i] = 0;
+    memset(msg + LENGTH + 4, 0, 4);
+    answer = decode(TCP_VEC2, msg, LENGTH + 8, table, (TEXTS + 1) * OSC_RECORD, 64, &more);
+    same("much dirt", osc_count(answer), TEXTS + 1);
+    same("much dirt", osc_dirty(more), 3 * TEXTS);
+    same("much dirt", osc_frame(more), LENGTH + 4);
+    same("much dirt", osc_left(answer), 4);
+    answer = osc_read_portion(msg, LENGTH + 8, table, (TEXTS + 1) * OSC_RECORD, 64, &more);
+    same("much dirt in a portion", osc_dirty(more), 3 * TEXTS);
+    same("much dirt in a portion", osc_ended(more), OSC_EMPTY);
+    same("a start far on", osc_began(osc_start(table, (TEXTS + 1) * OSC_RECORD, TEXTS)), LENGTH);
+    free(msg);
+    free(table);
+}
+
+/* The same of a check, and of a step that does not wait but is told of a refused frame. */
+static void far_records(void) {
+    const uint8_t one[16] = {0}, other[16] = {1}, bad[12] = {0, 0, 0, 8, '/', 0, 0, 0, ',', 'x', 0, 0};
+    const uint64_t far = ((uint64_t)1 << 54) + ((uint64_t)1 << 32) + 4096 + 256 + 5;
+    uint8_t out[OSC_ENTRY];
+    uint64_t more, answer = osc_index_check_step(one, 16, one, 16, far);
+    same("a far record", osc_refusal(answer), 0);
+    same("a far record", osc_record(answer), far + 1);
+    answer = osc_index_check_step(one, 16, other, 16, far);
+    same("a far record differs", osc_refusal(answer), OSC_INDEX_DIFFERS);
+    same("a far record differs", osc_record(answer), far);
+    osc_index_step(bad, 12, 0, out, OSC_ENTRY, &more);
+    same("a refused frame does not wait", osc_ended(more), OSC_UNKNOWN_TAG);
+    same("a refused frame does not wait", (uint64_t)osc_waits(more), 0);
+}
+
+/* NULL with the length 0 is a slice of no bytes, in every function. */
+static void no_bytes(void) {
+    const uint8_t five[12] = {'/', 'a', 0, 0, ',', 'i', 0, 0, 0, 0, 0, 5};
+    const uint64_t eleven = (uint64_t)OSC_BAD_TABLE << 56;
+    uint64_t more;
+    int call, edition;
+    for (call = UDP; call <= TCP_VEC2; call++) {
+        static const unsigned due[] = {OSC_EMPTY, OSC_SHORT_HEAD, OSC_SHORT_HEAD, 0, 0};
+        same("NULL is decoded", decode((enum call)call, NULL, 0, NULL, 0, 64, &more), (uint64_t)due[call] << 56);
+        same("NULL is decoded", more, 0);
+    }
+    same("NULL for a table", decode(UDP, five, 12, NULL, 0, 64, &more), (uint64_t)OSC_TABLE_FULL << 56);
+    same("a portion of NULL", osc_read_portion(NULL, 0, NULL, 0, 64, &more), 0);
+    same("a step over NULL", osc_index_step(NULL, 0, 0, NULL, 0, &more), 0);
+    same("a check of NULL", osc_index_check_step(NULL, 0, NULL, 0, 7), 7);
+    same("a cue of NULL", osc_cue(NULL, 0, 0, &more), eleven);
+    same("a cue of NULL", more, 0);
+    for (edition = 0; edition <= 2; edition++) same("NULL is encoded", encode(edition, NULL, 0, 0, NULL, 0, NULL, 0), eleven);
+    same("NULL is a text", osc_encode_string(NULL, 0, NULL, 0), (uint64_t)OSC_OUTPUT_SHORT << 56);
+    same("NULL is looked at", osc_look(NULL, 0, 0), eleven);
+    same("NULL has no start", osc_start(NULL, 0, 0), eleven);
+}
+
 int main(void) {
     examples();
     items();
@@ -770,6 +868,10 @@ int main(void) {
     cues();
     encoders();
     leaves();
+    wide_numbers();
+    many_numbers();
+    far_records();
+    no_bytes();
     printf("%d passed, %d failed\n", passed, failed);
     return failed != 0;
 }

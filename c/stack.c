@@ -1,7 +1,8 @@
 /* Runs every call on hostile input, on a thread whose stack has as many bytes as the first word says (65,536 where there is none),
  * and says what it answered, how much of the stack was used, the thread's own part included, and how long it took. Below the stack
- * no byte may be touched. It ends with 1 where an answer is another than is due. A process stack would not do: an emulator may round
- * a small one up. */
+ * no byte may be touched. Three more words are the figures of include/osc.h, for decoders and steps, for encoders of packets and for
+ * the calls on one thing: what is used is to be no more, and at most 1,023 bytes less. It ends with 1 where an answer is another than is
+ * due, or a figure. A process stack would not do: an emulator may round a small one up. */
 #include <pthread.h>
 #include <sys/mman.h>
 #include "../include/osc.h"
@@ -32,9 +33,16 @@ static struct {
 } asked;
 
 static uint8_t *stack;
-static size_t size, most;
-static const char *most_name;
+static size_t size;
 static unsigned wrong;
+
+/* The three sorts of calls, and the most that one of each used, by which input. */
+enum { SORTS = 3, SLACK = 1024 };
+static const char *const sorts[SORTS] = {"a decoder or step", "an encoder of packets", "another call"};
+static size_t most[SORTS];
+static const char *most_name[SORTS];
+
+static int sort_of(enum call call) { return call <= INDEX ? 0 : call <= ENCODE_TCP2 ? 1 : 2; }
 
 static uint64_t once(enum call call, uint64_t n) {
     uint64_t *more = &asked.more;
@@ -76,9 +84,9 @@ static void run(const char *name, enum call call, uint64_t n, unsigned due) {
     if (pthread_create(&thread, &attributes, work, NULL) || pthread_join(thread, NULL)) exit(3);
     size_t left = 0;
     while (left < size && stack[left] == UNTOUCHED) left++;
-    if (most < size - left) {
-        most = size - left;
-        most_name = name;
+    if (most[sort_of(call)] < size - left) {
+        most[sort_of(call)] = size - left;
+        most_name[sort_of(call)] = name;
     }
     unsigned refusal = call == PAD ? 0 : osc_refusal(asked.answer);
     if ((call == PORTION || call == INDEX) && !refusal) refusal = osc_ended(asked.more);
@@ -278,6 +286,13 @@ int main(int argc, char **argv) {
     lists();
     for (int call = ENCODE; call <= ENCODE_TCP2; call++) encode((enum call)call);
     others();
-    printf("at most %zu of %zu bytes of the stack were used (%s), %u answers wrong\n", most, size, most_name, wrong);
+    for (int sort = 0; sort < SORTS; sort++) {
+        size_t due = argc > 2 + sort ? strtoul(argv[2 + sort], NULL, 10) : most[sort];
+        int fits = most[sort] <= due && due < most[sort] + SLACK;
+        printf("%s used at most %zu bytes of the stack (%s)%s\n", sorts[sort], most[sort], most_name[sort],
+               fits ? "" : ": include/osc.h HAS ANOTHER FIGURE");
+        wrong += !fits;
+    }
+    printf("on a stack of %zu bytes %u answers or figures were wrong\n", size, wrong);
     return wrong != 0;
 }

@@ -1,8 +1,9 @@
 /* Sennorbai: Open Sound Control packets and node tables. C99 and C++17. Link with libosc.a (rt staticlib osc).
  *
- * No function allocates, keeps a pointer or has a state. Every pointer may be to any bytes, and a length may be 0;
- * slices that a call may write must not overlap the others. A call that is refused changes no byte of a slice. Each call ends within
- * 35,664 bytes of stack, whatever it is given (measured by c/stack.c on x86-64).
+ * No function allocates, keeps a pointer or has a state. Every pointer may be to any bytes, and a length may be 0, with a NULL pointer
+ * too; slices that a call may write must not overlap the others. A `uint64_t *` is to one number, aligned as C has it. A call that is
+ * refused changes no byte of a slice. Each call ends within 35,680 bytes of stack, an encoder of packets within 17,408, and a call on
+ * one record, cue, text, number or part of an index within 4,960, whatever it is given (measured by c/stack.c on x86-64).
  *
  * A node table has records of OSC_RECORD bytes, big-endian: kind (1), three zero bytes, end (4), a (4), b (4), start (4).
  * The start is the offset, from the decoder's first input byte, where the item's data begins: a message's address, a bundle's
@@ -12,7 +13,7 @@
 #define SENNORBAI_OSC_H
 
 /* The version of the library and of this header. */
-#define SENNORBAI_VERSION "0.12.1"
+#define SENNORBAI_VERSION "0.13.0"
 
 #include <stddef.h>
 #include <stdint.h>
@@ -98,16 +99,18 @@ uint64_t osc_decode_tcp_vec2(const uint8_t *msg, size_t len, uint8_t *table, siz
  * A frame that is refused ends the stream: it stands after the bytes used, and what follows it cannot be read. Bits 48 to 63 of `*more`
  * are the number of its refusal then, and 0 otherwise; bits 32 to 47 and 0 to 31 are what they are for a decoder. `*more` is written by
  * every call, and is 0 where the call is refused. `more` must not be NULL and must not overlap the slices.
- * A recorder, with a buffer of OSC_LONGEST bytes, which has room for every frame with its prefix, and `kept` 0 at first:
+ * A recorder, with a buffer of OSC_LONGEST bytes, which has room for every frame with its prefix, and `kept` 0 at first. FAILED and
+ * REFUSED are numbers of the caller's own; 0 is that the sender has closed, within a frame where `kept` is not 0:
  *
  *     while ((got = recv(socket, buffer + kept, sizeof buffer - kept, 0)) > 0) {
  *         answer = osc_read_portion(buffer, kept + got, table, sizeof table, OSC_DEEPEST, &more);
- *         if (osc_refusal(answer)) break;              // no byte was used, and the table is as it was
+ *         if (osc_refusal(answer)) return FAILED;      // no byte was used, and the table is as it was
  *         record(buffer, table, osc_count(answer));    // offsets in the table are into the buffer: before it is moved
- *         if (osc_ended(more)) break;                  // the next frame is refused
+ *         if (osc_ended(more)) return REFUSED;         // the next frame is refused
  *         kept = kept + got - osc_used(answer);
  *         memmove(buffer, buffer + osc_used(answer), kept);
- *     } */
+ *     }
+ *     return got < 0 ? FAILED : 0; */
 uint64_t osc_read_portion(const uint8_t *bytes, size_t bytes_len, uint8_t *table, size_t table_len, uint64_t depth, uint64_t *more);
 
 /* A cue index of a recording, which is frames of edition 2 end to end: OSC_ENTRY bytes for each frame, big-endian, with the offset of its
@@ -120,36 +123,64 @@ uint64_t osc_read_portion(const uint8_t *bytes, size_t bytes_len, uint8_t *table
  * more, and OSC_OUTPUT_SHORT. They are 0 where there is an answer; bits 32 to 55 are the records written, and bits 0 to 31 the bytes used:
  * the next step begins after them.
  * `*more` is written by every call: 1 where the frame after the bytes used is not all there, the number of its refusal in bits 48 to 63
- * where it is refused, which ends the index, and 0 otherwise. `more` must not be NULL and must not overlap the slices.
- * With a buffer of OSC_LONGEST bytes, an output of OSC_MOST_ENTRIES records, for which it is never short, and `kept` and `base` 0 at first:
+ * where it is refused, which ends the index, and 0 otherwise. Beside the refusals 17 to 21 bits 32 to 47 are where the field began that was
+ * short, counted from the first byte at `bytes`: `base + osc_field(more)` is its offset in the recording. `more` must not be NULL and must
+ * not overlap the slices.
+ * With a buffer of OSC_LONGEST bytes, an output of OSC_MOST_ENTRIES records, for which it is never short, and `kept` and `base` 0 at
+ * first. A file that cannot be read looks like one that has ended, and one that cannot be written like one that was: both are asked.
  *
  *     while ((got = fread(buffer + kept, 1, sizeof buffer - kept, recording)) > 0) {
  *         answer = osc_index_step(buffer, kept + got, base, out, sizeof out, &more);
- *         if (osc_refusal(answer)) break;              // the recording is too long
- *         fwrite(out, OSC_ENTRY, osc_count(answer), index);
+ *         if (osc_refusal(answer)) return FAILED;      // the recording is too long
+ *         if (fwrite(out, OSC_ENTRY, osc_count(answer), index) != osc_count(answer)) return FAILED;
  *         base += osc_used(answer);                    // in the end: where the index goes no further
  *         if (osc_ended(more)) break;                  // the next frame is refused
  *         kept = kept + got - osc_used(answer);
  *         memmove(buffer, buffer + osc_used(answer), kept);
- *     } */
+ *     }
+ *     return ferror(recording) || fflush(index) != 0 ? FAILED : 0; */
 uint64_t osc_index_step(const uint8_t *bytes, size_t bytes_len, uint64_t base, uint8_t *out, size_t out_len, uint64_t *more);
 
 /* A step that checks an index: the records that osc_index_step has written afresh for a part of the recording, against as many bytes of the
- * index or, where it has no more, fewer. The first is record number `from`, which is the answer of the step before, and 0 at first. After the
- * last, what the index still has is checked against no bytes.
+ * index or, where it has no more, fewer. The first is record number `from`, which is the answer of the step before, and 0 at first. After
+ * the last, what the index still has is checked against no bytes.
  * Bits 56 to 63 of the answer are 0, and bits 0 to 55 the number of the next record; or they are OSC_INDEX_DIFFERS, and bits 0 to 55 the
  * number of the first record that differs, is missing or is extra, where a part of one counts. OSC_TOO_LONG refuses a `from` or a
- * length of 2^55 or more. */
+ * length of 2^55 or more.
+ * With what the loop above has, `given` as long as `out`, and `from` 0 at first; DIFFERS is a number of the caller's own, and `checked`
+ * says at which record:
+ *
+ *     while ((got = fread(buffer + kept, 1, sizeof buffer - kept, recording)) > 0) {
+ *         answer = osc_index_step(buffer, kept + got, base, out, sizeof out, &more);
+ *         if (osc_refusal(answer)) return FAILED;      // the recording is too long
+ *         size = OSC_ENTRY * osc_count(answer);
+ *         many = fread(given, 1, size, index);
+ *         if (ferror(index)) return FAILED;
+ *         checked = osc_index_check_step(out, size, given, many, from);
+ *         if (osc_refusal(checked)) return DIFFERS;
+ *         from = osc_record(checked);
+ *         base += osc_used(answer);
+ *         if (osc_ended(more)) break;
+ *         kept = kept + got - osc_used(answer);
+ *         memmove(buffer, buffer + osc_used(answer), kept);
+ *     }
+ *     many = fread(given, 1, sizeof given, index);     // the last step: what the index still has, which should be nothing
+ *     if (ferror(recording) || ferror(index)) return FAILED;
+ *     checked = osc_index_check_step(NULL, 0, given, many, from);
+ *     return osc_refusal(checked) ? DIFFERS : 0; */
 uint64_t osc_index_check_step(const uint8_t *fresh, size_t fresh_len, const uint8_t *given, size_t given_len, uint64_t from);
 
 /* Record `k` of an index that was checked: the records of the cue's table in bits 32 to 55 and its length without the prefix in bits 0
  * to 31; bits 56 to 63 are the refusal's number, OSC_BAD_TABLE where the index has no such record. `*offset` is that of the cue's
- * prefix, and 0 where there is none; it is written by every call and must not be NULL. What an index that was not checked says is the
- * writer's own; OSC_BAD_TABLE is given there too, where a table would have 2^24 records or more. */
+ * prefix, and 0 where there is none; it is written by every call. `offset` must not be NULL and must not overlap the index. What an index
+ * that was not checked says is the writer's own; OSC_BAD_TABLE is given there too, where a table would have 2^24 records or more. */
 uint64_t osc_cue(const uint8_t *index, size_t index_len, uint64_t k, uint64_t *offset);
 
 /* Encoders. They write the packet of `count` records over the first bytes of `out`; ranges lie in `source`.
  * A tree is at most OSC_DEEPEST deep, as for a decoder.
+ * A table may come from anywhere. Each of its texts is read before it is known how long the result is, and many of them may have the same
+ * range: 600 texts over the same 4 MiB take more than a second, and are refused then. Where a stranger's table is taken, bound the product
+ * of `count` and `source_len`.
  * Bits 56 to 63 of the answer are the refusal's number; bits 0 to 31 the bytes written. */
 
 /* One packet. */
@@ -195,19 +226,20 @@ static inline uint32_t osc_used(uint64_t answer) { return (uint32_t)answer; }
  * and where the call is refused. */
 static inline int osc_stopped(uint64_t answer) { return osc_refusal(answer) != 0 && osc_left(answer) != 0; }
 
-/* Where the field began that was short, of what a decoder or osc_read_portion wrote to `*more`; 0 where the refusal is not one of 17
- * to 21. */
+/* Where the field began that was short, of what a decoder, osc_read_portion or osc_index_step wrote to `*more`, counted from the first byte
+ * that the call was handed; 0 where the refusal is not one of 17 to 21. */
 static inline uint32_t osc_field(uint64_t more) { return (uint32_t)(more >> 32) & 0xFFFFu; }
 
 /* The padding bytes that were not zero, of what a decoder or osc_read_portion wrote to `*more`; 0 where the call is refused and for
  * Waiting. */
 static inline uint32_t osc_dirty(uint64_t more) { return (uint32_t)more; }
 
-/* Where the prefix began of the frame at which a list stopped, of what a decoder wrote to `*more`; 0 where none did. */
+/* Where the prefix began of the frame at which a list stopped, of what a decoder wrote to `*more`; 0 where none did. The same bits of what
+ * osc_read_portion or osc_index_step wrote are another number, for osc_ended. */
 static inline uint32_t osc_frame(uint64_t more) { return (uint32_t)(more >> 48); }
 
 /* The number of the refusal of the frame that ends a stream or an index, of what osc_read_portion or osc_index_step wrote to `*more`; 0
- * where it goes on, and where the call is refused. */
+ * where it goes on, and where the call is refused. The same bits of what a decoder wrote are an offset, for osc_frame. */
 static inline unsigned osc_ended(uint64_t more) { return (unsigned)(more >> 48); }
 
 /* Whether the frame after the bytes that osc_index_step used is not all there, of what it wrote to `*more`. */

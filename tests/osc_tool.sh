@@ -66,8 +66,9 @@ reads() {
 }
 
 # waits COUNT BYTES: what decoding the bytes by tcp2 should say, of which there are COUNT; and no table is left.
+old_table='/\0\0\0\0\0\0\001\0\0\0\0\0\0\0\001\0\0\0\0'
 waits() {
-    printf 'old' >waiting.bin
+    printf "$old_table" >waiting.bin
     printf "$2" >input
     expect 3 "waiting: $1 bytes, nothing read" '' decode tcp2 input waiting.bin
     gone waiting.bin
@@ -94,15 +95,15 @@ for name in message bundle; do
 done
 same "$examples/message.osc" "$root/crates/osc_tool/data/message.osc"
 expect 0 'packets: 1, records: 5, bytes left: 0' '' decode udp "$examples/message.osc" message.bin
-expect 0 'written: 44 bytes' '' encode udp message.bin "$examples/message.osc" message.out
+expect 0 'written: 44 bytes' '' encode udp message.bin "$examples/message.osc" message.out --replace
 expect 0 'packets: 1, records: 7, bytes left: 0' '' decode udp "$examples/bundle.osc" bundle.bin
 expect 0 'packets: 3, records: 6, bytes left: 0' '' decode tcp-vec "$examples/stream.osc" stream.bin
 expect 0 'packets: 1, records: 2, bytes left: 44' '' decode tcp "$examples/stream.osc" first.bin
 expect 0 'written: 48 bytes' '' encode tcp message.bin "$examples/message.osc" framed.out
 expect 0 'packets: 1, records: 5, bytes left: 0' '' decode tcp framed.out framed.bin
-expect 0 'written: 108 bytes' '' encode tcp bundle.bin "$examples/bundle.osc" bundle.out
+expect 0 'written: 108 bytes' '' encode tcp bundle.bin "$examples/bundle.osc" bundle.out --replace
 head -c 20 framed.out >part
-printf 'old' >waiting.bin
+printf "$old_table" >waiting.bin
 expect 3 'waiting: 20 bytes, nothing read' '' decode tcp part waiting.bin
 gone waiting.bin
 expect 0 'packets: 0, records: 0, bytes left: 20' '' decode tcp-vec part none.bin
@@ -261,15 +262,25 @@ gone refused.bin
 
 # Help, by a link in another folder.
 ln -s "$root/osc" link
-[ "$(./link help | head -n 1)" = 'osc decode udp|tcp|tcp-vec|tcp2|tcp2-vec INPUT TABLE [--depth N] [--records N]' ]
-count $? 'help by a link'
+sed -n '/^const HELP/,/^";$/p' "$root/crates/tool_files/src/say.rt" | sed '1d;$d' >help.txt
+./link help >help.said
+same help.said help.txt
+# What a reader relies on stands here a second time: the statuses.
+cat >statuses <<'END'
+Exit status: 0 an answer; 1 a refusal; 2 trouble with a word or a file; 3 Waiting; 4 tcp2-vec, index or check stopped at a frame; 5 the
+answer could not be written to standard output.
+After 1 and 3 no TABLE, PACKET or OUTPUT is left. After 2 nothing was changed. After 4 TABLE or INDEX holds what stands before that frame.
+After 5 the files are as the answer says, which is on standard error.
+END
+tail -n 4 help.said >statuses.said
+same statuses.said statuses
 
 expect 0 "$(./link help)" '' --help
 expect 0 "$(./link help)" '' -h
 expect 0 "osc $(sed -n 's/^#define SENNORBAI_VERSION "\(.*\)"$/\1/p' "$root/include/osc.h")" '' --version
 
 # Wrong words.
-decode_takes='osc: decode takes udp|tcp|tcp-vec|tcp2|tcp2-vec INPUT TABLE [--depth N] [--records N]'
+decode_takes='osc: decode takes udp|tcp|tcp-vec|tcp2|tcp2-vec INPUT TABLE [--depth N] [--records N] [--replace]'
 not_number='osc: not a number of at most nine digits: '
 expect 2 '' 'osc: the first word is not decode, encode, look, index, check, cue, help or --version: '
 expect 2 '' 'osc: the first word is not decode, encode, look, index, check, cue, help or --version: decoded' decoded
@@ -284,7 +295,7 @@ expect 2 '' "${not_number}1x" decode udp input table.bin --depth 1x
 expect 2 '' "$not_number" decode udp input table.bin --depth ''
 expect 2 '' "${not_number}1000000000" decode udp input table.bin --depth 1000000000
 expect 2 '' 'osc: more than 65535 for --records: 65536' decode udp input table.bin --records 65536
-expect 2 '' 'osc: encode takes udp|tcp|tcp2 TABLE SOURCE OUTPUT' encode udp message.bin
+expect 2 '' 'osc: encode takes udp|tcp|tcp2 TABLE SOURCE OUTPUT [--replace]' encode udp message.bin
 one_packet='osc: encode writes one packet: udp, tcp or tcp2, not '
 expect 2 '' "${one_packet}tcp-vec" encode tcp-vec message.bin input table.bin
 expect 2 '' "${one_packet}tcp2-vec" encode tcp2-vec message.bin input table.bin
@@ -331,12 +342,20 @@ expect 2 '' 'osc: nowhere/table.bin: No such file or directory' decode udp "$exa
 expect 2 '' 'osc: the name of a file is empty' decode udp "$examples/message.osc" ''
 mkdir folder
 expect 2 '' 'osc: folder: Is a directory' decode udp "$examples/message.osc" folder
-expect 2 '' 'osc: /dev/null: not a file that can be replaced' decode udp "$examples/message.osc" /dev/null
+# A device that is made here stands for one: as root a broken program would replace the real one.
+device=device
+mknod device c 1 3 2>/dev/null || {
+    device=
+    printf 'no device can be made here: 2 cases left out\n'
+}
+[ -z "$device" ] || expect 2 '' 'osc: device: not a file that can be replaced' decode udp "$examples/message.osc" device
+mkfifo pipe
+expect 2 '' 'osc: pipe: not a file that can be replaced' decode udp "$examples/message.osc" pipe
 printf 'kept' >old.bin
 # A limit on the size of files stands in for a full disk: the write of the first byte fails.
 said=$(
     ulimit -f 0
-    "$root/osc" decode udp "$examples/message.osc" old.bin 2>&1
+    "$root/osc" decode udp "$examples/message.osc" old.bin --replace 2>&1
     "$root/osc" decode udp "$examples/message.osc" new.bin 2>&1
 )
 [ "$said" = "$(printf 'osc: old.bin: File too large\nosc: new.bin: File too large')" ] && [ "$(cat old.bin)" = kept ]
@@ -360,7 +379,7 @@ said=$($drop $by ./osc_tool decode udp message.osc locked/table.bin 2>&1)
 [ "$said" = 'osc: locked/table.bin: Permission denied' ]
 count $? "in a locked folder: said '$said'"
 gone locked/table.bin
-expect 0 'packets: 1, records: 5, bytes left: 0' '' decode udp "$examples/message.osc" old.bin
+expect 0 'packets: 1, records: 5, bytes left: 0' '' decode udp "$examples/message.osc" old.bin --replace
 same old.bin message.bin
 
 # ---- The cue index of a recording: frames of edition 2 end to end.
@@ -381,8 +400,8 @@ entry() {
     be 4 "$3"
 }
 
-# indexes STATUS LINE RECORDS BYTES: what `osc index` of the bytes should say, and the index that it should leave, both as printf writes them;
-# the check of that index fits.
+# indexes STATUS LINE RECORDS BYTES: what `osc index` of the bytes should say, and the index that it should leave, both as printf writes
+# them; the check of that index fits, and ends as the index does, with the same status.
 indexes() {
     printf "$4" >recording
     indexes_file "$1" "$2" "$3" recording
@@ -393,12 +412,12 @@ indexes_file() {
     printf "$3" >expected.idx
     expect "$1" "$2" '' index "$4" written.idx
     same written.idx expected.idx
-    expect 0 "index fits: $(($(wc -c <expected.idx) / 16)) records" '' check "$4" written.idx
+    expect "$1" "index fits: ${2#index: }" '' check "$4" written.idx
 }
 
 # differs RECORD: what the check of changed.idx against three.osc should say.
 differs() {
-    expect 1 "refused 25: record $1" '' check three.osc changed.idx
+    expect 1 "refused 25: index differs, record $1" '' check three.osc changed.idx
 }
 
 slash_i='\0\0\0\014/a\0\0,i\0\0\0\0\0\007'
@@ -418,25 +437,28 @@ for part in '\0' '\0\0\0' '\0\0\0\010' '\0\0\0\010/a\0\0' '\0\0\0\010/a\0\0,\0\0
 done
 indexes 4 'index: 0 records, stopped at 0: waiting' '' '\0\0\0'
 
-# It stops at a frame that is refused, whatever comes after it.
+# It stops at a frame that is refused, whatever comes after it: in the words of `decode`, and a field that was short by its offset in the
+# recording.
 stopped_index() {
     indexes 4 "index: 3 records, stopped at 48: refused $1" "$three_records" "$three$2$slash_a"
 }
-stopped_index 1 '\0\0\377\374'
-stopped_index 1 '\377\377\377\377'
-stopped_index 16 '\0\0\0\006'
-stopped_index 2 '\0\0\0\0'
-stopped_index 4 '\0\0\0\004/\377\0\0'
-stopped_index 5 '\0\0\0\004a\0\0\0'
-stopped_index 6 '\0\0\0\010/a\0\0,]\0\0'
-stopped_index 7 '\0\0\0\010/a\0\0,x\0\0'
-stopped_index 8 '\0\0\0\014/a\0\0,c\0\0\0\0\330\0'
-stopped_index 17 '\0\0\0\004/abc'
-stopped_index 18 '\0\0\0\004/a\0\0'
-stopped_index 19 '\0\0\0\010/a\0\0,i\0\0'
-stopped_index 21 '\0\0\0\010#bundle\0'
-stopped_index 15 '\0\0\0\014/a\0\0,\0\0\0\0\0\0\0'
-indexes 4 'index: 0 records, stopped at 0: refused 2' '' '\0\0\0\0'
+over='1: decode input over 65,535 bytes, or encoded result (prefix included) over it, or frame length over 65,531'
+stopped_index "$over" '\0\0\377\374'
+stopped_index "$over" '\377\377\377\377'
+stopped_index '16: frame length not a multiple of 4' '\0\0\0\006'
+stopped_index '2: a packet of no bytes' '\0\0\0\0'
+stopped_index '4: text is not UTF-8' '\0\0\0\004/\377\0\0'
+stopped_index '5: first string is neither /-led nor exactly #bundle' '\0\0\0\004a\0\0\0'
+stopped_index '6: ] with no array open' '\0\0\0\010/a\0\0,]\0\0'
+stopped_index '7: unknown type tag' '\0\0\0\010/a\0\0,x\0\0'
+stopped_index '8: c is not a scalar number' '\0\0\0\014/a\0\0,c\0\0\0\0\330\0'
+stopped_index '17: the address at offset 52 is not all there' '\0\0\0\004/abc'
+stopped_index '18: the type text at offset 56 is not all there' '\0\0\0\004/a\0\0'
+stopped_index '19: the argument data at offset 60 is not all there' '\0\0\0\010/a\0\0,i\0\0'
+stopped_index '21: the prefix or time tag at offset 60 is not all there' '\0\0\0\010#bundle\0'
+stopped_index '15: bytes left in the frame' '\0\0\0\014/a\0\0,\0\0\0\0\0\0\0'
+indexes 4 'index: 0 records, stopped at 0: refused 2: a packet of no bytes' '' '\0\0\0\0'
+indexes 4 'index: 0 records, stopped at 0: refused 17: the address at offset 4 is not all there' '' '\0\0\0\004/abc'
 
 # letters COUNT LETTER: a letter so many times.
 letters() {
@@ -448,12 +470,12 @@ deep() { printf '\0\0\0%b/\0\0\0,%s%s\0%b' "$1" "$(letters "$2" '[')" "$(letters
 deep '\210' 64 '\0\0' >deep.osc
 indexes_file 0 'index: 1 records, whole' "$(entry 0 136 65)" deep.osc
 deep '\210' 65 '' >deeper.osc
-indexes_file 4 'index: 0 records, stopped at 0: refused 9' '' deeper.osc
+indexes_file 4 'index: 0 records, stopped at 0: refused 9: bundles and arrays nested deeper than the limit' '' deeper.osc
 many() { printf '\0\0\014\324/\0\0\0,%s\0%b' "$(letters "$1" T)" "$2"; }
 many 3275 '\0\0\0' >many.osc
 indexes_file 0 'index: 1 records, whole' "$(entry 0 3284 3276)" many.osc
 many 3276 '\0\0' >more.osc
-indexes_file 4 'index: 0 records, stopped at 0: refused 10' '' more.osc
+indexes_file 4 'index: 0 records, stopped at 0: refused 10: the result has more records than the capacity' '' more.osc
 
 # The longest frame, alone, after a short one and before one, and the next length. A buffer holds it just so.
 longest() { printf '\0\0\377\370/\0\0\0,b\0\0\0\0\377\354' && letters 65516 x; }
@@ -464,6 +486,10 @@ indexes_file 0 'index: 4 records, whole' \
     "$(entry 0 8 1)$(entry 12 65528 2)$(entry 65544 12 2)$(entry 65560 65528 2)" longer.osc
 head -c 65559 longer.osc >longer_cut.osc
 indexes_file 4 'index: 2 records, stopped at 65544: waiting' "$(entry 0 8 1)$(entry 12 65528 2)" longer_cut.osc
+# A field that was short behind the first buffer.
+{ head -c 65544 longer.osc && printf '\0\0\0\004/abc'; } >longer_short.osc
+indexes_file 4 'index: 2 records, stopped at 65544: refused 17: the address at offset 65548 is not all there' \
+    "$(entry 0 8 1)$(entry 12 65528 2)" longer_short.osc
 
 # More frames than the records that a buffer of 64 KiB holds, the shortest that there are.
 printf "$slash_a" >short.osc
@@ -479,10 +505,10 @@ shorts=$(awk 'BEGIN {
     }
 }')
 indexes_file 0 'index: 16384 records, whole' "$shorts" short.osc
-indexes_file 4 'index: 16384 records, stopped at 196608: refused 2' "$shorts" shorts.osc
+indexes_file 4 'index: 16384 records, stopped at 196608: refused 2: a packet of no bytes' "$shorts" shorts.osc
 
 # The check: each byte of an index changed in turn, a record or a part cut off or added, and an index of another recording.
-expect 0 'index fits: 3 records' '' check three.osc three.idx
+expect 0 'index fits: 3 records, whole' '' check three.osc three.idx
 at=0
 while [ "$at" -lt 48 ]; do
     byte=$(od -An -tu1 -j "$at" -N 1 three.idx | tr -d ' ')
@@ -502,75 +528,92 @@ differs 3
 differs 1
 { tail -c +17 three.idx | head -c 16 && head -c 16 three.idx && tail -c +33 three.idx; } >changed.idx
 differs 0
-expect 1 'refused 25: record 0' '' check "$examples/stream.osc" three.idx
+expect 1 'refused 25: index differs, record 0' '' check "$examples/stream.osc" three.idx
 cp written.idx shorts.idx
 printf '\001' | dd of=shorts.idx bs=1 seek=$((16 * 16000)) conv=notrunc 2>/dev/null
-expect 1 'refused 25: record 16000' '' check short.osc shorts.idx
+expect 1 'refused 25: index differs, record 16000' '' check short.osc shorts.idx
 
-# A cue: the table is that of its frame alone; the index is checked first; a cue that is not there is refused, and no table is left.
-frame=0
-for cut in '1 12' '13 16' '29 20'; do
-    tail -c "+${cut% *}" three.osc | head -c "${cut#* }" >frame.osc
-    line=$("$root/osc" decode tcp2 frame.osc frame.bin)
-    expect 0 "$line" '' cue three.osc three.idx $frame cue.bin
+# A cue: its packet, and the table that decode udp gives of it; the index is checked first; a cue that is not there is refused, and neither
+# is left. What the two give to the encoder is the packet again.
+# cues K OFFSET SIZE RECORDING INDEX: what `osc cue` should say and leave of frame K, whose packet has SIZE bytes.
+cues() {
+    tail -c "+$(($2 + 5))" "$4" | head -c "$3" >frame.osc
+    line=$("$root/osc" decode udp frame.osc frame.bin)
+    expect 0 "$line, frame at byte $2, packet of $3 bytes" '' cue "$4" "$5" "$1" cue.bin cue.osc --replace
     same cue.bin frame.bin
-    frame=$((frame + 1))
-done
-expect 1 "$bad_table" '' cue three.osc three.idx 3 cue.bin
+    same cue.osc frame.osc
+    expect 0 "written: $3 bytes" '' encode udp cue.bin cue.osc cue.out --replace
+    same cue.out frame.osc
+}
+cues 0 0 8 three.osc three.idx
+cues 1 12 12 three.osc three.idx
+cues 2 28 16 three.osc three.idx
+"$root/osc" index "$examples/frames.osc" frames.idx >/dev/null
+cues 1 112 16 "$examples/frames.osc" frames.idx
+shows 0 'record 0: / offset 0 length 7, end 2' cue.bin 0
+printf '\0\0\0\010/a\0\001,\0\0\0' >dirty.osc
+"$root/osc" index dirty.osc dirty.idx >/dev/null
+expect 0 'packets: 1, records: 1, bytes left: 0, dirty padding bytes: 1, frame at byte 0, packet of 8 bytes' '' \
+    cue dirty.osc dirty.idx 0 cue.bin cue.osc --replace
+expect 1 "$bad_table" '' cue three.osc three.idx 3 cue.bin cue.osc --replace
 gone cue.bin
+gone cue.osc
 cp frame.bin cue.bin
-expect 1 'refused 25: record 0' '' cue three.osc changed.idx 2 cue.bin
-printf '' >none.osc
-expect 1 "$bad_table" '' cue none.osc none.osc 0 cue.bin
+expect 1 'refused 25: index differs, record 0' '' cue three.osc changed.idx 2 cue.bin cue.osc
 gone cue.bin
+printf '' >none.osc
+expect 1 "$bad_table" '' cue none.osc none.osc 0 cue.bin cue.osc
 "$root/osc" index longer.osc longer.idx >/dev/null
-expect 0 'packets: 1, records: 2, bytes left: 0' '' cue longer.osc longer.idx 3 cue.bin
-shows 4 'record 0: / offset 4 length 1, end 2' cue.bin 0
+cues 3 65560 65528 longer.osc longer.idx
 "$root/osc" index shorts.osc shorts.idx >/dev/null
-expect 0 'packets: 1, records: 1, bytes left: 0' '' cue shorts.osc shorts.idx 16383 cue.bin
-same cue.bin slash_a.bin
+cues 16383 196596 8 shorts.osc shorts.idx
 
 # Wrong words, and files that cannot be read or written: what was there is kept, and nothing is left beside it.
-index_takes='osc: index takes RECORDING INDEX'
+index_takes='osc: index takes RECORDING INDEX [--replace]'
 expect 2 '' "$index_takes" index
 expect 2 '' "$index_takes" index three.osc
 expect 2 '' "$index_takes" index three.osc table.bin more
 expect 2 '' 'osc: check takes RECORDING INDEX' check three.osc
 expect 2 '' 'osc: check takes RECORDING INDEX' check three.osc three.idx more
-expect 2 '' 'osc: cue takes RECORDING INDEX K TABLE' cue three.osc three.idx 0
-expect 2 '' "${not_number}x" cue three.osc three.idx x table.bin
+expect 2 '' 'osc: cue takes RECORDING INDEX K TABLE PACKET [--replace]' cue three.osc three.idx 0 table.bin
+expect 2 '' "${not_number}x" cue three.osc three.idx x table.bin packet.osc
 expect 2 '' 'osc: missing: No such file or directory' index missing table.bin
 expect 2 '' 'osc: missing: No such file or directory' check missing three.idx
 expect 2 '' 'osc: missing: No such file or directory' check three.osc missing
-expect 2 '' 'osc: missing: No such file or directory' cue missing three.idx 0 table.bin
-expect 2 '' 'osc: missing: No such file or directory' cue three.osc missing 0 table.bin
+expect 2 '' 'osc: missing: No such file or directory' cue missing three.idx 0 table.bin packet.osc
+expect 2 '' 'osc: missing: No such file or directory' cue three.osc missing 0 table.bin packet.osc
 expect 2 '' 'osc: .: Is a directory' index . table.bin
 expect 2 '' 'osc: .: Is a directory' check . three.idx
 expect 2 '' 'osc: .: Is a directory' check three.osc .
-expect 2 '' 'osc: .: Is a directory' cue three.osc . 0 table.bin
+expect 2 '' 'osc: .: Is a directory' cue three.osc . 0 table.bin packet.osc
 expect 2 '' 'osc: the name of a file is empty' index '' table.bin
 expect 2 '' 'osc: the name of a file is empty' index three.osc ''
 expect 2 '' 'osc: the name of a file is empty' check three.osc ''
 gone table.bin
 expect 2 '' 'osc: nowhere/a.idx: No such file or directory' index three.osc nowhere/a.idx
 expect 2 '' 'osc: folder: Is a directory' index three.osc folder
-expect 2 '' 'osc: /dev/null: not a file that can be replaced' index three.osc /dev/null
-expect 2 '' 'osc: folder: Is a directory' cue three.osc three.idx 0 folder
+[ -z "$device" ] || expect 2 '' 'osc: device: not a file that can be replaced' index three.osc device
+expect 2 '' 'osc: folder: Is a directory' cue three.osc three.idx 0 folder packet.osc
+expect 2 '' 'osc: folder: Is a directory' cue three.osc three.idx 0 table.bin folder
+gone table.bin
+gone packet.osc
 cp three.osc kept.osc
 ln -f kept.osc hard.osc
 for name in kept.osc ./kept.osc hard.osc soft.osc; do
     expect 2 '' "osc: kept.osc$same_file" index kept.osc $name
-    expect 2 '' "osc: kept.osc$same_file" cue kept.osc three.idx 0 $name
+    expect 2 '' "osc: kept.osc$same_file" cue kept.osc three.idx 0 $name packet.osc
+    expect 2 '' "osc: kept.osc$same_file" cue kept.osc three.idx 0 table.bin $name --replace
 done
 cp three.idx kept.idx
-expect 2 '' "osc: kept.idx$same_file" cue three.osc kept.idx 0 kept.idx
+expect 2 '' "osc: kept.idx$same_file" cue three.osc kept.idx 0 kept.idx packet.osc
+expect 2 '' "osc: kept.idx$same_file" cue three.osc kept.idx 0 table.bin kept.idx --replace
 same kept.osc three.osc
 same kept.idx three.idx
 gone kept.osc.part
 printf 'kept' >old.idx
 said=$(
     ulimit -f 0
-    "$root/osc" index three.osc old.idx 2>&1
+    "$root/osc" index three.osc old.idx --replace 2>&1
     "$root/osc" index three.osc new.idx 2>&1
 )
 [ "$said" = "$(printf 'osc: old.idx: File too large\nosc: new.idx: File too large')" ] && [ "$(cat old.idx)" = kept ]
@@ -586,6 +629,342 @@ chmod 000 closed.osc
 said=$($drop $by ./osc_tool check closed.osc three.idx 2>&1)
 [ "$said" = 'osc: closed.osc: Permission denied' ]
 count $? "a recording that may not be read: said '$said'"
+
+# ---- What exists is replaced or removed only where it could be such an output, or where --replace is given.
+
+# keeps FILE STATUS LINE TROUBLE WORDS..: as expect, and FILE is as it was.
+keeps() {
+    kept=$1
+    shift
+    cp -p "$kept" kept.copy
+    expect "$@"
+    same "$kept" kept.copy
+    gone "$kept.part"
+}
+asks='nothing was changed. To replace it anyway, add --replace.'
+exists='this file exists; nothing was changed. To replace it, add --replace.'
+cp "$examples/frames.osc" rec.osc
+"$root/osc" index rec.osc rec.idx >/dev/null
+keeps rec.osc 2 '' "osc: rec.osc: this file is not an index (132 bytes, not a multiple of 16); $asks" index rec.idx rec.osc
+head -c 128 rec.osc >even.osc
+keeps even.osc 2 '' "osc: even.osc: this file is not an index (8 bytes at offset 0 are not zero); $asks" index rec.osc even.osc
+cp "$examples/message.osc" m.osc
+"$root/osc" decode udp m.osc m.table >/dev/null
+keeps m.osc 2 '' "osc: m.osc: this file is not a table (44 bytes, not a multiple of 20); $asks" decode udp m.table m.osc
+head -c 40 m.osc >m.even
+keeps m.even 2 '' "osc: m.even: this file is not a table (no / or # and three zeros at offset 0); $asks" decode udp m.osc m.even
+for head in 'a\0\0\0' '/\001\0\0' '/\0\001\0' '/\0\0\001' '#bun'; do
+    { printf "$head" && head -c 16 /dev/zero; } >other
+    keeps other 2 '' "osc: other: this file is not a table (no / or # and three zeros at offset 0); $asks" decode udp m.osc other
+done
+at=0
+while [ "$at" -lt 8 ]; do
+    { head -c "$at" /dev/zero && printf '\001' && head -c $((15 - at)) /dev/zero; } >other
+    keeps other 2 '' "osc: other: this file is not an index (8 bytes at offset 0 are not zero); $asks" index rec.osc other
+    at=$((at + 1))
+done
+printf 'precious' >precious
+keeps precious 2 '' "osc: precious: this file is not a table (8 bytes, not a multiple of 20); $asks" cue rec.osc rec.idx 99 precious new.osc
+keeps precious 2 '' "osc: precious: $exists" cue rec.osc rec.idx 99 new.table precious
+keeps precious 2 '' "osc: precious: $exists" cue rec.osc rec.idx 1 new.table precious
+keeps precious 2 '' "osc: precious: $exists" encode udp m.table m.osc precious
+keeps precious 2 '' "osc: precious: $exists" encode udp long.bin at_most precious
+printf '/\0\0\0' >input
+keeps precious 2 '' "osc: precious: this file is not a table (8 bytes, not a multiple of 20); $asks" decode udp input precious
+gone new.table
+gone new.osc
+# What the tool wrote is replaced: an index, a table, and both where they are empty.
+expect 0 'index: 2 records, whole' '' index rec.osc rec.idx
+expect 0 'packets: 1, records: 5, bytes left: 0' '' decode udp m.osc m.table
+: >empty
+expect 0 'index: 2 records, whole' '' index rec.osc empty
+same empty rec.idx
+: >empty
+expect 0 'packets: 1, records: 5, bytes left: 0' '' decode udp m.osc empty
+same empty m.table
+"$root/osc" decode udp "$examples/bundle.osc" b.table >/dev/null
+expect 0 'packets: 1, records: 5, bytes left: 0' '' decode udp m.osc b.table
+# --replace says that it is meant; it is the last word, and of a command that writes.
+for words in 'decode udp m.osc' 'index rec.osc' 'encode udp m.table m.osc' 'cue rec.osc rec.idx 1 new.table'; do
+    printf 'precious' >precious
+    "$root/osc" $words precious --replace >/dev/null
+    count $? "$words precious --replace"
+    [ "$(cat precious)" != precious ]
+    count $? "$words precious --replace left it"
+done
+rm -f new.table
+printf 'precious' >precious
+expect 1 'refused 18: the type text at offset 4 is not all there' '' decode udp input precious --replace
+gone precious
+no_replace='osc: only decode, encode, index and cue take --replace'
+expect 2 '' "$no_replace" look m.table 0 --replace
+expect 2 '' "$no_replace" check rec.osc rec.idx --replace
+expect 2 '' "$no_replace" help --replace
+expect 2 '' "$no_replace" --version --replace
+expect 2 '' "$decode_takes" decode udp m.osc --replace
+expect 2 '' 'osc: not --depth or --records: --replace' decode udp m.osc new.table --replace 1
+
+# Both outputs of a cue or neither: one that cannot be written leaves the other alone. Two names of one file are none for both.
+expect 2 '' 'osc: nowhere/p: No such file or directory' cue rec.osc rec.idx 1 new.table nowhere/p
+for other in new.table ./new.table; do
+    expect 2 '' "osc: $other: the other output has the same name" cue rec.osc rec.idx 1 new.table $other
+done
+gone new.table
+said=$(
+    ulimit -f 0
+    "$root/osc" cue rec.osc rec.idx 1 new.table new.osc 2>&1
+)
+[ "$said" = 'osc: new.table: File too large' ]
+count $? "a cue with no room: said '$said'"
+gone new.
+
+# ---- Standard output that is full or closed has a status of its own: the files are as the answer says, which is on standard error.
+lost='osc: standard output: the answer could not be written. The files are as it says: '
+for to in full closed; do
+    rm -f new.table
+    if [ $to = full ]; then
+        "$root/osc" decode udp m.osc new.table >/dev/full 2>trouble
+    else
+        "$root/osc" decode udp m.osc new.table >&- 2>trouble
+    fi
+    ended=$?
+    [ "$ended" -eq 5 ] && [ "$(cat trouble)" = "${lost}packets: 1, records: 5, bytes left: 0" ]
+    count $? "standard output $to: status $ended, trouble '$(cat trouble)'"
+    same new.table m.table
+done
+rm -f trouble
+printf '/\0\0\0' >input
+"$root/osc" decode udp input new.table >/dev/full 2>/dev/null
+count $(($? - 5)) 'a refusal that cannot be said'
+gone new.table
+"$root/osc" help >/dev/full 2>/dev/null
+count $(($? - 5)) 'help that cannot be said'
+said=$("$root/target/bin/osc_tool" help 2>&1 >/dev/full)
+[ "$by" != '' ] || [ "$said" = 'osc: standard output: No space left on device' ]
+count $? "the program with standard output full: '$said'"
+
+# ---- A run that was killed does not block the next: it tries further names, and says which it could not make.
+# taken COUNT: the program, after so many of the names of its own process were taken.
+taken() {
+    sh -c 'i=0
+    while [ $i -lt "$1" ]; do
+        : >"new.table.part$(printf "%014x%02x" $$ $i)"
+        i=$((i + 1))
+    done
+    : >"new.table.part$(printf "%016x" $$)"
+    shift
+    exec "$@"' sh "$1" $by "$root/target/bin/osc_tool" decode udp m.osc new.table 2>&1
+}
+said=$(taken 3)
+[ "$said" = 'packets: 1, records: 5, bytes left: 0' ]
+count $? "with three names taken: said '$said'"
+same new.table m.table
+rm -f new.table new.table.part*
+said=$(taken 100)
+case $said in
+    'osc: new.table.part0000000000'??????': File exists') count 0 '' ;;
+    *) count 1 "with all names taken: said '$said'" ;;
+esac
+rm -f new.table.part*
+gone new.table
+
+# A signal to the script ends the program too, and nothing is left: the recording is a pipe that nobody writes to the end. A shell's
+# program in the background ignores INT, unless `env` gives it back.
+signals='INT TERM HUP'
+env --default-signal=INT true 2>/dev/null || {
+    signals='TERM HUP'
+    printf 'env cannot reset a signal here: INT left out\n'
+}
+for signal in $signals; do
+    rm -f live
+    mkfifo live
+    if [ $signal = INT ]; then
+        env --default-signal=INT "$root/osc" index live new.idx >/dev/null 2>&1 &
+    else
+        "$root/osc" index live new.idx >/dev/null 2>&1 &
+    fi
+    script=$!
+    exec 8>live
+    printf "$slash_a" >&8
+    waited=0
+    until [ -n "$(find . -name 'new.idx.part*')" ] || [ $waited -eq 100 ]; do
+        sleep 0.1
+        waited=$((waited + 1))
+    done
+    part=$(find . -name 'new.idx.part*')
+    program=$((0x$(printf '%s' "${part#*part}" | cut -c 1-14)))
+    [ -n "$part" ] && kill -0 $program
+    count $? "a program to interrupt by $signal: '$part'"
+    kill -s $signal $script
+    waited=0
+    while kill -0 $program 2>/dev/null && [ $waited -lt 50 ]; do
+        sleep 0.1
+        waited=$((waited + 1))
+    done
+    exec 8>&-
+    wait $script 2>/dev/null
+    ended=$?
+    [ $ended -gt 128 ] && [ $waited -lt 50 ]
+    count $? "interrupted by $signal: status $ended"
+    gone new.idx
+done
+
+# ---- A replaced output keeps its mode, and a link stays a link.
+for mode in 600 640 755 666; do
+    for output in m.table rec.idx; do
+        chmod $mode $output
+        case $output in
+            m.table) "$root/osc" decode udp m.osc m.table >/dev/null ;;
+            *) "$root/osc" index rec.osc rec.idx >/dev/null ;;
+        esac
+        [ "$(stat -c %a $output)" = $mode ]
+        count $? "$output had mode $mode and has $(stat -c %a $output)"
+    done
+done
+umask 022
+expect 0 'packets: 1, records: 5, bytes left: 0' '' decode udp m.osc fresh.table
+[ "$(stat -c %a fresh.table)" = 644 ]
+count $? "a new table has mode $(stat -c %a fresh.table)"
+mkdir deep
+ln -s deep/target.table soft.table
+ln -s soft.table softer.table
+for _ in missing there; do
+    expect 0 'packets: 1, records: 5, bytes left: 0' '' decode udp m.osc softer.table
+    [ -L softer.table ] && [ -L soft.table ] && [ ! -L deep/target.table ]
+    count $? 'a link was replaced'
+    same deep/target.table m.table
+done
+ln -s "$PWD/deep/there.idx" deep/absolute.idx
+expect 0 'index: 2 records, whole' '' index rec.osc deep/absolute.idx
+same deep/there.idx rec.idx
+[ -L deep/absolute.idx ]
+count $? 'an absolute link was replaced'
+expect 1 'refused 18: the type text at offset 4 is not all there' '' decode udp input softer.table
+[ -L softer.table ] && [ ! -e deep/target.table ]
+count $? 'what a link leads to is not removed'
+gone deep/target.table
+ln -s round round
+expect 2 '' 'osc: round: Too many levels of symbolic links' decode udp m.osc round
+
+# ---- A name is shown so that one line stays one line.
+odd=$(printf 'a\nb\033[31mc\177d')
+expect 2 '' 'osc: a?b?[31mc?d: No such file or directory' decode udp "$odd" new.table
+printf 'precious' >"$odd"
+expect 2 '' "osc: a?b?[31mc?d: this file is not a table (8 bytes, not a multiple of 20); $asks" decode udp m.osc "$odd"
+expect 2 '' "osc: a?b?[31mc?d$same_file" decode udp "$odd" "$odd"
+expect 2 '' 'osc: not udp, tcp, tcp-vec, tcp2 or tcp2-vec: a?b?[31mc?d' decode "$odd" m.osc new.table
+rm -f "$odd"
+expect 2 '' 'osc: Märchen: No such file or directory' decode udp Märchen new.table
+
+# ---- A stack of 1 MiB: the script raises the limit, where it may; where it may not, it says so and changes nothing.
+said=$(
+    ulimit -S -s 1024
+    "$root/osc" decode udp m.osc stack.table 2>&1
+)
+[ "$said" = 'packets: 1, records: 5, bytes left: 0' ]
+count $? "with a stack of 1 MiB: said '$said'"
+said=$(
+    ulimit -s 1024
+    "$root/osc" decode udp m.osc stack2.table 2>&1
+)
+case $said in
+    'packets: 1, records: 5, bytes left: 0') same stack2.table m.table ;;
+    *)
+        [ "$said" = 'osc: the program needs 2 MiB of stack, and may have 1024 KiB (ulimit -s); nothing was changed' ]
+        count $? "with no more than a stack of 1 MiB: said '$said'"
+        gone stack2.table
+        ;;
+esac
+
+# ---- The program alone: what the script's own tests hide.
+tool() {
+    $by "$root/target/bin/osc_tool" "$@" 2>&1
+}
+# alone TROUBLE WORDS..: what the program should complain of.
+alone() {
+    line=$1
+    shift
+    said=$(tool "$@")
+    [ "$said" = "$line" ]
+    count $? "the program with $*: said '$said'"
+}
+cp m.osc kept.osc
+cp m.table kept.table
+cp rec.osc kept.rec
+cp rec.idx kept.idx
+ln -sf kept.osc soft.osc
+for name in kept.osc ./kept.osc soft.osc; do
+    alone "osc: kept.osc$same_file" decode udp kept.osc $name --replace
+    alone "osc: kept.osc$same_file" encode udp kept.table kept.osc $name --replace
+done
+alone "osc: kept.table$same_file" encode udp kept.table kept.osc kept.table --replace
+alone "osc: kept.rec$same_file" index kept.rec ./kept.rec --replace
+alone "osc: kept.rec$same_file" cue kept.rec kept.idx 1 kept.rec new.osc --replace
+alone "osc: kept.rec$same_file" cue kept.rec kept.idx 1 new.table kept.rec --replace
+alone "osc: kept.idx$same_file" cue kept.rec kept.idx 1 kept.idx new.osc --replace
+alone "osc: kept.idx$same_file" cue kept.rec kept.idx 1 new.table kept.idx --replace
+same kept.osc m.osc
+same kept.table m.table
+same kept.rec rec.osc
+same kept.idx rec.idx
+gone new.
+
+# Calls of the system that fail: strace makes them fail, where it is there and may. The old file is kept, nothing is left beside it, and no
+# success is said.
+if [ -z "$by" ] && strace -o /dev/null true 2>/dev/null; then
+    only=
+    # fails CALLS WORDS..: what the program says where such calls fail, those for the file `only` where that is set.
+    fails() {
+        calls=$1
+        shift
+        strace -o /dev/null ${only:+-P "$only"} -e "inject=$calls" "$root/target/bin/osc_tool" "$@" 2>&1
+    }
+    # unsaid TROUBLE CALLS WORDS..: that it is this.
+    unsaid() {
+        line=$1
+        shift
+        said=$(fails "$@")
+        [ "$said" = "$line" ]
+        count $? "with $*: said '$said'"
+    }
+    printf "$old_table" >old.table
+    cp old.table kept.copy
+    unsaid 'osc: old.table: Input/output error' fsync:error=EIO:when=2 decode udp m.osc old.table
+    unsaid 'osc: old.table: Input/output error' rename:error=EIO decode udp m.osc old.table
+    unsaid 'osc: old.table: Input/output error' write:error=EIO:when=1 decode udp m.osc old.table
+    unsaid 'osc: old.table: Input/output error' unlink:error=EIO decode udp input old.table
+    same old.table kept.copy
+    gone old.table.part
+    unsaid 'osc: rec.idx: Input/output error' fsync:error=EIO:when=2 index rec.osc rec.idx
+    unsaid 'osc: rec.idx: Input/output error' rename:error=EIO index rec.osc rec.idx
+    same rec.idx kept.idx
+    gone rec.idx.part
+    unsaid 'osc: new.osc: Input/output error' rename:error=EIO:when=1 cue rec.osc rec.idx 1 old.table new.osc
+    unsaid 'osc: old.table: Input/output error' rename:error=EIO:when=2 cue rec.osc rec.idx 1 old.table new.osc
+    unsaid 'osc: old.table: Input/output error' fsync:error=EIO:when=3 cue rec.osc rec.idx 1 old.table new.osc
+    same old.table kept.copy
+    gone old.table.part
+    gone new.osc
+    # What is written is on the device before it has its name.
+    strace -o calls -e trace=fsync,rename "$root/target/bin/osc_tool" decode udp m.osc fresh >/dev/null
+    [ "$(sed -n 's/(.*//p' calls | tr '\n' ' ')" = 'fsync rename ' ]
+    count $? "a table is named after: $(cat calls)"
+    # A seek that fails is not read on from; what ends before its length, or is shorter after the walk, is not taken for whole.
+    shorter=': the file became shorter while it was read'
+    only=$(pwd -P)/rec.idx
+    unsaid 'osc: rec.idx: Invalid argument' lseek:error=EINVAL:when=5 cue rec.osc rec.idx 1 new.table new.osc
+    unsaid "osc: rec.idx$shorter" read:retval=0:when=3 cue rec.osc rec.idx 1 new.table new.osc
+    unsaid "osc: rec.idx$shorter" lseek:retval=16:when=3 check rec.osc rec.idx
+    only=$(pwd -P)/rec.osc
+    unsaid 'osc: rec.osc: Invalid argument' lseek:error=EINVAL:when=5 cue rec.osc rec.idx 1 new.table new.osc
+    unsaid "osc: rec.osc$shorter" read:retval=0:when=3 cue rec.osc rec.idx 1 new.table new.osc
+    unsaid "osc: rec.osc$shorter" read:retval=0:when=1 index rec.osc new.idx
+    unsaid "osc: rec.osc$shorter" lseek:retval=16:when=3 index rec.osc new.idx
+    unsaid "osc: rec.osc$shorter" lseek:retval=16:when=3 check rec.osc rec.idx
+    gone new.
+else
+    printf 'strace is not there or may not trace: the cases of calls that fail left out\n'
+fi
 
 printf '%s passed, %s failed\n' "$passed" "$failed"
 [ "$failed" -eq 0 ]

@@ -3,17 +3,18 @@ use mathlib.Core.Path.{_≡_, refl, sym, ap, subst, _∙_}
 use mathlib.Core.Bool.{true, false, _&&_, false≢true}
 use mathlib.Core.List.{List, [], _∷_}
 use mathlib.Core.Logic.{⊎-elim}
-use Prim.Native.Nat.{ℕ, _+_, _*_, _/_, _%_, _^_, _≤_, _<_}
+use Prim.Native.Nat.{ℕ, _+_, _-_, _*_, _/_, _%_, _^_, _≤_, _<_}
 use native.Mathlib.Omega.{arith}
 use borrow.Author.Tests.{ne-eqb, ltb-true}
 use lib.Dec.{eqb, ltb}
 use lib.ListN.{length, getD, drop}
-use Rattle.refusal.specs.Refusal.{numberOf, offsetOf}
+use Rattle.refusal.specs.Refusal.{numberOf, offsetOf, movedRefusal}
 use Rattle.refusal.specs.declared.Field.the-variants.{Address, TypeText, Data, Padding, Head}
 use Rattle.refusal.specs.declared.Fault.the-variants.{Empty, Short, NotUtf8, BadStart, NotOpen, UnknownTag, NotScalar}
 use Rattle.refusal.specs.declared.Refusal.{Refusal}
 use Rattle.refusal.specs.declared.Refusal.the-variants.{TooLong, Unreadable, TooDeep, TableFull, BadTable, OutputShort, DepthLimit}
 use Rattle.refusal.specs.declared.Refusal.the-variants.{PadOverflow, BytesLeft, OddLength}
+use Rattle.refusal.proofs.FurtherOn.{moved-number, moved-place}
 use Rattle.wire.specs.Limits.{longest}
 use Rattle.wire.specs.Pad.{padOf}
 use Rattle.wire.specs.declared.Padded.{Padded}
@@ -54,6 +55,7 @@ use Rattle.results.specs.declared.Portion.{Portion}
 use Rattle.results.specs.declared.Portion.the-variants as portion
 use Rattle.results.specs.declared.End.the-variants as end
 use Rattle.results.specs.declared.Indexed.{Indexed}
+use Rattle.results.specs.declared.Indexed.the-variants as indexed
 use Rattle.results.specs.declared.Checked.{Checked}
 use Rattle.results.specs.declared.Checked.the-variants as checked
 use Rattle.results.specs.declared.CueAt.{CueAt}
@@ -67,7 +69,7 @@ use Rattle.apart.specs.Boundary.{CCall, osc-decode, osc-read-portion, os
 use Rattle.apart.specs.Boundary.{osc-encode-string, osc-pad, osc-look, osc-start, EveryFunction, CSettled, EndsListed, ToldApart}
 use Rattle.apart.specs.Boundary.{StopsApart, EndsApart, IndexEndsApart, DiffersApart}
 use Rattle.apart.specs.ReadBack.{Answerable}
-use Rattle.apart.proofs.Bounds.{fits, portion-fits, fits-checked, differs-checked}
+use Rattle.apart.proofs.Bounds.{fits, portion-fits, index-bounded, fits-checked, differs-checked}
 use Rattle.apart.proofs.Contracts.{ends-as, alone, in-high-bits, numbers-settled, Plain, answers, refuses, tells-demand}
 use Rattle.apart.proofs.Contracts.{some-number, writes-demand, encodes-demand}
 use Rattle.apart.proofs.Ended.{encodes-ended, string-ended}
@@ -279,10 +281,27 @@ start-plain t b i =
 
 -- what is known of a refused frame, and of the bytes from it on
 abbrev FrameTold : ℕ → Refusal → Type 0
-FrameTold m k = (4 ≤ m) × (among (numberOf k) cueOrder ≡ true)
+FrameTold m k = (4 ≤ m) × (offsetOf k ≤ m) × (among (numberOf k) cueOrder ≡ true)
 
 frame-told : (l : List ℕ) (k : Refusal) → cueOf l ≡ cue.Refused k → FrameTold (length l) k
-frame-told l k e = (cue-prefixed l k e, refused-among l k e)
+frame-told l k e = let p = cue-prefixed l k e in (p .0, p .1, refused-among l k e)
+
+-- how a step is told at which a refused frame ends an index
+index-end-told : (n count used : ℕ) (k : Refusal) → Bounded (indexedTold (indexed.Written count used (end.Refused k)))
+    → FrameTold (n - used) k → used ≤ n
+    → IndexEndTold n (answerOf (indexedTold (indexed.Written count used (end.Refused k))))
+    (moreOf (indexedTold (indexed.Written count used (end.Refused k))))
+index-end-told n count used k h f w =
+    let p = packed (indexedTold (indexed.Written count used (end.Refused k))) h in
+    record {
+      listed = subst (λ (m : ℕ). among m cueOrder ≡ true) (sym (p .frame)) (f .2);
+      clean = p .dirty;
+      accepted = omega arith;
+      used = omega (arith, p .low, f .0, w);
+      field = λ none. p .field ∙ no-field (movedRefusal used k) _ (h .field) (p .frame ∙ sym (moved-number used k)) none;
+      place = λ has. let e = moved-place used k (omega (arith, has .0, p .frame)) in
+          (omega (arith, p .low, p .field, e), omega (arith, p .field, e, f .1, w));
+    }
 
 module _ (l : List ℕ) (base : ℕ) (out : List ℕ) where
   abbrev IndexEnds : Indexed → Type 0
@@ -290,20 +309,17 @@ module _ (l : List ℕ) (base : ℕ) (out : List ℕ) where
       CEnds (cContractOf (osc-index-step l base out)) (answerOf (indexedTold r)) (moreOf (indexedTold r))
       (indexLeaves r (writtenOf (indexOf base l)) out)
 
-  written-ends : length l ≤ longest → (i : Index) → IndexIn FrameTold base (length l) i → IndexEnds (indexedAs base i)
-  written-ends h (index written at end.Whole) w =
+  written-ends : length l ≤ longest → (i : Index) → Bounded (indexedTold (indexedAs base i)) → IndexIn FrameTold base (length l) i
+      → IndexEnds (indexedAs base i)
+  written-ends h (index written at end.Whole) b w =
       told-answer (omega (arith, w .1, w .2), omega (arith, w .1, w .2)) (omega arith)
-  written-ends h (index written at end.Waiting) w =
+  written-ends h (index written at end.Waiting) b w =
       told-answer (omega (arith, w .1, w .2), omega (arith, w .1, w .2)) (omega arith)
-  written-ends h (index written at (end.Refused k)) w =
-      let same : frameIn (moreOf (indexedTold (indexedAs base (index written at (end.Refused k))))) ≡ numberOf k = omega arith in
+  written-ends h (index written at (end.Refused k)) b w =
+      let rest : base + length l - at ≡ length l - (at - base) = omega (arith, w .0, w .1) in
       told-stop
-      (record {
-        listed = subst (λ (m : ℕ). among m cueOrder ≡ true) (sym same) (w .3 .1);
-        alone = omega (arith, same);
-        accepted = omega (arith, w .1, w .2);
-        used = omega (arith, w .0, w .1, w .2, w .3 .0);
-      })
+      (index-end-told (length l) (length written / entrySize) (at - base) k b (subst (λ (m : ℕ). FrameTold m k) rest (w .3))
+      (omega (arith, w .0, w .1)))
 
   -- how a step ends that writes an index
   index-ends : IndexEnds (indexAnswer base l (length out))
@@ -311,7 +327,7 @@ module _ (l : List ℕ) (base : ℕ) (out : List ℕ) where
       by-le IndexEnds (length l) longest
       (λ h. by-le IndexEnds (base + length l) longestRecording
       (λ _. by-le IndexEnds (length (writtenOf (indexOf base l))) (length out)
-      (λ _. written-ends h (indexOf base l) (index-in FrameTold frame-told base l))
+      (λ _. written-ends h (indexOf base l) (index-bounded base l h) (index-in FrameTold frame-told base l))
       (λ _. told-refusal 12 refl refl (alone 12) refl))
       (λ _. told-refusal 1 refl refl (alone 1) refl))
       (λ _. told-refusal 1 refl refl (alone 1) refl)

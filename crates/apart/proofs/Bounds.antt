@@ -1,12 +1,13 @@
 -- What a decoder answers fits the bits that it has at the boundary, since a tree takes at least as many bytes as it has nodes, a node has
 -- at most 6 bytes of padding, a field that was short begins in the input or right after it, and a frame at which a list stops in it. So
--- does what a step answers, whose used bytes are of the input, and what a step and a check of an index answer.
+-- does what a step answers, whose used bytes are of the input, and what a step and a check of an index answer: a field that was short
+-- begins in the bytes of the call, or right after them.
 use mathlib.Core.Path.{_≡_, sym, subst}
 use mathlib.Core.List.{List}
-use Prim.Native.Nat.{ℕ, _+_, _*_, _<_, _≤_}
+use Prim.Native.Nat.{ℕ, _+_, _-_, _*_, _<_, _≤_}
 use native.Mathlib.Omega.{arith}
 use lib.ListN.{length}
-use Rattle.refusal.specs.declared.Refusal.{Refusal}
+use Rattle.refusal.proofs.FurtherOn.{moved-back}
 use Rattle.wire.specs.Limits.{longest}
 use Rattle.wire.proofs.Choices.{by-le}
 use Rattle.argument.proofs.Pads.{dirty-few}
@@ -31,7 +32,7 @@ use Rattle.results.specs.declared.End.the-variants as end
 use Rattle.results.specs.declared.Indexed.{Indexed}
 use Rattle.results.specs.declared.Checked.the-variants as checked
 use Rattle.cues.proofs.Checks.{fits-exactly, differs-in}
-use Rattle.cues.proofs.Indexes.{IndexIn, index-in}
+use Rattle.cues.proofs.Indexes.{IndexIn, FieldIn, field-in}
 use Rattle.told.specs.Told.{Bounded}
 use Rattle.told.specs.Answers.{decodedTold, portionTold, indexedTold}
 use Rattle.told.proofs.Unpacked.{number-in}
@@ -83,13 +84,18 @@ portion-fits limit bytes table e =
 
 -- ---- an index
 
--- nothing is said of a refused frame
-abbrev Silent : ℕ → Refusal → Type 0
-Silent m k = Unit {0}
-
 -- the record of the answer of a step that writes an index has its bits
 abbrev IndexedFits : Indexed → Type 0
 IndexedFits a = Bounded (indexedTold a)
+
+-- that of a buffer's index, where its output has room
+pub index-bounded : (base : ℕ) (l : List ℕ) → length l ≤ longest → Bounded (indexedTold (indexedAs base (indexOf base l)))
+index-bounded base l h = by-index (indexOf base l) (field-in base l)
+  where
+    by-index : (i : Index) → IndexIn FieldIn base (length l) i → IndexedFits (indexedAs base i)
+    by-index (index written at end.Whole) w = omega (arith, w .1, w .2)
+    by-index (index written at end.Waiting) w = omega (arith, w .1, w .2)
+    by-index (index written at (end.Refused k)) w = omega (arith, w .0, w .1, w .2, w .3, number-in k, moved-back (at - base) k)
 
 -- what such a step answers fits
 pub indexed-fits : (base : ℕ) (l : List ℕ) (room : ℕ) {r : Indexed} → r ≡ indexAnswer base l room → Bounded (indexedTold r)
@@ -98,12 +104,7 @@ indexed-fits base l room e =
     (by-le IndexedFits (length l) longest
     (λ h. by-le IndexedFits (base + length l) longestRecording
     (λ _. by-le IndexedFits (length (writtenOf (indexOf base l))) room
-    (λ _. by-index h (indexOf base l) (index-in Silent (λ _ _ _. tt) base l)) (λ _. omega arith)) (λ _. omega arith)) (λ _. omega arith))
-  where
-    by-index : length l ≤ longest → (i : Index) → IndexIn Silent base (length l) i → IndexedFits (indexedAs base i)
-    by-index h (index written at end.Whole) w = omega (arith, w .1, w .2)
-    by-index h (index written at end.Waiting) w = omega (arith, w .1, w .2)
-    by-index h (index written at (end.Refused k)) w = omega (arith, w .1, w .2, number-in k)
+    (λ _. index-bounded base l h) (λ _. omega arith)) (λ _. omega arith)) (λ _. omega arith))
 
 -- so does what a check answers: no more records than bytes are compared
 pub fits-checked : (f g : List ℕ) {k : ℕ} → compared f g ≡ checked.Fits k → entrySize * k < length f + entrySize

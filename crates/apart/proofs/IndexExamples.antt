@@ -5,7 +5,8 @@ use mathlib.Core.List.{List, [], _∷_, _++_}
 use Prim.Native.Nat.{ℕ, _<_}
 use native.Mathlib.Omega.{arith}
 use lib.ListN.{getD, replicate}
-use Rattle.refusal.specs.declared.Fault.the-variants.{Empty}
+use Rattle.refusal.specs.declared.Field.the-variants.{Address}
+use Rattle.refusal.specs.declared.Fault.the-variants.{Empty, Short}
 use Rattle.refusal.specs.declared.Refusal.the-variants.{Unreadable, OutputShort}
 use Rattle.wire.specs.Number.{number, bytes}
 use Rattle.node.specs.Forest.{size, depth, snoc}
@@ -67,11 +68,45 @@ ends =
     }
 
 ends-told : IndexEndTold 20 0x1_0000_0010 0x2_0000_0000_0000
-ends-told = record { listed = refl; alone = refl; accepted = omega arith; used = omega arith }
+ends-told =
+    record {
+      listed = refl;
+      clean = refl;
+      accepted = omega arith;
+      used = omega arith;
+      field = λ none. refl;
+      place = λ has. absurd (omega (arith, has .0));
+    }
 
 -- and told from an answer with nothing beside it
 ends-apart : cContractOf (osc-index-step (frame ++ (0 ∷ 0 ∷ 0 ∷ 0 ∷ [])) 0 (replicate 16 9)) .Extra 0x2_0000_0000_0000 → ⊥
 ends-apart = index-ends-apart 20 0x1_0000_0010 0x2_0000_0000_0000 ends-told .0
+
+-- 17 of a frame whose address "/a/b" has no NUL: its field begins at 20, four bytes behind the prefix at 16
+abbrev short-address : List ℕ
+short-address = frame ++ (0 ∷ 0 ∷ 0 ∷ 4 ∷ 47 ∷ 97 ∷ 47 ∷ 98 ∷ [])
+
+ends-short : CMeets (osc-index-step short-address 0 (replicate 16 9)) 0x1_0000_0010 0x11_0014_0000_0000 entry
+unfolding number bytes size depth snoc classOf sortOf readText readArg readTags startOf readMessage packetBy packetAt readPacket lengthOf
+    cutFrame foldAt
+ends-short =
+    record {
+      answer = indexed.Written 1 16 (end.Refused (Unreadable (Short Address 4)));
+      meets = record { answers = refl; leaves = refl };
+      number = refl;
+      beside = refl;
+    }
+
+short-told : IndexEndTold 24 0x1_0000_0010 0x11_0014_0000_0000
+short-told =
+    record {
+      listed = refl;
+      clean = refl;
+      accepted = omega arith;
+      used = omega arith;
+      field = λ none. absurd (none (omega arith, omega arith));
+      place = λ has. (omega arith, omega arith);
+    }
 
 -- 12, and the output is as it was
 short : CMeets (osc-index-step frame 0 (replicate 15 9)) 0xc00_0000_0000_0000 0 (replicate 15 9)

@@ -44,12 +44,15 @@ pub record EndTold (n told more : ℕ) : Type 0 where
   pub used : lowIn told + 4 ≤ n
   pub field : (HasOffset (frameIn more) → ⊥) → offsetIn more ≡ 0
 
--- how a step over n bytes is told at which a refused frame ends an index: as that of a stream, by the refusals of one frame
+-- how a step over n bytes is told at which a refused frame ends an index: as that of a stream, by the refusals of one frame, and with no
+-- dirty padding; the field of 17 to 21 begins in the call's bytes from that frame on, or right after them
 pub record IndexEndTold (n told more : ℕ) : Type 0 where
   pub listed : among (frameIn more) cueOrder ≡ true
-  pub alone : more ≡ frameIn more * 0x1_0000_0000_0000
+  pub clean : lowIn more ≡ 0
   pub accepted : told < 0x100_0000_0000_0000
   pub used : lowIn told + 4 ≤ n
+  pub field : (HasOffset (frameIn more) → ⊥) → offsetIn more ≡ 0
+  pub place : HasOffset (frameIn more) → (lowIn told ≤ offsetIn more) × (offsetIn more ≤ n)
 
 -- how an index is told that differs, where the first record that was compared is number `from`: by 25, and a record's number below it
 pub record DiffersTold (from told more : ℕ) : Type 0 where

@@ -4,7 +4,7 @@ use mathlib.Core.Bool.{true}
 use mathlib.Core.List.{List}
 use Prim.Native.Nat.{ℕ, _+_, _≤_, _<_}
 use lib.ListN.{length, getD}
-use Rattle.refusal.specs.Refusal.{numberOf, offsetOf}
+use Rattle.refusal.specs.Refusal.{numberOf, offsetOf, movedRefusal}
 use Rattle.refusal.specs.declared.Refusal.{Refusal}
 use Rattle.refusal.specs.declared.Refusal.the-variants.{BadTable}
 use Rattle.wire.specs.Pad.{padOf}
@@ -152,12 +152,14 @@ StepOnce =
 -- ---- a cue index (Ticket 5)
 
 -- the answer of a step that writes an index, read back from both numbers: `osc_refusal` is not 0 exactly if the call is refused,
--- `osc_ended` is not 0 exactly if a frame is, and `osc_waits` is 1 exactly if one is not all there
+-- `osc_ended` is not 0 exactly if a frame is, and `osc_waits` is 1 exactly if one is not all there; `osc_field` counts from the call's
+-- first byte, and so by the bytes used more than the refusal does
 pub data IndexBack (answer : Indexed) (told more : ℕ) : Type 0 where
   all-used : refusalIn told ≡ 0 → more ≡ 0 → answer ≡ indexed.Written (countIn told) (lowIn told) end.Whole → IndexBack answer told more
   frame-waits : refusalIn told ≡ 0 → more ≡ 1 → answer ≡ indexed.Written (countIn told) (lowIn told) end.Waiting
       → IndexBack answer told more
   frame-ends : (r : Refusal) → refusalIn told ≡ 0 → 1 ≤ frameIn more → numberOf r ≡ frameIn more
+      → offsetOf (movedRefusal (lowIn told) r) ≡ offsetIn more
       → answer ≡ indexed.Written (countIn told) (lowIn told) (end.Refused r) → IndexBack answer told more
   call-ends : (r : Refusal) → 1 ≤ refusalIn told → numberOf r ≡ refusalIn told → more ≡ 0 → answer ≡ indexed.Refused r
       → IndexBack answer told more
@@ -167,6 +169,13 @@ abbrev pub IndexTold : Type 0
 IndexTold =
     (bytes : List ℕ) (base : ℕ) (out : List ℕ) (told more : ℕ) (after : List ℕ)
     → (t : CMeets (osc-index-step bytes base out) told more after) → IndexBack (t .answer) told more
+
+-- and a step does not tell two answers by one number and what is told beside it: those that differ in a field's offset alone are two
+abbrev pub IndexOnce : Type 0
+IndexOnce =
+    (bytes bytes′ : List ℕ) (base base′ : ℕ) (out out′ : List ℕ) (told more : ℕ) (after after′ : List ℕ)
+    → (t : CMeets (osc-index-step bytes base out) told more after)
+    → (t′ : CMeets (osc-index-step bytes′ base′ out′) told more after′) → t .answer ≡ t′ .answer
 
 -- a cue, read back from both numbers: `osc_refusal` is not 0 exactly if there is none
 pub data CueBack (answer : CueAt) (told offset : ℕ) : Type 0 where

@@ -20,7 +20,7 @@ use Rattle.text.proofs.Dirt.{dirt-join}
 use Rattle.text.proofs.Within.{found-in, found-ends}
 use Rattle.argument.specs.Argument.{readArg, having, textArg}
 use Rattle.argument.specs.CodeParts.{StandsAt, between, paddingFrom, dirtOf}
-use Rattle.argument.specs.Dirt.{paddingAt, textPadding, typesPadding, argPadding, ownPadding, keptPadding}
+use Rattle.argument.specs.Dirt.{paddingAt, textPadding, typesPadding, argPadding, TextPadded, BlobPadded, ownPadding, keptPadding}
 use Rattle.argument.specs.declared.Arg.{Arg}
 use Rattle.argument.specs.declared.Arg.the-variants.{Given, Refused}
 use Rattle.argument.proofs.Stands.{stands-bytes, stands-nul}
@@ -84,6 +84,13 @@ module _ (tag base : ℕ) (l : List ℕ) (p : ℕ) (msg : List ℕ) (w : StandsA
   pub arg-padding : {item : Item} {used : ℕ} (class : Class) → Given item used ≡ readArg tag class base l p
       → argPadding base msg class item ≡ between (paddingFrom class item used) used l
   arg-padding class e = subst (PaddingIs base msg l class) (sym e) (all-padded class)
+
+-- what is counted where a text or a blob is read is its padding
+pub text-padded : TextPadded
+text-padded base p msg l later n used w e = text-padding base p l msg (later, w) (sym e)
+
+pub blob-padded : BlobPadded
+blob-padded tag base p msg l later item used w e = arg-padding tag base l p msg (later, w) Blob (sym e)
 
 -- the padding of an argument begins no later than its data ends, and has at most 3 bytes
 abbrev Begun : Class → Arg → Type 0

@@ -6,3 +6,4 @@ pub mod Pads
 pub mod Stands
 pub mod There
 pub mod Within
+pub mod Examples

@@ -12,7 +12,10 @@ use Rattle.node.specs.Tags.{messageKind, bundleKind, classOf}
 use Rattle.node.specs.declared.record.Item.{Item}
 use Rattle.node.specs.declared.tags.Class.{Class}
 use Rattle.node.specs.declared.tags.Class.the-variants.{Four, Eight, Bare, Text as String, Blob, Scalar, Unknown}
-use Rattle.text.specs.Text.{untilNul, nonZero}
+use Rattle.text.specs.Text.{untilNul, readText, nonZero}
+use Rattle.text.specs.declared.Text.the-variants.{Found}
+use Rattle.argument.specs.Argument.{readArg}
+use Rattle.argument.specs.declared.Arg.the-variants.{Given}
 
 -- the padding that begins at offset o: up to the first place that is a multiple of 4 from `base` on (document 01, rule 1)
 abbrev pub paddingAt : ℕ → List ℕ → ℕ → List ℕ
@@ -39,6 +42,20 @@ argPadding base msg String item = textPadding base msg (item .a) (item .b)
 argPadding base msg Blob item = paddingAt base msg (item .a + item .b)
 argPadding base msg Scalar item = []
 argPadding base msg Unknown item = []
+
+-- "reading text or a blob now also answers how many padding bytes were not zero": the padding of a text that is read at the front of l,
+-- which stands at position p of its frame, is the bytes after its NUL, up to where it ends
+abbrev pub TextPadded : Type 0
+TextPadded =
+    (base p : ℕ) (msg l later : List ℕ) (n used : ℕ) → drop (base + p) msg ≡ l ++ later → readText l p ≡ Found n used
+    → textPadding base msg (base + p) n ≡ take (used - (n + 1)) (drop (n + 1) l)
+
+-- and that of a blob is the bytes after its own, which follow its size of 4 bytes
+abbrev pub BlobPadded : Type 0
+BlobPadded =
+    (tag base p : ℕ) (msg l later : List ℕ) (item : Item) (used : ℕ) → drop (base + p) msg ≡ l ++ later
+    → readArg tag Blob base l p ≡ Given item used
+    → argPadding base msg Blob item ≡ take (used - (4 + item .b)) (drop (4 + item .b) l)
 
 -- what a node has itself: a message the padding of its address and of its type text, a bundle that of "#bundle", which has 7 bytes
 abbrev pub ownPadding : ℕ → List ℕ → Item → List ℕ

@@ -5,6 +5,7 @@
 --     Wholes      bytes appended to the input of a single-packet call
 --     Tables      a tree that continues another, on the table
 --     Dirt        the dirty padding of a packet, with bytes appended
+--     Frames      that of frames of edition 2
 --     MoreBytes   the theorem of packets, for each of the two calls
 --     Stay        the theorem of packets in edition 2, for one frame and for a list
 --     Faults      the theorem of refusals, for each of the two calls
@@ -14,6 +15,7 @@ pub mod Packets
 pub mod Wholes
 pub mod Tables
 pub mod Dirt
+pub mod Frames
 pub mod MoreBytes
 pub mod Stay
 pub mod Faults

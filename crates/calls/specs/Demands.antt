@@ -75,12 +75,15 @@ MoreBytes rule =
 
 -- ---- demand 3: more bytes, in edition 2
 
--- the packets that were given stay: the same records at the same places of the table
-pub record Stay (framing : Framing) (msg more : List ℕ) (limit limit' : ℕ) (table table' : List ℕ) (count : ℕ) : Type 0 where
+-- the packets that were given stay: the same records at the same places of the table. The dirty padding does not fall (Ticket 8); one
+-- frame has one packet, so that there both numbers stay
+pub record Stay (framing : Framing) (msg more : List ℕ) (limit limit' : ℕ) (table table' : List ℕ) (count dirty : ℕ) : Type 0 where
   pub many : ℕ
   pub dirt : ℕ
   pub answers : Gives (answerTo (ruleOf framing limit') limit' (msg ++ more) table') many dirt
   pub no-fewer : count ≤ many
+  pub no-cleaner : dirty ≤ dirt
+  pub one-frame : framing ≡ Tcp Standard → (many ≡ count) × (dirt ≡ dirty)
   pub records : take (recordSize * count) (tableAfter (ruleOf framing limit') limit' (msg ++ more) table')
       ≡ take (recordSize * count) (tableAfter (ruleOf framing limit) limit msg table)
 
@@ -90,7 +93,7 @@ PacketsStay framing =
     (msg more : List ℕ) (limit limit' : ℕ) (table table' : List ℕ) (count dirty : ℕ) → limit ≤ limit'
     → Gives (answerTo (ruleOf framing limit) limit msg table) count dirty
     → Allowed (answerTo (ruleOf framing limit') limit' (msg ++ more) table')
-    → Stay framing msg more limit limit' table table' count
+    → Stay framing msg more limit limit' table table' count dirty
 
 -- of both decoders of edition 2
 abbrev pub StandardStays : Type 0

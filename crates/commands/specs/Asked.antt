@@ -71,10 +71,10 @@ indexAsked count = cond (eqb count 4) names.Good (names.Wrong IndexWords 0)
 unfoldable pub checkAsked : ℕ → NamesAsked
 checkAsked count = cond (eqb count 4) names.Good (names.Wrong CheckWords 0)
 
--- cue has five words: osc cue RECORDING INDEX K TABLE
+-- cue has six words: osc cue RECORDING INDEX K TABLE PACKET
 abbrev pub cueWith : Numeral → CueAsked
 cueWith (numeral.Is x) = cue.As x
 cueWith numeral.Unclear = cue.Wrong NoNumber 4
 
 unfoldable pub cueAsked : ℕ → List ℕ → CueAsked
-cueAsked count word = cond (eqb count 6) (cueWith (numberOfWord word)) (cue.Wrong CueWords 0)
+cueAsked count word = cond (eqb count 7) (cueWith (numberOfWord word)) (cue.Wrong CueWords 0)

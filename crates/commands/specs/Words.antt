@@ -1,7 +1,7 @@
 -- What single words mean.
-use mathlib.Core.Bool.{cond}
+use mathlib.Core.Bool.{Bool, true, false, cond}
 use mathlib.Core.List.{List, [], _∷_}
-use Prim.Native.Nat.{ℕ}
+use Prim.Native.Nat.{ℕ, _-_}
 use Prim.Native.String.{String}
 use lib.Dec.{ltb}
 use Rattle.words.specs.Tables.{pairedWith, isWord}
@@ -12,6 +12,9 @@ use Rattle.edition.specs.declared.Edition.the-variants.{Rosc, Standard}
 use Rattle.edition.specs.declared.Framing.the-variants.{Udp, Tcp, TcpVec}
 use Rattle.commands.specs.declared.Command.{Command}
 use Rattle.commands.specs.declared.Command.the-variants as command
+use Rattle.troubles.specs.declared.Trouble.the-variants.{NoReplace}
+use Rattle.commands.specs.declared.Worded.{Worded}
+use Rattle.commands.specs.declared.Worded.the-variants as worded
 use Rattle.commands.specs.declared.Framed.{Framed}
 use Rattle.commands.specs.declared.Framed.the-variants as framed
 
@@ -56,3 +59,21 @@ nineDigits (numeral.Is x) = cond (ltb 999999999 x) numeral.Unclear (numeral.Is x
 -- a word as such a number
 abbrev pub numberOfWord : List ℕ → Numeral
 numberOfWord word = nineDigits (numeralOf word)
+
+-- the commands that write a file, whose last word may be --replace; of a word that is no command that is said, and nothing of --replace
+abbrev pub mayReplace : Command → Bool
+mayReplace command.Decode = true
+mayReplace command.Encode = true
+mayReplace command.Look = false
+mayReplace command.Index = true
+mayReplace command.Check = false
+mayReplace command.Cue = true
+mayReplace command.Help = false
+mayReplace command.Version = false
+mayReplace command.Unclear = true
+
+-- how many words there are without --replace, and whether that is the last of them
+unfoldable pub wordedAs : Command → ℕ → List ℕ → Worded
+wordedAs command count last =
+    cond (isWord last "--replace") (cond (mayReplace command) (worded.As (count - 1) true) (worded.Wrong NoReplace 0))
+    (worded.As count false)

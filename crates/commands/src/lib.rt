@@ -8,7 +8,8 @@ use words::line::place_of;
 use words::numeral::Numeral;
 use words::numeral::decimal;
 ghost use mathlib.Core.Path.{_≡_};
-ghost use Rattle.commands.specs.Words.{commandOf, framingOf, numberOfWord};
+ghost use Prim.Native.Nat.{_-_};
+ghost use Rattle.commands.specs.Words.{commandOf, framingOf, numberOfWord, mayReplace, wordedAs};
 ghost use Rattle.wire.specs.Same.{sameBytes};
 ghost use Rattle.commands.specs.Asked.{decodeWith, encodeWith, encodeAsked, lookAsked, indexAsked, checkAsked, cueAsked};
 pub use options::Chosen;
@@ -17,7 +18,7 @@ pub use options::no_options;
 pub use options::options_of;
 
 // The version of the program and of the library that it calls.
-pub const VERSION: [u8; 6] = *b"0.12.1";
+pub const VERSION: [u8; 6] = *b"0.13.0";
 
 // The first word.
 pub enum Command {
@@ -30,6 +31,12 @@ pub enum Command {
     Help,
     Version,
     Unclear,
+}
+
+// How many words there are without --replace, and whether that is the last of them; or what is wrong with it.
+pub enum Worded {
+    As(usize, bool),
+    Wrong(Trouble, usize),
 }
 
 // A word read as a framing.
@@ -107,6 +114,50 @@ pub fn command_of(word: &[u8]) -> Command
         Command::Unclear,
     ];
     named[at]
+}
+
+// The place of the last of so many words.
+//
+// Ruled out: the number of the words; a place where there are none.
+pub fn last_of(count: usize) -> usize
+    ensures { λ r. ⌜ r ≡ count - 1 ⌝ }
+{
+    if count == 0 {
+        return 0;
+    }
+    count - 1
+}
+
+// Whether the last word of a command may be --replace.
+fn may_replace(command: Command) -> bool
+    ensures { λ r. ⌜ r ≡ mayReplace command ⌝ }
+{
+    match command {
+        Command::Decode => true,
+        Command::Encode => true,
+        Command::Look => false,
+        Command::Index => true,
+        Command::Check => false,
+        Command::Cue => true,
+        Command::Help => false,
+        Command::Version => false,
+        Command::Unclear => true,
+    }
+}
+
+// The words of a command, of which there are `count`, by the last of them.
+//
+// Ruled out: --replace counted among the words; files replaced where it is not the last word, or by a command that writes none.
+pub fn words_of(command: Command, count: usize, last: &[u8]) -> Worded
+    ensures { λ r. ⌜ r ≡ wordedAs command count (now (last .entry)) ⌝ }
+{
+    if is_word(last, b"--replace") {
+        if may_replace(command) {
+            return Worded::As(last_of(count), true);
+        }
+        return Worded::Wrong(Trouble::NoReplace, 0);
+    }
+    Worded::As(count, false)
 }
 
 // The framing that a word names, in the same way.
@@ -228,7 +279,7 @@ pub fn check_asked(count: usize) -> NamesAsked
 pub fn cue_asked(count: usize, word: &[u8]) -> CueAsked
     ensures { λ r. ⌜ r ≡ cueAsked count (now (word .entry)) ⌝ }
 {
-    if count == 6 {
+    if count == 7 {
         return match short_number(word) {
             Numeral::Is(x) => CueAsked::As(x as u32),
             Numeral::Unclear => CueAsked::Wrong(Trouble::NoNumber, 4),

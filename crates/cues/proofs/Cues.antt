@@ -6,7 +6,7 @@ use native.Mathlib.Omega.{arith}
 use borrow.Author.Tests.{le-leb}
 use lib.Dec.{leb}
 use lib.ListN.{length}
-use Rattle.refusal.specs.Refusal.{movedBy}
+use Rattle.refusal.specs.Refusal.{faultOffset, offsetOf, movedBy}
 use Rattle.refusal.specs.declared.Fault.{Fault}
 use Rattle.refusal.specs.declared.Fault.the-variants.{Empty, Short, NotUtf8, BadStart, NotOpen, UnknownTag, NotScalar}
 use Rattle.refusal.specs.declared.Refusal.{Refusal}
@@ -54,20 +54,32 @@ unfolding cueOf
 cue-in l e =
     subst (CueIn (length l)) (sym e) (judged-in l (cutFrame deepest 0 l) (cut-in deepest 0 l) (frame-long deepest 0 l))
 
+-- a fault that is told from its frame's prefix on
+moved-none : (k : Fault) → k ≡ movedBy 0 k
+moved-none Empty = refl
+moved-none (Short field at) = ap (Short field) (omega arith)
+moved-none NotUtf8 = refl
+moved-none BadStart = refl
+moved-none NotOpen = refl
+moved-none UnknownTag = refl
+moved-none NotScalar = refl
+
+-- one that is refused has its prefix, and a field that was short begins in these bytes or right after them
 abbrev RefusedIn : ℕ → Cue → Type 0
 RefusedIn m (cue.Given size records) = Unit {0}
 RefusedIn m cue.Waiting = Unit {0}
-RefusedIn m (cue.Refused k) = 4 ≤ m
+RefusedIn m (cue.Refused k) = (4 ≤ m) × (offsetOf k ≤ m)
 
 judged-prefixed : (l : List ℕ) (x : Frame) → FrameIn (length l) x → Prefixed (length l) x → RefusedIn (length l) (cueBy l x)
 judged-prefixed l wait w p = tt
-judged-prefixed l (read (fault k)) w p = p
+judged-prefixed l (read (fault k)) w p = (p, subst (λ (j : Fault). faultOffset j ≤ length l) (moved-none k) w)
 judged-prefixed l (read (one item f u)) w p =
-    by-le (λ (y : Verdict ℕ). RefusedIn (length l) (judgedCue y)) (1 + size f) mostInACue (λ _. tt) (λ _. omega arith)
-judged-prefixed l (refused k) w p = p .0
+    by-le (λ (y : Verdict ℕ). RefusedIn (length l) (judgedCue y)) (1 + size f) mostInACue (λ _. tt)
+    (λ _. (omega arith, omega arith))
+judged-prefixed l (refused k) w p = (p .0, omega (arith, p .1))
 
--- a frame that is refused has its prefix
-pub cue-prefixed : (l : List ℕ) (k : Refusal) → cueOf l ≡ cue.Refused k → 4 ≤ length l
+-- so is a refused frame
+pub cue-prefixed : (l : List ℕ) (k : Refusal) → cueOf l ≡ cue.Refused k → (4 ≤ length l) × (offsetOf k ≤ length l)
 unfolding cueOf
 cue-prefixed l k e =
     subst (RefusedIn (length l)) e
@@ -93,16 +105,6 @@ LeftIn n (answer.Stopped count left dirty k at) = Unit {0}
 pub record Judges (n : ℕ) (d : Decoded) (x : Cue) : Type 0 where
   pub same : cueFrom n d ≡ x
   pub inside : LeftIn n d
-
--- a fault that is told from its frame's prefix on
-moved-none : (k : Fault) → k ≡ movedBy 0 k
-moved-none Empty = refl
-moved-none (Short field at) = ap (Short field) (omega arith)
-moved-none NotUtf8 = refl
-moved-none BadStart = refl
-moved-none NotOpen = refl
-moved-none UnknownTag = refl
-moved-none NotScalar = refl
 
 limited-judges : (limit : ℕ) (msg : List ℕ) (x : Frame) → FrameIn (length msg) x → Shallow limit x
     → Judges (length msg) (limited mostInACue limit msg (first (length msg) x)) (cueBy msg x)

@@ -6,6 +6,7 @@ use native.Mathlib.Omega.{arith}
 use lib.Dec.{leb}
 use lib.ListN.{length, drop, length-drop, length-append}
 use lib.Seq.{length-take-le}
+use Rattle.refusal.specs.Refusal.{offsetOf}
 use Rattle.refusal.specs.declared.Refusal.{Refusal}
 use Rattle.wire.specs.Limits.{longest, deepest}
 use Rattle.wire.proofs.Choices.{by-both}
@@ -26,7 +27,7 @@ use Rattle.cues.specs.declared.cue.Cue.the-variants as cue
 use Rattle.results.specs.declared.End.{End}
 use Rattle.results.specs.declared.End.the-variants as end
 use Rattle.cues.proofs.Shortest.{shortestFrame}
-use Rattle.cues.proofs.Cues.{CueIn, cue-in, cueBy}
+use Rattle.cues.proofs.Cues.{CueIn, cue-in, cue-prefixed, cueBy}
 
 -- ---- the frame at the front
 
@@ -152,6 +153,14 @@ module _ (S : ℕ → Refusal → Type 0) (says : (l : List ℕ) (k : Refusal) �
   -- so does every index, where S says so of every refused frame
   pub index-in : (base : ℕ) (l : List ℕ) → IndexIn S base (length l) (indexOf base l)
   index-in base l = framed-index (framed indexing index-inside base l)
+
+-- a field that was short begins in the bytes from its frame on, or right after them
+abbrev pub FieldIn : ℕ → Refusal → Type 0
+FieldIn m k = offsetOf k ≤ m
+
+-- so does that of a frame that ends an index
+pub field-in : (base : ℕ) (l : List ℕ) → IndexIn FieldIn base (length l) (indexOf base l)
+field-in = index-in FieldIn (λ l k e. cue-prefixed l k e .1)
 
 -- the records of the frames of a buffer are 5,461 at most
 pub written-fits : (base : ℕ) (l : List ℕ) → length l ≤ longest → length (writtenOf (indexOf base l)) ≤ entrySize * mostEntries

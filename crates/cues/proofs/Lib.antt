@@ -9,6 +9,7 @@
 --     Folds          the index is a sound fold
 --     Only           no second outcome of a step
 --     Entries        the bytes of a record
+--     IndexExamples  recordings that meet the hypotheses
 --     Checks         what a check says
 --     CheckExamples  indexes that meet its hypotheses
 pub mod Shortest
@@ -21,5 +22,6 @@ pub mod Steps
 pub mod Folds
 pub mod Only
 pub mod Entries
+pub mod IndexExamples
 pub mod Checks
 pub mod CheckExamples

@@ -11,11 +11,13 @@ use Rattle.refusal.specs.declared.Refusal.{Refusal}
 use Rattle.folding.specs.Walks.{MayContinue}
 use Rattle.cues.specs.Cues.{entrySize, mostEntries, longestRecording, Index, index, indexOf, writtenOf}
 use Rattle.cues.specs.Cues.{indexedAs, Indexes}
+use Rattle.results.specs.Ends.{FieldUpTo}
 use Rattle.results.specs.declared.End.{End}
+use Rattle.results.specs.declared.End.the-variants as end
 use Rattle.results.specs.declared.Indexed.{Indexed}
 use Rattle.results.specs.declared.Indexed.the-variants as indexed
 use Rattle.cues.proofs.Shortest.{shortestFrame}
-use Rattle.cues.proofs.Indexes.{IndexIn, index-in, written-length, written-fits}
+use Rattle.cues.proofs.Indexes.{EndIn, IndexIn, FieldIn, field-in, written-length, written-fits}
 use Rattle.cues.proofs.Kept.{kept-is-short}
 
 -- n records were written for the first `used` bytes of l, at offset `base`: they are the front of the output
@@ -27,17 +29,24 @@ pub record Stepped (l : List ℕ) (base n used : ℕ) (why : End) (out after : L
   pub room : entrySize * n ≤ length out
   pub same : length after ≡ length out
   pub is : indexOf base l ≡ index (take (entrySize * n) after) (base + used) why
+  pub field : FieldUpTo used (length l) why
+
+-- where an index ends in m bytes, a field that was short begins there
+field-up-to : (used n m : ℕ) (why : End) → EndIn FieldIn m why → used + m ≡ n → FieldUpTo used n why
+field-up-to used n m end.Whole h e = tt
+field-up-to used n m end.Waiting h e = tt
+field-up-to used n m (end.Refused k) h e = omega (arith, h, e)
 
 module _ {l out after : List ℕ} {base n used : ℕ} {why : End} (w : Indexes l base out (indexed.Written n used why) after) where
   abbrev told : Indexed → Type 0
   told r = indexed.Written n used why ≡ r → Stepped l base n used why out after
 
   by-index : length l ≤ longest → base + length l ≤ longestRecording → length (writtenOf (indexOf base l)) ≤ length out
-      → (i : Index) → indexOf base l ≡ i → IndexIn (λ _ _. Unit {0}) base (length l) i → told (indexedAs base i)
-  by-index short low room (index written at end) e v p =
+      → (i : Index) → indexOf base l ≡ i → IndexIn FieldIn base (length l) i → told (indexedAs base i)
+  by-index short low room (index written at last) e v p =
       let count : n ≡ length written / entrySize = cc in
       let bytes : used ≡ at - base = cc in
-      let ends : end ≡ why = cc in
+      let ends : last ≡ why = cc in
       let is-written : writtenOf (indexOf base l) ≡ written = ap writtenOf e in
       let long : length written ≡ entrySize * n = omega (arith, written-length base l, ap length is-written, count) in
       let there : at ≡ base + used = omega (arith, v .0, bytes) in
@@ -56,6 +65,8 @@ module _ {l out after : List ℕ} {base n used : ℕ} {why : End} (w : Indexes l
         room = whole;
         same = omega (arith, ap length after-is, rest, length-drop (length written) out, long, whole);
         is = e ∙ rw (front, ← there, ends);
+        field = subst (FieldUpTo used (length l)) ends
+            (field-up-to used (length l) (base + length l - at) last (v .3) (omega (arith, v .0, v .1, bytes)));
       }
 
   -- a step that writes tells the index of its bytes
@@ -64,7 +75,7 @@ module _ {l out after : List ℕ} {base n used : ℕ} {why : End} (w : Indexes l
       by-le told (length l) longest
       (λ short. by-le told (base + length l) longestRecording
       (λ low. by-le told (length (writtenOf (indexOf base l))) (length out)
-      (λ room. by-index short low room (indexOf base l) refl (index-in (λ _ _. Unit {0}) (λ _ _ _. tt) base l))
+      (λ room. by-index short low room (indexOf base l) refl (field-in base l))
       (λ _ p. absurd (not-refused p)))
       (λ _ p. absurd (not-refused p)))
       (λ _ p. absurd (not-refused p))

@@ -25,6 +25,7 @@ use Rattle.results.specs.declared.Portion.the-variants as step
 use Rattle.table.specs.Tree.{Spans}
 use Rattle.calls.specs.Words.{Gives}
 use Rattle.calls.proofs.Answered.{held}
+use Rattle.calls.proofs.Longer.Frames.{list-framed}
 use Rattle.osc10.specs.Words.{Bytes}
 use Rattle.osc10.proofs.Arguments.{join, join-end}
 use Rattle.osc10.proofs.Placed.{At, at-all, at-front, at-back, at-bytes}
@@ -32,7 +33,7 @@ use Rattle.cutting.specs.Moved.{movedForest, movedRefusal, movedWhole, M
 use Rattle.cutting.specs.Cutting.{listAnswer, listTable, Recorded, done, reads, ends, AnyPortions}
 use Rattle.cutting.proofs.Shift.{size-moved}
 use Rattle.cutting.proofs.Records.{size-joined, spans-joined, spans-moved}
-use Rattle.cutting.proofs.Soil.{dirt-joined, framed-moved, list-framed}
+use Rattle.cutting.proofs.Soil.{dirt-joined, framed-moved}
 use Rattle.cutting.proofs.Fold.{joinedWhole, continued, joined-none, joined-twice, cut-list}
 use Rattle.cutting.proofs.Told.{toldAs, Roomy, told, roomy, given-told}
 use Rattle.cutting.proofs.Calls.{forest-joined, told-gives, given-spans, vec2-cut, vec2-moved}

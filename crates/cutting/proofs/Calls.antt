@@ -24,6 +24,7 @@ use Rattle.decoder.proofs.Cuts.{restOf, rest-accepted}
 use Rattle.table.specs.Tree.{Spans}
 use Rattle.calls.specs.Words.{Gives, Allowed}
 use Rattle.calls.proofs.Answered.{held}
+use Rattle.calls.proofs.Longer.Frames.{dirt-longer}
 use Rattle.calls.proofs.Longer.Stay.{list-stays}
 use Rattle.osc10.specs.Words.{Bytes}
 use Rattle.osc10.proofs.Arguments.{join}
@@ -32,7 +33,7 @@ use Rattle.cutting.specs.Moved.{movedForest, movedRefusal, movedWhole, M
 use Rattle.cutting.specs.Cutting.{listAnswer, listTable, joinedAnswer, FirstPart, YieldsRest, CutChangesNothing, EveryCut}
 use Rattle.cutting.proofs.Shift.{size-moved, rest-moved}
 use Rattle.cutting.proofs.Records.{size-joined, spans-joined, spans-moved}
-use Rattle.cutting.proofs.Soil.{dirt-joined, dirt-moved, dirt-longer}
+use Rattle.cutting.proofs.Soil.{dirt-joined, dirt-moved}
 use Rattle.cutting.proofs.Fold.{joinedWhole, continued, cut-list}
 use Rattle.cutting.proofs.Told.{toldAs, Roomy, told, roomy, given-told}
 

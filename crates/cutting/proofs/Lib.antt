@@ -1,7 +1,7 @@
 -- Ticket 14, proved.
 --     Shift         what is read k bytes further on is the same, moved
 --     Records       trees side by side, and trees further on, in the table
---     Soil          the dirty padding of both, and with bytes appended
+--     Soil          the dirty padding of both
 --     Fold          a list is read in one go or in two
 --     Told          what a call answers where no limit refuses it
 --     Calls         the three laws of a cut, over answers and tables

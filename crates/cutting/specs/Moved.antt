@@ -4,15 +4,13 @@ use mathlib.Core.Path.{_≡_}
 use mathlib.Core.Bool.{cond}
 use mathlib.Core.List.{List}
 use Prim.Native.Nat.{ℕ, _+_, _<_}
-use Rattle.refusal.specs.Refusal.{movedBy}
-use Rattle.refusal.specs.declared.Refusal.{Refusal}
-use Rattle.refusal.specs.declared.Refusal.the-variants.{TooLong, Unreadable, TooDeep, TableFull, BadTable, OutputShort, DepthLimit}
-use Rattle.refusal.specs.declared.Refusal.the-variants.{PadOverflow, BytesLeft, OddLength}
 use Rattle.node.specs.Forest.{Forest, nil, node}
 use Rattle.node.specs.Records.{itemAt, endAt}
 use Rattle.node.specs.declared.record.Item.{Item}
 use Rattle.framing.specs.Framing.{Whole, trees, waiting, refusal, stopped}
 use Rattle.given.specs.Encodable.{rangedKind}
+-- a refusal is moved where its field is
+pub use Rattle.refusal.specs.Refusal.{movedRefusal}
 
 -- a node's own numbers k bytes further on: its fifth number is moved, and `a` where its kind has a range (Ticket 14)
 abbrev pub movedItem : ℕ → Item → Item
@@ -23,19 +21,6 @@ movedItem k item =
 unfoldable pub movedForest : ℕ → Forest → Forest
 movedForest k nil = nil
 movedForest k (node item inside rest) = node (movedItem k item) (movedForest k inside) (movedForest k rest)
-
--- a refusal k bytes further on: the offset of a field that was short is moved, and no other refusal has one (Ticket 2)
-abbrev pub movedRefusal : ℕ → Refusal → Refusal
-movedRefusal k TooLong = TooLong
-movedRefusal k (Unreadable fault) = Unreadable (movedBy k fault)
-movedRefusal k TooDeep = TooDeep
-movedRefusal k TableFull = TableFull
-movedRefusal k BadTable = BadTable
-movedRefusal k OutputShort = OutputShort
-movedRefusal k DepthLimit = DepthLimit
-movedRefusal k PadOverflow = PadOverflow
-movedRefusal k BytesLeft = BytesLeft
-movedRefusal k OddLength = OddLength
 
 -- a list k bytes further on; how many bytes are left of it does not change
 abbrev pub movedWhole : ℕ → Whole → Whole

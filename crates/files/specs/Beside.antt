@@ -13,3 +13,7 @@ besideName path digits = (path ++ dotPart) ++ digits
 -- the length of the longest name that leaves room for ".part" and 16 digits in a path, which has at most 4,095 bytes
 abbrev pub longestName : ℕ
 longestName = 4074
+
+-- how long ".part" and 16 digits are
+abbrev pub suffixLength : ℕ
+suffixLength = 21

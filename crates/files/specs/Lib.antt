@@ -1,3 +1,6 @@
 pub mod Beside
 pub mod Told
 pub mod Rest
+pub mod Fits
+pub mod Shown
+pub mod Numbers

@@ -2,6 +2,7 @@
 // file by links and by folders are told; two names that it has in its own right (hard links) are not, and there the other name keeps
 // the bytes.
 use crate::beside::number_of;
+use crate::beside::target_of;
 use wire::copy;
 ghost use Rattle.io.specs.Counts.{Counts};
 ghost use Rattle.libc.specs.Io.{Ended};
@@ -59,4 +60,14 @@ pub fn is_output(fd: i32, output: &[u8]) -> bool {
     let is_same = is_one(fd, other);
     libc::close(other);
     is_same
+}
+
+// Whether two open files that are written beside others are beside the same one, or cannot be told apart: their names differ in their last
+// digits alone.
+pub fn is_beside(a: i32, b: i32) -> bool {
+    let mut name = io::buffer();
+    let n = own_name(a, &mut name);
+    let mut other = io::buffer();
+    let m = own_name(b, &mut other);
+    check::same(target_of(&name[..n]), target_of(&other[..m]))
 }

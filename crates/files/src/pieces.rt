@@ -5,9 +5,11 @@ use crate::input::Got;
 use crate::input::read_up;
 use crate::input::unread;
 use crate::one::is_output;
+ghost use mathlib.Core.Path.{_≡_};
 ghost use Prim.Native.Nat.{_≤_};
 ghost use lib.ListN.{length};
 ghost use Rattle.io.specs.Counts.{Counts};
+ghost use Rattle.files.specs.Numbers.{placeOf, endsEarly, hasLost};
 ghost use Rattle.files.specs.Rest.{ReadsOn};
 
 // What became of a file that was to be opened.
@@ -78,7 +80,11 @@ pub fn read_at(fd: i32, path: &[u8], offset: u64, buf: &mut [u8]) -> Got
 }
 
 // An offset as the system has it, which has none that is negative or over 2^63 - 1.
-fn place_of(offset: u64) -> i64 {
+//
+// Ruled out: an offset cut to 32 bits; a place for an offset of 2^63.
+fn place_of(offset: u64) -> i64
+    ensures { λ r. ⌜ r ≡ placeOf offset ⌝ }
+{
     if offset < 0x8000_0000_0000_0000 {
         return offset as i64;
     }
@@ -92,22 +98,38 @@ pub fn length_of(fd: i32) -> u64 {
     long_number_of(end)
 }
 
-// Whether an open file, which had `size` bytes, has lost some since: it is shorter now, or `total` bytes were read of it and it has
-// fewer, or it ended there. Of a file whose length the system does not tell, none is missed.
-pub fn is_shorter(fd: i32, size: u64, total: u64, is_end: bool) -> bool {
+// Whether a file that had `size` bytes ended after `total` of them, which are fewer.
+fn ends_early(size: u64, total: u64, is_end: bool) -> bool
+    ensures { λ r. ⌜ r ≡ endsEarly size total «is_end» ⌝ }
+{
+    if is_end {
+        return total < size;
+    }
+    false
+}
+
+// Whether a file that had `size` bytes and has `now` has lost some: it is shorter now, or `total` bytes were read of it and it has fewer,
+// or it ended there. Of a file whose length the system does not tell, none is missed.
+//
+// Ruled out: a file that ended too early taken for whole; one that grew taken for shorter.
+fn has_lost(size: u64, now: u64, total: u64, is_end: bool) -> bool
+    ensures { λ r. ⌜ r ≡ hasLost size now total «is_end» ⌝ }
+{
     if size == 0 {
         return false;
     }
-    if is_end {
-        if total < size {
-            return true;
-        }
+    if ends_early(size, total, is_end) {
+        return true;
     }
-    let now = length_of(fd);
     if now < size {
         return true;
     }
     now < total
+}
+
+// The same of an open file.
+pub fn is_shorter(fd: i32, size: u64, total: u64, is_end: bool) -> bool {
+    has_lost(size, length_of(fd), total, is_end)
 }
 
 // Closes it.

@@ -115,10 +115,11 @@ pub extern "C" fn osc_read_portion(
 
 // A step that writes the cue index of a recording in edition 2: `bytes` stand at offset `base` of it. The records written to `out` in bits
 // 32 to 55, and in bits 0 to 31 the bytes that were used: the next step begins after them; or the number of the call's refusal in bits 56
-// to 63. `more` is 1 where the frame after the used bytes is not all there, has the number of its refusal in bits 48 to 63 where it is
-// refused, which ends the index, and is 0 otherwise.
+// to 63. `more` is 1 where the frame after the used bytes is not all there, and 0 otherwise; where that frame is refused, which ends the
+// index, it has the number of the refusal in bits 48 to 63, and where its field began that was short in bits 32 to 47, counted from the
+// first of `bytes`.
 //
-// Ruled out: a refused frame told as one that is not all there; a byte of the output changed where a refusal is told.
+// Ruled out: a refused frame told as one that is not all there; a field that was short told by its offset in the frame.
 #[no_mangle]
 pub extern "C" fn osc_index_step(bytes: &[u8], base: u64, out: &mut [u8], more: &mut u64) -> u64
     ensures { λ r. ⌜ CMeets (osc-index-step (now (bytes .entry)) base (now (out .entry))) r (now (more .exit)) (now (out .exit)) ⌝ }

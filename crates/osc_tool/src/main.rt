@@ -3,7 +3,10 @@
 // standard error. What the words mean, what is kept and what is said is decided in `commands`, `outcomes`, `walks` and `telling`; the
 // crates whose names begin with `tool_` read and write files and hand lines on, and here the command is chosen.
 use commands::Command;
+use commands::Worded;
 use commands::command_of;
+use commands::last_of;
+use commands::words_of;
 use tool_cues::checking;
 use tool_cues::cue;
 use tool_cues::index;
@@ -13,18 +16,30 @@ use tool_packets::encode;
 use tool_packets::look;
 use troubles::Trouble;
 
-fn main() {
-    let mut word = io::buffer();
-    let n = os::arg(1, &mut word);
-    match command_of(&word[..n]) {
-        Command::Decode => decode::run(),
-        Command::Encode => encode::run(),
-        Command::Look => look::run(),
-        Command::Index => index::run(),
-        Command::Check => checking::run(),
-        Command::Cue => cue::run(),
+// Runs a command, of whose words there are `count`, --replace not counted.
+fn run(command: Command, count: usize, is_replacing: bool) {
+    match command {
+        Command::Decode => decode::run(count, is_replacing),
+        Command::Encode => encode::run(count, is_replacing),
+        Command::Look => look::run(count),
+        Command::Index => index::run(count, is_replacing),
+        Command::Check => checking::run(count),
+        Command::Cue => cue::run(count, is_replacing),
         Command::Help => say::help(),
         Command::Version => say::version(),
         Command::Unclear => say::trouble(Trouble::NoCommand, 1, 0),
+    }
+}
+
+fn main() {
+    let mut word = io::buffer();
+    let n = os::arg(1, &mut word);
+    let command = command_of(&word[..n]);
+    let count = os::arg_count();
+    let mut last = io::buffer();
+    let m = os::arg(last_of(count), &mut last);
+    match words_of(command, count, &last[..m]) {
+        Worded::As(count, is_replacing) => run(command, count, is_replacing),
+        Worded::Wrong(trouble, i) => say::trouble(trouble, i, 0),
     }
 }

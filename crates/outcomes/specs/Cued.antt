@@ -11,7 +11,7 @@ use Rattle.results.specs.declared.Checked.{Checked}
 use Rattle.results.specs.declared.Checked.the-variants.{Fits, Differs}
 use Rattle.telling.specs.Forms.{Says}
 use Rattle.telling.specs.Refusals.{refusedLine}
-use Rattle.telling.specs.Indexes.{checkedLine}
+use Rattle.telling.specs.Indexes.{differsLine}
 use Rattle.outcomes.specs.declared.cued.Jump.{Jump}
 use Rattle.outcomes.specs.declared.cued.Jump.the-variants.{To, Not}
 
@@ -28,7 +28,7 @@ pub record ChecksPart (before : ℕ) (fresh given : List ℕ) (r : Checked) : Ty
 -- what is said where there is no cue k: that of an index that differs, or that there is no such record
 abbrev pub noCueLine : Checked → List ℕ
 noCueLine (Fits n) = refusedLine BadTable
-noCueLine (Differs k) = checkedLine (Differs k)
+noCueLine (Differs k) = differsLine k
 
 -- there is cue k where the index fits and has more than k records
 abbrev pub hasCue : Checked → ℕ → Bool

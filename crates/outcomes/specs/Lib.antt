@@ -2,3 +2,4 @@ pub mod Kept
 pub mod Told
 pub mod CodeRoots
 pub mod Cued
+pub mod Framed

@@ -4,7 +4,7 @@ use cues::compare_from;
 use refusal::Refusal;
 use results::Checked;
 use results::Encoded;
-use telling::tell_checked;
+use telling::tell_differs;
 use telling::tell_encoded;
 ghost use Prim.Native.Nat.{_≤_};
 ghost use Rattle.cues.specs.Cues.{longestRecording};
@@ -45,7 +45,7 @@ pub fn cue_told(checked: Checked, k: u32, line: &mut [u8]) -> Jump
             })
         }
         Checked::Differs(record) => {
-            let n = tell_checked(Checked::Differs(record), line);
+            let n = tell_differs(record, line);
             Jump::Not(Told {
                 is_kept: false,
                 bytes: 0,

@@ -2,6 +2,7 @@
 // contracts. The program itself reads files, calls these, and writes what they hand back.
 mod roots; // roots.rt: how many packets a table holds
 mod cued; // cued.rt: a recording and its cue index
+mod framed; // framed.rt: a frame of a recording
 
 use commands::Options;
 use commands::Writing;
@@ -10,6 +11,7 @@ pub use cued::check_part;
 pub use cued::cue_told;
 use decoder::decode;
 use edition::Framing;
+pub use framed::frame_told;
 use node::record::MOST_RECORDS;
 use node::record::RECORD_SIZE;
 use node::record::capacity_of;

@@ -1,30 +1,36 @@
 -- Examples, computed: a recording of three frames in four portions, one of them empty, which is cut inside the second frame; and one whose
 -- second frame is refused.
-use mathlib.Core.Path.{_≡_, refl}
+use mathlib.Core.Path.{_≡_, refl, sym}
 use mathlib.Core.List.{List, [], _∷_, _++_}
-use Prim.Native.Nat.{ℕ}
+use Prim.Native.Nat.{ℕ, _+_, _*_}
 use native.Mathlib.Omega.{arith}
-use lib.ListN.{replicate}
+use lib.ListN.{length, take, replicate}
 use Rattle.refusal.specs.declared.Fault.the-variants.{Short}
 use Rattle.refusal.specs.declared.Field.the-variants.{Address}
 use Rattle.refusal.specs.declared.Refusal.the-variants.{Unreadable}
+use Rattle.wire.specs.Limits.{deepest}
 use Rattle.wire.specs.Number.{number, bytes}
 use Rattle.node.specs.Forest.{size, depth, snoc}
 use Rattle.node.specs.Tags.{classOf, sortOf}
 use Rattle.text.specs.Text.{readText}
 use Rattle.argument.specs.Argument.{readArg}
+use Rattle.argument.specs.Dirt.{keptPadding, packetsPadding}
 use Rattle.arguments.specs.Arguments.{readTags}
 use Rattle.heads.specs.Heads.{lengthOf}
 use Rattle.packet.specs.FirstText.{startOf}
 use Rattle.packet.specs.Packet.{readMessage, packetBy, packetAt, readPacket}
-use Rattle.framing.specs.Framing.{cutFrame}
+use Rattle.framing.specs.Framing.{cutFrame, tcp2}
 use Rattle.folding.specs.Folding.{foldAt, joinedBytes}
 use Rattle.folding.specs.Walks.{Walk, reads-on, stops}
 use Rattle.folding.proofs.Examples.{whole-number, text-front, text-rest, short}
-use Rattle.cues.specs.Cues.{indexing, Index, index, indexOf, indexAnswer, Indexes, IndexStep}
+use Rattle.answering.specs.Limits.{decoded}
+use Rattle.cues.specs.Cues.{indexing, Index, index, indexOf, indexAnswer, Indexes, IndexStep, cueOf, entrySize, mostInACue}
+use Rattle.cues.proofs.Cues.{Judges, answer-judges}
+use Rattle.cues.proofs.Steps.{stepped}
 use Rattle.cues.specs.Checks.{comparedAt, compared, checkedAs}
 use Rattle.results.specs.declared.Checked.the-variants.{Fits}
 use Rattle.results.specs.declared.CueAt.the-variants as found
+use Rattle.results.specs.declared.Decoded.the-variants.{Packets}
 use Rattle.results.specs.declared.End.the-variants as end
 use Rattle.results.specs.declared.Indexed.the-variants.{Written}
 use Rattle.recordings.specs.Recordings.{WritingStep, EndToEnd, CueThere, checkedInParts, CueFound}
@@ -76,10 +82,23 @@ unfolding number
 second-cue = every-cue three (entry 0 ++ (entry 16 ++ entry 32)) 48 end.Whole (omega arith) three-index 1 (omega arith)
 
 -- a program walks over the three in three portions, with outputs of 16, of no and of 33 bytes
-first-step : Indexes whole-number 0 (replicate 16 9) (Written 1 16 end.Whole) (entry 0)
+pub first-step : Indexes whole-number 0 (replicate 16 9) (Written 1 16 end.Whole) (entry 0)
 unfolding number bytes size depth snoc classOf sortOf readText readArg readTags startOf readMessage packetBy packetAt readPacket lengthOf
     cutFrame foldAt
 first-step = record { answers = refl; leaves = refl }
+
+-- what it says is the index of its bytes
+first-stepped : indexOf 0 whole-number ≡ index (take (entrySize * 1) (entry 0)) (0 + 16) end.Whole
+first-stepped = stepped first-step .is
+
+-- its frame is judged as the decoder of one frame answers it
+first-decoded : decoded (tcp2 deepest) mostInACue deepest whole-number ≡ Packets 2 0 0
+unfolding number size depth snoc classOf sortOf readText readArg readTags startOf readMessage packetBy packetAt readPacket lengthOf cutFrame
+    tcp2 decoded keptPadding packetsPadding
+first-decoded = refl
+
+first-judged : Judges (length whole-number) (Packets 2 0 0) (cueOf whole-number)
+first-judged = answer-judges whole-number (omega arith) (sym first-decoded)
 
 second-step : Indexes text-front 16 [] (Written 0 0 end.Waiting) []
 unfolding number bytes size depth snoc classOf sortOf readText readArg readTags startOf readMessage packetBy packetAt readPacket lengthOf

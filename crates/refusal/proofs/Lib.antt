@@ -1,2 +1,3 @@
 pub mod Only
+pub mod FurtherOn
 pub mod Examples

@@ -72,3 +72,16 @@ movedBy by BadStart = BadStart
 movedBy by NotOpen = NotOpen
 movedBy by UnknownTag = UnknownTag
 movedBy by NotScalar = NotScalar
+
+-- a refusal k bytes further on: the offset of a field that was short is moved, and no other refusal has one (Ticket 2)
+abbrev pub movedRefusal : ℕ → Refusal → Refusal
+movedRefusal k TooLong = TooLong
+movedRefusal k (Unreadable fault) = Unreadable (movedBy k fault)
+movedRefusal k TooDeep = TooDeep
+movedRefusal k TableFull = TableFull
+movedRefusal k BadTable = BadTable
+movedRefusal k OutputShort = OutputShort
+movedRefusal k DepthLimit = DepthLimit
+movedRefusal k PadOverflow = PadOverflow
+movedRefusal k BytesLeft = BytesLeft
+movedRefusal k OddLength = OddLength

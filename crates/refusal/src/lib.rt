@@ -2,7 +2,7 @@
 // short, where it began (Ticket 2).
 ghost use mathlib.Core.Path.{_≡_};
 ghost use Prim.Native.Nat.{_+_, _^_, _<_};
-ghost use Rattle.refusal.specs.Refusal.{numberOf, faultNumber, fieldNumber, offsetOf, faultOffset, movedBy};
+ghost use Rattle.refusal.specs.Refusal.{numberOf, faultNumber, fieldNumber, offsetOf, faultOffset, movedBy, movedRefusal};
 
 // What was short.
 pub enum Field {
@@ -158,5 +158,26 @@ pub fn moved(by: usize, fault: Fault) -> Fault
         Fault::NotOpen => Fault::NotOpen,
         Fault::UnknownTag => Fault::UnknownTag,
         Fault::NotScalar => Fault::NotScalar,
+    }
+}
+
+// A refusal of a part that begins `by` bytes further on: its field begins there too.
+//
+// Ruled out: the field's place in its part; a place for a refusal that tells its number only.
+pub fn moved_refusal(by: usize, refusal: Refusal) -> Refusal
+    requires { ⌜ by + offsetOf refusal < 2 ^ 64 ⌝ }
+    ensures { λ r. ⌜ r ≡ movedRefusal by refusal ⌝ }
+{
+    match refusal {
+        Refusal::TooLong => Refusal::TooLong,
+        Refusal::Unreadable(fault) => Refusal::Unreadable(moved(by, fault)),
+        Refusal::TooDeep => Refusal::TooDeep,
+        Refusal::TableFull => Refusal::TableFull,
+        Refusal::BadTable => Refusal::BadTable,
+        Refusal::OutputShort => Refusal::OutputShort,
+        Refusal::DepthLimit => Refusal::DepthLimit,
+        Refusal::PadOverflow => Refusal::PadOverflow,
+        Refusal::BytesLeft => Refusal::BytesLeft,
+        Refusal::OddLength => Refusal::OddLength,
     }
 }

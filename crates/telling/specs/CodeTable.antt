@@ -11,7 +11,7 @@ use Rattle.words.specs.Ascii.{ascii}
 use Rattle.telling.specs.Forms.{filledIn}
 use Rattle.telling.specs.Replies.{packetsForm, dirtyForm, stoppedForm, stoppedDirtyForm, waitingForm, writtenForm, versionForm}
 use Rattle.telling.specs.Shown.{recordForm, startForm}
-use Rattle.telling.specs.Indexes.{wholeForm, indexWaitingForm, indexRefusedForm, fitsForm, progressForm}
+use Rattle.telling.specs.Indexes.{writtenWords, fitsWords, wholeForm, indexWaitingForm, indexRefusedForm, progressForm}
 use Rattle.telling.specs.Troubles.{troubleForm}
 use Rattle.telling.specs.declared.line.Line.{Line}
 
@@ -20,8 +20,8 @@ abbrev pub forms : List String
 forms =
     packetsForm ∷ dirtyForm ∷ stoppedForm ∷ stoppedDirtyForm ∷ waitingForm ∷ writtenForm ∷ versionForm ∷ recordForm "" ∷ recordForm " %"
     ∷ recordForm " -%" ∷ recordForm " offset % length %" ∷ recordForm " seconds % fraction %" ∷ recordForm " bits 0x$"
-    ∷ recordForm " bits 0x$$" ∷ recordForm " % % % %" ∷ startForm ∷ wholeForm ∷ indexWaitingForm ∷ indexRefusedForm ∷ fitsForm
-    ∷ progressForm ∷ []
+    ∷ recordForm " bits 0x$$" ∷ recordForm " % % % %" ∷ startForm ∷ wholeForm writtenWords ∷ indexWaitingForm writtenWords
+    ∷ indexRefusedForm writtenWords ∷ wholeForm fitsWords ∷ indexWaitingForm fitsWords ∷ indexRefusedForm fitsWords ∷ progressForm ∷ []
 
 -- the form of each trouble, in the order of the enum
 abbrev pub troubleForms : List String

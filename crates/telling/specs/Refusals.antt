@@ -43,7 +43,7 @@ refusedForms =
     ∷ (22, unused)
     ∷ (23, unused)
     ∷ (24, unused)
-    ∷ (indexDiffers, "refused %: record %\n")
+    ∷ (indexDiffers, "refused %: index differs, record %\n")
     ∷ []
 
 -- the words beside a number

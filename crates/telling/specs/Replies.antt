@@ -67,3 +67,10 @@ encodedLine (encoded.Refused refusal) = refusedLine refusal
 -- the version
 abbrev pub versionLine : List ℕ → List ℕ
 versionLine version = line versionForm [] version
+
+-- a frame of a recording, after the words for its packet, which are the text: its offset in the recording and the packet's length
+abbrev pub frameForm : String
+frameForm = "~, frame at byte %, packet of % bytes\n"
+
+abbrev pub frameLine : ℕ → ℕ → List ℕ → List ℕ
+frameLine at size words = line frameForm (at ∷ size ∷ []) words

@@ -8,12 +8,13 @@ use Rattle.troubles.specs.declared.Trouble.the-variants.{NoCommand, DecodeWords
 use Rattle.troubles.specs.declared.Trouble.the-variants.{OnePacket, NoOption, Twice, NoNumber, ManyRecords, NoName}
 use Rattle.troubles.specs.declared.Trouble.the-variants.{LongName, NoFile, OneFile, TooLarge, NoTable}
 use Rattle.troubles.specs.declared.Trouble.the-variants.{IndexWords, CheckWords, CueWords, Shorter}
+use Rattle.troubles.specs.declared.Trouble.the-variants.{NoReplace, IndexLength, IndexFront, TableLength, TableFront, Exists, TwoNames}
 
 -- what each trouble is, of a word or the name of a file and a number of bytes
 abbrev pub troubleForm : Trouble → String
 troubleForm NoCommand = "osc: the first word is not decode, encode, look, index, check, cue, help or --version: ~\n"
-troubleForm DecodeWords = "osc: decode takes udp|tcp|tcp-vec|tcp2|tcp2-vec INPUT TABLE [--depth N] [--records N]\n"
-troubleForm EncodeWords = "osc: encode takes udp|tcp|tcp2 TABLE SOURCE OUTPUT\n"
+troubleForm DecodeWords = "osc: decode takes udp|tcp|tcp-vec|tcp2|tcp2-vec INPUT TABLE [--depth N] [--records N] [--replace]\n"
+troubleForm EncodeWords = "osc: encode takes udp|tcp|tcp2 TABLE SOURCE OUTPUT [--replace]\n"
 troubleForm LookWords = "osc: look takes TABLE INDEX\n"
 troubleForm NoFraming = "osc: not udp, tcp, tcp-vec, tcp2 or tcp2-vec: ~\n"
 troubleForm OnePacket = "osc: encode writes one packet: udp, tcp or tcp2, not ~\n"
@@ -27,10 +28,21 @@ troubleForm NoFile = "osc: ~: not a file that can be replaced\n"
 troubleForm OneFile = "osc: ~: the output is the same file, or cannot be told from it\n"
 troubleForm TooLarge = "osc: ~: the file is too large: it has at least % bytes\n"
 troubleForm NoTable = "osc: ~: a table has a multiple of 20 bytes, and this has % bytes\n"
-troubleForm IndexWords = "osc: index takes RECORDING INDEX\n"
+troubleForm IndexWords = "osc: index takes RECORDING INDEX [--replace]\n"
 troubleForm CheckWords = "osc: check takes RECORDING INDEX\n"
-troubleForm CueWords = "osc: cue takes RECORDING INDEX K TABLE\n"
+troubleForm CueWords = "osc: cue takes RECORDING INDEX K TABLE PACKET [--replace]\n"
 troubleForm Shorter = "osc: ~: the file became shorter while it was read\n"
+troubleForm NoReplace = "osc: only decode, encode, index and cue take --replace\n"
+troubleForm IndexLength =
+    "osc: ~: this file is not an index (% bytes, not a multiple of 16); nothing was changed. To replace it anyway, add --replace.\n"
+troubleForm IndexFront =
+    "osc: ~: this file is not an index (8 bytes at offset 0 are not zero); nothing was changed. To replace it anyway, add --replace.\n"
+troubleForm TableLength =
+    "osc: ~: this file is not a table (% bytes, not a multiple of 20); nothing was changed. To replace it anyway, add --replace.\n"
+troubleForm TableFront =
+    "osc: ~: this file is not a table (no / or # and three zeros at offset 0); nothing was changed. To replace it anyway, add --replace.\n"
+troubleForm Exists = "osc: ~: this file exists; nothing was changed. To replace it, add --replace.\n"
+troubleForm TwoNames = "osc: ~: the other output has the same name\n"
 
 -- the same with its word and its number
 abbrev pub troubleLine : Trouble → ℕ → List ℕ → List ℕ

@@ -9,10 +9,12 @@ mod indexes; // indexes.rt: the line for a cue index
 mod trouble; // trouble.rt: the line for trouble with a word or a file
 
 pub use indexes::tell_checked;
+pub use indexes::tell_differs;
 pub use indexes::tell_index;
 pub use indexes::tell_progress;
 pub use replies::tell_decoded;
 pub use replies::tell_encoded;
+pub use replies::tell_frame;
 pub use replies::tell_version;
 pub use shown::tell_record;
 pub use shown::tell_start;

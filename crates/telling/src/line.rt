@@ -17,7 +17,7 @@ pub struct Line {
 }
 
 // The forms, a line to each, in the order of the names below.
-const FORMS: [u8; 691] = *b"\
+const FORMS: [u8; 774] = *b"\
 packets: %, records: %, bytes left: %
 packets: %, records: %, bytes left: %, dirty padding bytes: %
 stopped: packets: %, records: %, bytes left: %, ~, frame at offset %
@@ -36,8 +36,10 @@ record %: ~ % % % %, end %
 start %
 index: % records, whole
 index: % records, stopped at %: waiting
-index: % records, stopped at %: refused %
-index fits: % records
+index: % records, stopped at %: ~
+index fits: % records, whole
+index fits: % records, stopped at %: waiting
+index fits: % records, stopped at %: ~
 osc: % MiB read
 ";
 
@@ -79,9 +81,13 @@ pub const INDEX_WAITING: usize = 17;
 
 pub const INDEX_REFUSED: usize = 18;
 
-pub const INDEX_FITS: usize = 19;
+pub const FITS_WHOLE: usize = 19;
 
-pub const PROGRESS: usize = 20;
+pub const FITS_WAITING: usize = 20;
+
+pub const FITS_REFUSED: usize = 21;
+
+pub const PROGRESS: usize = 22;
 
 // A line of a form and as many numbers as one has.
 pub fn formed(form: usize, a: u64, b: u64, c: u64, d: u64, e: u64, f: u64) -> Line

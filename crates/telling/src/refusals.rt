@@ -11,7 +11,7 @@ ghost use Rattle.telling.specs.Refusals.{numberedLine, refusedLine, refu
 ghost use Rattle.telling.specs.CodePut.{wordsRoom, FrontIs};
 
 // The refusals, a line to each: it stands at its number, from 0 on, and is empty where no refusal has that number.
-const REFUSALS: [u8; 1026] = *b"
+const REFUSALS: [u8; 1041] = *b"
 refused %: decode input over 65,535 bytes, or encoded result (prefix included) over it, or frame length over 65,531
 refused %: a packet of no bytes
 
@@ -36,7 +36,7 @@ refused %: the prefix or time tag at offset % is not all there
 
 
 
-refused %: record %
+refused %: index differs, record %
 ";
 
 // Puts the line for the refusal of a number, and the number that is told beside it, at the front of `out`, and answers how long it is. What

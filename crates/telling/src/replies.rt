@@ -1,4 +1,5 @@
 // The line for an answer of the library.
+use crate::form::fill_in;
 use crate::line::DIRTY;
 use crate::line::Line;
 use crate::line::PACKETS;
@@ -18,7 +19,7 @@ ghost use mathlib.Core.Path.{_≡_};
 ghost use mathlib.Core.List.{[]};
 ghost use Rattle.telling.specs.Forms.{Says};
 ghost use Rattle.telling.specs.Refusals.{refusedWords};
-ghost use Rattle.telling.specs.Replies.{packetsLine, stoppedLine, decodedLine, encodedLine, versionLine};
+ghost use Rattle.telling.specs.Replies.{packetsLine, stoppedLine, decodedLine, encodedLine, versionLine, frameLine};
 ghost use Rattle.telling.specs.CodeTable.{saidBy, SaysWith};
 
 // Packets that were read. Their dirty padding is told where there is any, so that the line of a clean packet is as it was.
@@ -65,8 +66,10 @@ fn stopped_line(packets: usize, count: usize, left: usize, dirty: usize, frame: 
     )
 }
 
-// Puts such a line with the words of the refusal as its text.
-fn tell_stopped(line: Line, refusal: Refusal, out: &mut [u8]) -> usize
+// Puts a line with the words of a refusal as its text.
+//
+// Ruled out: the words of another refusal; the line without them.
+pub fn tell_stopped(line: Line, refusal: Refusal, out: &mut [u8]) -> usize
     ensures { λ r. ⌜ Says (saidBy line (refusedWords refusal)) (now (out .exit)) r ⌝ }
 {
     let mut words = io::buffer();
@@ -119,4 +122,16 @@ pub fn tell_version(version: &[u8], out: &mut [u8]) -> usize
     ensures { λ r. ⌜ Says (versionLine (now (version .entry))) (now (out .exit)) r ⌝ }
 {
     tell(formed(VERSION, 0, 0, 0, 0, 0, 0), version, out)
+}
+
+// The words for a frame of a recording, after those for its packet.
+const FRAMED: [u8; 38] = *b"~, frame at byte %, packet of % bytes\n";
+
+// The same for a frame of a recording: the words for its packet, where the frame begins and how long the packet is.
+//
+// Ruled out: the length of the packet in the place of the frame's offset; the words for the packet alone.
+pub fn tell_frame(at: u64, size: usize, words: &[u8], out: &mut [u8]) -> usize
+    ensures { λ r. ⌜ Says (frameLine at size (now (words .entry))) (now (out .exit)) r ⌝ }
+{
+    fill_in(&FRAMED, &[at, size as u64], words, out)
 }

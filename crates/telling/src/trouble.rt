@@ -7,10 +7,10 @@ ghost use Rattle.telling.specs.Forms.{Says};
 ghost use Rattle.telling.specs.Troubles.{troubleLine};
 
 // The troubles, a line to each, in the order of `Trouble`.
-const TROUBLES: [u8; 944] = *b"\
+const TROUBLES: [u8; 1683] = *b"\
 osc: the first word is not decode, encode, look, index, check, cue, help or --version: ~
-osc: decode takes udp|tcp|tcp-vec|tcp2|tcp2-vec INPUT TABLE [--depth N] [--records N]
-osc: encode takes udp|tcp|tcp2 TABLE SOURCE OUTPUT
+osc: decode takes udp|tcp|tcp-vec|tcp2|tcp2-vec INPUT TABLE [--depth N] [--records N] [--replace]
+osc: encode takes udp|tcp|tcp2 TABLE SOURCE OUTPUT [--replace]
 osc: look takes TABLE INDEX
 osc: not udp, tcp, tcp-vec, tcp2 or tcp2-vec: ~
 osc: encode writes one packet: udp, tcp or tcp2, not ~
@@ -24,10 +24,17 @@ osc: ~: not a file that can be replaced
 osc: ~: the output is the same file, or cannot be told from it
 osc: ~: the file is too large: it has at least % bytes
 osc: ~: a table has a multiple of 20 bytes, and this has % bytes
-osc: index takes RECORDING INDEX
+osc: index takes RECORDING INDEX [--replace]
 osc: check takes RECORDING INDEX
-osc: cue takes RECORDING INDEX K TABLE
+osc: cue takes RECORDING INDEX K TABLE PACKET [--replace]
 osc: ~: the file became shorter while it was read
+osc: only decode, encode, index and cue take --replace
+osc: ~: this file is not an index (% bytes, not a multiple of 16); nothing was changed. To replace it anyway, add --replace.
+osc: ~: this file is not an index (8 bytes at offset 0 are not zero); nothing was changed. To replace it anyway, add --replace.
+osc: ~: this file is not a table (% bytes, not a multiple of 20); nothing was changed. To replace it anyway, add --replace.
+osc: ~: this file is not a table (no / or # and three zeros at offset 0); nothing was changed. To replace it anyway, add --replace.
+osc: ~: this file exists; nothing was changed. To replace it, add --replace.
+osc: ~: the other output has the same name
 ";
 
 // Puts the line for a trouble with a word, or with a file and a number of its bytes, at the front of `out`, and answers how long it is.

@@ -20,6 +20,7 @@ c-boundary =
       step-once = Rattle.apart.proofs.Once.step-once;
       portion-apart = Rattle.apart.proofs.Once.portion-apart;
       index-told = Rattle.apart.proofs.IndexTold.index-told;
+      index-once = Rattle.apart.proofs.IndexTold.index-once;
       cue-told = Rattle.apart.proofs.IndexTold.cue-told;
       decoded-apart = Rattle.apart.proofs.Once.decoded-apart;
       told-apart = Rattle.apart.proofs.Once.told-apart;

@@ -29,6 +29,7 @@ second-demand =
       strict-frame-written = Rattle.standards.proofs.Osc10.Written.strict-frame-written;
       frame-accepted = Rattle.standards.proofs.Osc10.Accepted.frame-accepted;
       octets = Rattle.utf8.proofs.Grammar.octets;
+      is-utf8-only = Rattle.utf8.proofs.Only.is-utf8-only;
       encode-fours = Rattle.encoder.proofs.Fours.encode-fours;
       encode-tcp-fours = Rattle.encoder.proofs.Fours.encode-tcp-fours;
       encode-string-fours = Rattle.encoder.proofs.Fours.encode-string-fours;

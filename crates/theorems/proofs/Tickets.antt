@@ -1,6 +1,6 @@
 -- The theorem of each row of specs/Tickets.antt.
 use mathlib.Core.Path.{refl, sym, subst, ap, _∙_}
-use Rattle.theorems.specs.Tickets.{Ticket1, Ticket2, Ticket4, Ticket5, Ticket8, Ticket10, Ticket14}
+use Rattle.theorems.specs.Tickets.{Ticket1, Ticket2, Ticket4, Ticket5, Ticket6, Ticket8, Ticket10, Ticket14}
 
 pub ticket1 : Ticket1
 ticket1 =
@@ -24,6 +24,11 @@ ticket2 =
       frame-field-short = Rattle.calls.proofs.Fields.Told.frame-field-short;
       cut-fields-short = Rattle.calls.proofs.Fields.Cut.cut-fields-short;
       cut-frame-short = Rattle.calls.proofs.Fields.Cut.cut-frame-short;
+      one-field-udp = Rattle.calls.proofs.Fields.One.one-field-udp;
+      one-field-tcp = Rattle.calls.proofs.Fields.One.one-field-tcp;
+      one-field-list = Rattle.calls.proofs.Fields.One.one-field-list;
+      one-field-cut = Rattle.calls.proofs.Fields.One.one-field-cut;
+      one-field-cut-list = Rattle.calls.proofs.Fields.One.one-field-cut-list;
     }
 
 pub ticket4 : Ticket4
@@ -62,9 +67,14 @@ ticket5 =
       every-cue = Rattle.recordings.proofs.Lookup.every-cue;
     }
 
+pub ticket6 : Ticket6
+ticket6 = record { run-passes = Rattle.utf8.proofs.Plain.run-passes; same-promise = Rattle.utf8.proofs.Only.is-utf8-only }
+
 pub ticket8 : Ticket8
 ticket8 =
     record {
+      text-padded = Rattle.argument.proofs.Dirt.text-padded;
+      blob-padded = Rattle.argument.proofs.Dirt.blob-padded;
       dirt-cases = Rattle.decoder.proofs.Examples.traps;
       dirt-low = Rattle.calls.proofs.Soiled.dirt-low;
       clean-only = Rattle.calls.proofs.Soiled.clean-only;
@@ -77,7 +87,12 @@ ticket8 =
     }
 
 pub ticket10 : Ticket10
-ticket10 = record { gives-starts = Rattle.given.proofs.Starts.Tables.gives-starts }
+ticket10 =
+    record {
+      gives-starts = Rattle.given.proofs.Starts.Tables.gives-starts;
+      encode-ignores = Rattle.standards.proofs.Ignored.encode-ignores;
+      encode-tcp-ignores = Rattle.standards.proofs.Ignored.encode-tcp-ignores;
+    }
 
 pub ticket14 : Ticket14
 ticket14 =

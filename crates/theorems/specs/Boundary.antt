@@ -2,7 +2,7 @@
 use Rattle.told.specs.Told.{Unpacks, KindsApart}
 use Rattle.apart.specs.Boundary.{CSettled, EndsListed, ToldApart, StopsApart, EndsApart, IndexEndsApart, DiffersApart}
 use Rattle.apart.specs.ReadBack.{DecodedApart, PortionApart, EncodedApart, StringApart, ToldOnce, ToldAlone, NoneWaits, RefusalTold}
-use Rattle.apart.specs.ReadBack.{StepTold, StepOnce, IndexTold, CueTold, EncodedOnce, PadOnce}
+use Rattle.apart.specs.ReadBack.{StepTold, StepOnce, IndexTold, IndexOnce, CueTold, EncodedOnce, PadOnce}
 
 -- The C boundary
 pub record CBoundary : Type 1 where
@@ -36,10 +36,13 @@ pub record CBoundary : Type 1 where
   pub step-once : StepOnce
   pub portion-apart : PortionApart
   -- Of a step that writes an index, and of a cue that is looked up, every part of the answer is read back from the number and what is
-  -- written beside it (Ticket 5).
+  -- written beside it (Ticket 5); of a refused frame that ends an index also where the field began that was short (Ticket 2). Two answers
+  -- of such a step never have the same numbers.
   -- definitions: apart/IndexBack, apart/CueBack
-  -- edits: told/refused_frame_of_an_index_waits, osc/record_counted_within_its_part, told/offset_left_of_no_cue
+  -- edits: told/refused_frame_of_an_index_waits, told/field_of_an_index_counted_from_its_frame, told/field_of_an_index_left_out
+  -- edits: osc/record_counted_within_its_part, told/offset_left_of_no_cue
   pub index-told : IndexTold
+  pub index-once : IndexOnce
   pub cue-told : CueTold
   -- The parts of an answer's number are what was answered. The number of an encoder and of `osc_pad` stands for one answer.
   -- edits: told/count_with_the_refusal, told/count_in_the_low_bits, told/refusal_in_the_low_bits, told/half_of_the_bytes_told

@@ -1,9 +1,10 @@
--- Document 01: its examples, its rule of unclosed arrays, and the node table.
+-- Document 01: its examples, its rule of unclosed arrays, the UTF-8 automaton, and the node table.
 use mathlib.Core.Path.{_≡_}
 use mathlib.Core.List.{List}
 use Prim.Native.Nat.{ℕ, _*_, _<_}
 use lib.ListN.{take, getD}
 use Rattle.edition.specs.declared.Framing.{Framing}
+use Rattle.utf8.specs.Automaton.{ClassRule, StepRule}
 use Rattle.node.specs.Forest.{Forest, nil, node}
 use Rattle.node.specs.Records.{recordSize, itemAt, recordsOf}
 use Rattle.node.specs.declared.record.Item.{Item}
@@ -26,6 +27,19 @@ pub record Document01 : Type 0 where
   -- edits: arguments/lost_data_not_consumed, arguments/refused_tags_end_so
   pub since-last : KeptSinceLast
   pub ends-so : EndsSo
+  -- UTF-8 is judged by a small automaton. Its table of classes has for each of the 256 byte values its class: how many of the limits of the
+  -- grammar's ranges are at or below it. Proved by one computed test over the whole table.
+  -- definitions: utf8/byteClass, utf8/classes
+  -- code: utf8/walk
+  -- edits: utf8/c0_classed_with_c2, utf8/class_limit_moved
+  pub class-rule : ClassRule
+  -- Its table of next states is indexed by state and class, and each byte does one step of RFC 3629's grammar: in each of the 9 states
+  -- and on each byte value, the entry is the state that waits for what the grammar's step leaves. Proved by one computed test over the
+  -- whole table.
+  -- definitions: utf8/nextOf, utf8/nexts, utf8/wants, utf8/step
+  -- code: utf8/advance, utf8/walk
+  -- edits: utf8/surrogate_entry, utf8/c0_classed_with_c2, utf8/f5_begins_a_character, utf8/first_state_kept, utf8/surrogates_let_in
+  pub step-rule : StepRule
   -- A well-formed table is the records of one tree, byte for byte.
   -- edits: table/zeros_after_the_last_record, table/root_end_not_compared, table/child_past_its_container
   -- edits: table/zero_bytes_not_looked_at

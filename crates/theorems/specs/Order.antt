@@ -1,6 +1,7 @@
 -- The order's three demands, a sentence to a row. A row is its words, the edits that make it false, and its statements as types;
 -- proofs/Order.antt names the theorem that has each type. .ci/table says how a row is written.
 use mathlib.Core.Path.{_≡_}
+use mathlib.Core.Bool.{Bool}
 use mathlib.Core.List.{List}
 use Prim.Native.Nat.{ℕ, _≤_}
 use Rattle.refusal.specs.Refusal.{numberOf, offsetOf}
@@ -91,9 +92,12 @@ pub record SecondDemand : Type 0 where
   pub frame-written : FrameWritten
   pub strict-frame-written : StrictFrameWritten
   pub frame-accepted : FrameAccepted
-  -- Text is accepted exactly if RFC 3629's grammar has it.
-  -- edits: utf8/surrogates_read, utf8/overlong_let_in, utf8/surrogates_let_in, utf8/beyond_unicode_let_in
+  -- Text is accepted exactly if RFC 3629's grammar has it. `is_utf8` answers true exactly then, and no other answer meets its contract.
+  -- definitions: utf8/Octets, utf8/Decides
+  -- code: utf8/is_utf8
+  -- edits: utf8/surrogates_read, utf8/overlong_let_in, utf8/surrogates_let_in, utf8/beyond_unicode_let_in, utf8/cut_accepted
   pub octets : (s : List ℕ) → Decides (utf8 s) (Octets s)
+  pub is-utf8-only : (s : List ℕ) (a b : Bool) → Decides a (Octets s) → Decides b (Octets s) → a ≡ b
   -- What is encoded has a multiple of four bytes.
   -- edits: encoder/written_in_eights, standards/trip_in_eights, strings/one_nul_too_few
   pub encode-fours : (table : List ℕ) (count : ℕ) (source out : List ℕ) (r : Outcome) → Encodes unframed table count source out r
@@ -119,9 +123,10 @@ pub record ThirdDemand : Type 0 where
   -- edits: calls/room_with_a_lower_limit, calls/room_with_a_limit_of_65
   pub more-room : MoreRoom
   -- In edition 2, with more bytes and a depth limit no lower, every record that was given stays in its place, unless 1, 10 or 13 refuses
-  -- the call. More room is as above, where a list that stops with 9 counts as 9 (`NotFull`).
-  -- definitions: calls/NotFull
-  -- edits: calls/stays_at_a_lower_limit, calls/nine_of_a_frame_stays
+  -- the call. The number of dirty padding bytes does not fall, and of one frame it stays, with the number of records. More room is as
+  -- above, where a list that stops with 9 counts as 9 (`NotFull`).
+  -- definitions: calls/NotFull, calls/Stay
+  -- edits: calls/stays_at_a_lower_limit, calls/nine_of_a_frame_stays, calls/frames_dirt_falls
   pub frame-stays : PacketsStay (Tcp Standard)
   pub list-stays : PacketsStay (TcpVec Standard)
   -- More bytes never take back a packet.

@@ -1,6 +1,6 @@
 -- Document 02's tickets, a sentence to a row.
 use mathlib.Core.Path.{_≡_}
-use mathlib.Core.Bool.{true}
+use mathlib.Core.Bool.{Bool, true}
 use mathlib.Core.List.{List, [], _∷_, _++_}
 use Prim.Native.Nat.{ℕ, _+_, _-_, _*_, _^_, _≤_, _<_}
 use lib.ListN.{length, take}
@@ -9,12 +9,14 @@ use Rattle.edition.specs.declared.Framing.{Framing}
 use Rattle.refusal.specs.Refusal.{numberOf}
 use Rattle.refusal.specs.declared.Refusal.{Refusal}
 use Rattle.wire.specs.Limits.{longest, deepest}
+use Rattle.utf8.specs.Utf8.{Octets, Decides}
+use Rattle.utf8.specs.Automaton.{RunPasses}
 use Rattle.node.specs.Forest.{Forest, nil, node}
 use Rattle.node.specs.Tags.{among}
 use Rattle.node.specs.declared.record.Item.{Item}
-use Rattle.argument.specs.Dirt.{dirtyIn}
+use Rattle.argument.specs.Dirt.{TextPadded, BlobPadded, dirtyIn}
 use Rattle.packet.specs.Packet.{one, readPacket}
-use Rattle.framing.specs.Framing.{udp, tcp, tcp2, read, cutFrame}
+use Rattle.framing.specs.Framing.{udp, tcp, tcp2, read, readFrame, cutFrame}
 use Rattle.answering.specs.Limits.{decoded}
 use Rattle.results.specs.declared.Decoded.the-variants.{Packets}
 use Rattle.results.specs.declared.End.{End}
@@ -31,13 +33,15 @@ use Rattle.encoder.specs.Outcome.{Outcome, Encodes, unframed, framedBy}
 use Rattle.encoder.specs.AfterNo.{AfterNo, NoOutcome}
 use Rattle.osc10.specs.Osc10.{Packet, Allowed, Spells}
 use Rattle.calls.specs.Demands.{MoreRoom, MoreBytes, DirtLow, CleanOnly}
-use Rattle.calls.specs.Fields.{FieldsShort, FrameShort, CutFieldsShort, CutFrameShort}
+use Rattle.calls.specs.Fields.{PacketShort, FrameShort, CutShort, FieldsShort, ListFieldsShort, CutFieldsShort, CutFrameShort}
+use Rattle.calls.specs.Fields.{OneField, OneInList}
 use Rattle.given.specs.Starts.{GivesStarts}
 use Rattle.cutting.specs.Cutting.{EveryCut, AnyPortions}
 use Rattle.recordings.specs.Recordings.{CutIndex, AnyBuffers, EveryWalk, EveryCheck, WalkChecks, WhereCuesLie, CheckedCue, EveryCue}
 use Rattle.check_walk.specs.Chain.{WalkTells}
 use Rattle.tool_walks.specs.Runs.{RunWrites, RunChecks}
 use Rattle.tool_recordings.specs.Loops.{LoopWrites}
+use Rattle.standards.specs.Ignored.{IgnoresStarts}
 use Rattle.standards.specs.Trip.{RoundTrip}
 use Rattle.standards.specs.Streams.{CutAccepted, CutSeen, StreamAccepted, CutWritten, StrictCutWritten, CutTrip, FramesTrip}
 
@@ -58,28 +62,38 @@ pub record Ticket1 : Type 0 where
   -- The readings that the ticket names, 24 cases as calls with the whole table afterwards. If a list stops, what is left begins with the
   -- refused frame and has at least the 4 bytes of its prefix.
   -- definitions: decoder/WholeLow
-  -- edits: decoder/frame_after_its_prefix, decoder/three_bytes_are_short, framing/fifteen_before_four
+  -- edits: standard_inputs/frame_told_by_its_records, heads/three_bytes_are_refused, framing/fifteen_before_four
   -- edits: standard_inputs/nine_told_as_fifteen, answering/stopped_list_never_full
   pub editions : Each standard
   pub whole-low : OffsetsLow
 
 -- Ticket 2: Tell us which field was short
 pub record Ticket2 : Type 0 where
-  -- The offset beside 17 to 21 is at most the input's length, and the field that begins there is cut short: a text has no NUL from there
-  -- on; a number or a blob needs more bytes than follow; padding needs more than follow up to a multiple of 4; a prefix has fewer than 4
-  -- bytes, a time tag fewer than 8. In a list this is counted from the start of its frame.
-  -- definitions: calls/FieldShort, calls/ShortIn
+  -- 17 to 21 say which field is cut short, and the offset says where it begins. Fields stand one after another: a frame's prefix; the
+  -- address and its padding; the type text and its padding; the data of each tag, with padding after a text or a blob; after `#bundle` the
+  -- time tag. The field that is told is the first that needs more bytes than follow: a text all up to its NUL, a blob its size and its
+  -- bytes, padding all up to a multiple of 4, a prefix 4 bytes, a time tag 8. In a list it is a field of a frame that the list reads.
+  -- definitions: calls/needs, calls/dataFields, calls/packetFields, calls/ShortIn, calls/ListShort
   -- edits: text/padding_at_the_text, measure/type_text_at_the_start, measure/elements_fault_told, packet/address_told_as_type_text
-  -- edits: argument/blobs_padding_at_its_bytes, rosc_inputs/frame_offset_left_out, decoder/base_added_twice
-  -- edits: calls/time_tag_of_four_bytes
-  pub fields-short-udp : FieldsShort udp
-  pub fields-short-tcp : FieldsShort tcp
-  pub frame-field-short : FrameShort
-  -- In edition 2 the field is cut short within its frame, whatever follows the frame. Padding is never short there, nor is a prefix.
+  -- edits: argument/blobs_padding_at_its_bytes, rosc_inputs/frame_offset_left_out, standard_inputs/field_from_its_frame
+  -- edits: calls/time_tag_of_four_bytes, calls/type_text_after_the_nul
+  pub fields-short-udp : FieldsShort udp PacketShort
+  pub fields-short-tcp : FieldsShort tcp FrameShort
+  pub frame-field-short : ListFieldsShort
+  -- In edition 2 the field is cut short within its frame, whatever follows the frame. Padding is never short there, nor is a prefix. A list
+  -- tells the field of the frame at which it stops.
   -- definitions: calls/CutShort
   -- edits: calls/frame_cut_a_word_later
   pub cut-fields-short : CutFieldsShort
   pub cut-frame-short : CutFrameShort
+  -- No second number or offset fits the same bytes, nor, in a list, a second frame.
+  -- definitions: calls/ShortIn, calls/Reaches
+  -- edits: calls/two_fields_short
+  pub one-field-udp : OneField PacketShort
+  pub one-field-tcp : OneField FrameShort
+  pub one-field-list : OneInList (λ b l. readFrame b l) FrameShort
+  pub one-field-cut : OneField CutShort
+  pub one-field-cut-list : (limit : ℕ) → OneInList (λ b l. cutFrame limit b l) CutShort
 
 -- Ticket 4: Nesting counts arrays too
 pub record Ticket4 : Type 0 where
@@ -175,13 +189,38 @@ pub record Ticket5 : Type 0 where
   pub checked-cue : CheckedCue
   pub every-cue : EveryCue
 
+-- Ticket 6: Plain text faster
+pub record Ticket6 : Type 0 where
+  -- The UTF-8 test steps over runs of bytes below 128 without table lookups: at the front of a text by blocks of 256 and 64 bytes
+  -- (`skip`), of at most 64 bytes by their two ends (`high_in_few`), and after a longer character by blocks of 32, where no character is
+  -- open (`across`). Bytes of a run that fill no such block are looked up. A run that is passed over changes no answer on what follows
+  -- it. That no table is looked up there stands in the code; no theorem says it.
+  -- code: utf8/skip, utf8/high_in_few, utf8/across
+  -- edits: utf8/passed_while_open, utf8/c1_taken_for_ascii, utf8/middle_byte_unseen, utf8/lowest_for_highest, utf8/letters_not_passed
+  -- edits: utf8/run_of_80
+  pub run-passes : RunPasses
+  -- Its promise stays as it is, and no caller changes: the contract of `is_utf8` says, as before the ticket, that the answer is true
+  -- exactly if the bytes are in RFC 3629's grammar, and one answer meets it. The times before and after stand in the note of landing 13.
+  -- definitions: utf8/Octets, utf8/Decides
+  -- code: utf8/is_utf8
+  -- edits: utf8/cut_accepted, utf8/passed_while_open
+  pub same-promise : (s : List ℕ) (a b : Bool) → Decides a (Octets s) → Decides b (Octets s) → a ≡ b
+
 -- Ticket 8: Dirty padding is to be seen
 pub record Ticket8 : Type 0 where
+  -- Reading text or a blob also answers how many padding bytes are not zero: for an argument `pass_arg`, beside how many bytes it takes;
+  -- for an address, a type text and `#bundle` the call of `dirty_in` that follows its reading (docs/DECISIONS.md, 57). What is counted is
+  -- the padding: after the ending NUL of a text, or after a blob's bytes, up to where it ends.
+  -- definitions: text/nonZero, argument/textPadding, argument/argPadding
+  -- code: scan/pass_arg, text/dirty_in, measure/measure_packet, measure/measure_message
+  -- edits: argument/nul_counted_as_padding, text/third_byte_unseen, scan/blobs_dirt_from_its_size, measure/type_texts_dirt_left_out
+  pub text-padded : TextPadded
+  pub blob-padded : BlobPadded
   -- Every accepted packet comes with the number of its padding bytes that are not zero, counted over all that is kept; a list with the sum.
   -- `decoded` goes by the definition `dirtyIn`; five of the misread inputs show it.
   -- definitions: argument/dirtyIn, answering/decoded
   -- edits: argument/nul_counted_as_padding, text/third_byte_unseen, arguments/lost_dirt_counted, measure/type_texts_dirt_left_out
-  -- edits: measure/elements_dirt_left_out, decoder/failed_element_counted, answering/left_told_as_dirt
+  -- edits: measure/elements_dirt_left_out, answering/left_told_as_dirt
   pub dirt-cases : Each misread
   -- It is at most three for each text, blob and `#bundle` that is kept (a message has two texts of its own), and 0 exactly if every padding
   -- byte of what is kept is 0. This holds for every framing.
@@ -201,12 +240,21 @@ pub record Ticket8 : Type 0 where
 
 -- Ticket 10: Where each item began
 pub record Ticket10 : Type 0 where
-  -- The fifth numbers of a decoder's table lie in the input and do not fall in preorder. A message's and a text's is its `a`, a blob's its
-  -- `a` less 4. This holds for every framing.
-  -- definitions: given/StartsHold
-  -- edits: given/starts_fall, argument/blob_starts_at_its_bytes, arguments/array_begins_with_the_data
-  -- edits: arguments/array_begins_at_its_end, fill/bundle_begins_at_its_time
+  -- The fifth numbers of a decoder's table lie in the input and do not fall in preorder. At a bundle's stands `#bundle`; a message's and a
+  -- text's is its `a`; at a blob's stands its size, and its `a` is 4 bytes on; at a number's stand the bytes of its `a` (and `b`). Each
+  -- argument begins where the data of the argument before it ends, with its padding, so that an array, and a tag without data, begin where
+  -- the next data does; the first argument of a message begins where the message's data does, unless arguments before it were lost with an
+  -- unclosed array. This holds for every framing.
+  -- definitions: given/StartsHold, given/OwnStart, given/numberBytes, given/dataEnd, given/dataAt
+  -- edits: given/number_a_word_late, given/array_a_word_early, given/data_at_the_type_text, argument/blob_starts_at_its_bytes
+  -- edits: arguments/array_begins_with_the_data, arguments/array_begins_at_its_end, fill/bundle_begins_at_its_time
   pub gives-starts : (framing : Framing) → GivesStarts framing
+  -- The encoders ignore them: tables that differ in their fifth numbers alone give the same answer and the same output, in `encode` and in
+  -- both editions of `encode_tcp`.
+  -- definitions: standards/StartsDiffer
+  -- edits: standards/encoder_ignores_b
+  pub encode-ignores : IgnoresStarts unframed
+  pub encode-tcp-ignores : (edition : Edition) → IgnoresStarts (framedBy edition)
 
 -- Ticket 14: Cutting the stream changes nothing
 pub record Ticket14 : Type 0 where

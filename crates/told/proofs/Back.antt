@@ -1,24 +1,32 @@
 -- The answer of a record: of the answers that a function may give, each is read back from its own.
 use mathlib.Core.Path.{_≡_, refl, sym, ap, _∙_}
 use mathlib.Core.Bool.{Bool, true, false, cond, _&&_}
-use Prim.Native.Nat.{ℕ, _≤_}
+use Prim.Native.Nat.{ℕ, _-_, _≤_}
 use native.Mathlib.Omega.{arith}
 use borrow.Author.Tests.{ne-eqb}
 use lib.Dec.{eqb}
-use Rattle.refusal.specs.Refusal.{numberOf, offsetOf}
+use Rattle.refusal.specs.Refusal.{numberOf, offsetOf, movedRefusal}
 use Rattle.refusal.specs.declared.Refusal.{Refusal}
 use Rattle.refusal.proofs.Only.{which, which-is, no-offset}
+use Rattle.refusal.proofs.FurtherOn.{which-moved}
 use Rattle.results.specs.declared.Decoded.{Decoded}
 use Rattle.results.specs.declared.Decoded.the-variants as decodes
 use Rattle.results.specs.declared.Portion.{Portion}
 use Rattle.results.specs.declared.Portion.the-variants as portion
+use Rattle.results.specs.declared.End.the-variants as end
+use Rattle.results.specs.declared.Indexed.{Indexed}
+use Rattle.results.specs.declared.Indexed.the-variants as indexed
 use Rattle.told.specs.declared.Told.{Told}
-use Rattle.told.specs.Answers.{decodedTold, portionTold}
+use Rattle.told.specs.Answers.{decodedTold, portionTold, indexedTold}
 use Rattle.told.proofs.Unpacked.{number-in}
 
 -- no refusal has the number 0
 numbered : (r : Refusal) → eqb (numberOf r) 0 ≡ false
 numbered r = ne-eqb (numberOf r) 0 (λ e. omega (arith, number-in r .0))
+
+-- a refusal without an offset is read back from its number alone
+which-alone : (r : Refusal) → numberOf r ≤ 16 → which (numberOf r) 0 ≡ r
+which-alone r h = ap (which (numberOf r)) (sym (no-offset r h)) ∙ which-is r
 
 -- ---- a decoder
 
@@ -71,5 +79,26 @@ StepTelling (portion.Refused r) = numberOf r ≤ 16
 pub portion-reads : (a : Portion) → StepTelling a → portionBack (portionTold a) ≡ a
 portion-reads (portion.Read count used dirty) h = refl
 portion-reads (portion.Ended count used dirty r) h = rw (numbered r, which-is r)
-portion-reads (portion.Refused r) h =
-    rw (numbered r) (ap (λ (x : Refusal). portion.Refused x) (ap (which (numberOf r)) (sym (no-offset r h)) ∙ which-is r))
+portion-reads (portion.Refused r) h = rw (numbered r, which-alone r h)
+
+-- ---- a step that writes an index
+
+-- the answer of a record: a field's offset is counted from the call's first byte, and in the refusal from the frame's prefix
+abbrev pub indexedBack : Told → Indexed
+indexedBack t =
+    cond (eqb (t .number) 0)
+    (indexed.Written (t .count) (t .low)
+    (cond (eqb (t .frame) 0) (cond (eqb (t .dirty) 0) end.Whole end.Waiting) (end.Refused (which (t .frame) (t .field - t .low)))))
+    (indexed.Refused (which (t .number) 0))
+
+-- the answers that it tells: a refusal of the call has no offset
+abbrev pub IndexTelling : Indexed → Type 0
+IndexTelling (indexed.Written records used why) = Unit {0}
+IndexTelling (indexed.Refused r) = numberOf r ≤ 16
+
+-- each is read back
+pub indexed-reads : (a : Indexed) → IndexTelling a → indexedBack (indexedTold a) ≡ a
+indexed-reads (indexed.Written records used end.Whole) h = refl
+indexed-reads (indexed.Written records used end.Waiting) h = refl
+indexed-reads (indexed.Written records used (end.Refused r)) h = rw (numbered r, which-moved used r)
+indexed-reads (indexed.Refused r) h = rw (numbered r, which-alone r h)

@@ -2,7 +2,7 @@
 use mathlib.Core.Bool.{cond}
 use Prim.Native.Nat.{ℕ, _+_, _*_}
 use lib.Dec.{ltb}
-use Rattle.refusal.specs.Refusal.{numberOf, offsetOf}
+use Rattle.refusal.specs.Refusal.{numberOf, offsetOf, movedRefusal}
 use Rattle.refusal.specs.declared.Refusal.{Refusal}
 use Rattle.refusal.specs.declared.Refusal.the-variants.{BadTable}
 use Rattle.results.specs.Differs.{indexDiffers}
@@ -60,12 +60,12 @@ portionTold (portion.Ended count used dirty r) =
 portionTold (portion.Refused r) = toldNumber r
 
 -- the answer of a step that writes an index (Ticket 5): the records written and the bytes used; beside them 1 where the next frame is not
--- all there, and the number of its refusal in the frame's part where it is refused
+-- all there; where it is refused, its field's offset from the call's first byte (Ticket 2), and the refusal's number in the frame's part
 abbrev pub indexedTold : Indexed → Told
 indexedTold (indexed.Written records used end.Whole) = toldAnswer records used 0
 indexedTold (indexed.Written records used end.Waiting) = toldAnswer records used 1
 indexedTold (indexed.Written records used (end.Refused r)) =
-    record { number = 0; count = records; low = used; dirty = 0; field = 0; frame = numberOf r }
+    record { number = 0; count = records; low = used; dirty = 0; field = offsetOf (movedRefusal used r); frame = numberOf r }
 indexedTold (indexed.Refused r) = toldNumber r
 
 -- an encoder's answer: the bytes written

@@ -151,10 +151,12 @@ pub fn of_portion(portion: Portion) -> Told
     }
 }
 
-// The answer of a step that writes an index.
+// The answer of a step that writes an index. The refusal of a frame has its field's offset from the frame's prefix on, which stands at
+// `used`; it is told from the call's first byte on.
 //
-// Ruled out: a refused frame told as one that is not all there; the bytes used in the place of the records.
+// Ruled out: a refused frame told as one that is not all there; the offset of its field left out, or counted from the frame.
 pub fn of_indexed(indexed: Indexed) -> Told
+    requires { ⌜ Bounded (indexedTold indexed) ⌝ }
     ensures { λ r. ⌜ r ≡ indexedTold indexed ⌝ }
 {
     match indexed {
@@ -166,7 +168,7 @@ pub fn of_indexed(indexed: Indexed) -> Told
                 count: records as u64,
                 low: used as u64,
                 dirty: 0,
-                field: 0,
+                field: refusal::offset_of(refusal::moved_refusal(used, refusal)) as u64,
                 frame: refusal::number_of(refusal) as u64,
             },
         },

@@ -8,11 +8,11 @@ use tool_files::say;
 use tool_recordings::Judged;
 use tool_recordings::judge;
 
-// Checks an open index against an open recording, and says how it is.
+// Checks an open index against an open recording, and says how it is and where the recording's frames end.
 fn check_open(fd: i32, name: &[u8], index: i32, index_name: &[u8]) {
-    if let Judged::As(checked) = judge(fd, name, index, index_name) {
+    if let Judged::As(checked, at, end) = judge(fd, name, index, index_name) {
         let mut line = io::buffer();
-        let n = tell_checked(checked, &mut line);
+        let n = tell_checked(checked, at, end, &mut line);
         say::answer(&line[..n]);
     }
 }
@@ -43,8 +43,8 @@ fn check_file() {
     }
 }
 
-pub fn run() {
-    match check_asked(os::arg_count()) {
+pub fn run(count: usize) {
+    match check_asked(count) {
         NamesAsked::Good => check_file(),
         NamesAsked::Wrong(trouble, i) => say::trouble(trouble, i, 0),
     }

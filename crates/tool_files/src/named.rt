@@ -1,17 +1,26 @@
 // The files that words of a command name.
 use crate::say;
+use files::Begun;
 use files::Got;
+use files::Kind;
 use files::Opened;
+use files::Place;
 use files::Stored;
 use node::record::RECORD_SIZE;
 use outcomes::Told;
 use troubles::Trouble;
 use words::line::front;
 ghost use mathlib.Core.Path.{_≡_};
-ghost use Prim.Native.Nat.{_%_, _<_};
+ghost use Prim.Native.Nat.{_%_, _≤_, _<_};
 ghost use lib.ListN.{length};
 ghost use Rattle.io.specs.Counts.{Counts};
 ghost use Rattle.node.specs.Records.{recordSize};
+
+// A file that was begun: the descriptor of the file beside it, and how long its name is.
+pub struct Draft {
+    pub fd: i32,
+    pub length: usize,
+}
 
 // Puts word `i`, the name of a file, at the start of `path`, and answers its length; 0 where it cannot be a name, and then
 // says why.
@@ -103,33 +112,213 @@ pub fn read_table(i: usize, output: usize, buf: &mut [u8]) -> Got
     unread()
 }
 
-// Whether a file was written or removed. What is wrong with its name is said here.
+// Whether an open file, which word `i` names, is not the one that word `output` names; where it is, or cannot be told from it, says so.
+pub fn is_apart(fd: i32, i: usize, output: usize) -> bool {
+    let mut other = io::buffer();
+    let m = os::arg(output, &mut other);
+    if files::is_output(fd, &other[..m]) {
+        say::trouble(Trouble::OneFile, i, 0);
+        return false;
+    }
+    true
+}
+
+// Whether a file was written or removed. What is wrong with its name, or with the file that has it, is said here.
 fn is_done(stored: Stored, i: usize) -> bool {
     match stored {
         Stored::Whole => return true,
         Stored::LongName => say::trouble(Trouble::LongName, i, 0),
         Stored::NoFile => say::trouble(Trouble::NoFile, i, 0),
+        Stored::Unfit(trouble, size) => say::trouble(trouble, i, size as usize),
         Stored::Failed => {}
     }
     false
 }
 
+// Begins the file that word `i` names, and answers its descriptor and how long the name of the file beside is, which is at the start of
+// `part`; -1 and 0 where it cannot, and then says why.
+pub fn begin_word(i: usize, path: &[u8], kind: Kind, is_replacing: bool, part: &mut [u8]) -> Draft
+    requires { ⌜ 4095 ≤ length (now part) ⌝ }
+{
+    match files::begin(path, kind, is_replacing, part) {
+        Begun::At(fd, length) => return Draft { fd, length },
+        Begun::LongName => say::trouble(Trouble::LongName, i, 0),
+        Begun::NoFile => say::trouble(Trouble::NoFile, i, 0),
+        Begun::Unfit(trouble, size) => say::trouble(trouble, i, size as usize),
+        Begun::Failed => {}
+    }
+    Draft { fd: -1, length: 0 }
+}
+
+// Whether the file that word `i` names may be written or removed; where it may not, says why. Nothing is changed.
+pub fn may_take(i: usize, kind: Kind, is_replacing: bool) -> bool {
+    let mut path = io::buffer();
+    let n = name_word(i, &mut path);
+    if n == 0 {
+        return false;
+    }
+    match files::place_of(&path[..n], kind, is_replacing) {
+        Place::Free => return true,
+        Place::Held => return true,
+        Place::NoFile => say::trouble(Trouble::NoFile, i, 0),
+        Place::Unfit(trouble, size) => say::trouble(trouble, i, size as usize),
+        Place::Failed => {}
+    }
+    false
+}
+
 // Writes the file that word `i` names, or removes it where nothing is kept; whether that was done.
-fn store(i: usize, is_kept: bool, bytes: &[u8]) -> bool {
+fn store(i: usize, kind: Kind, is_replacing: bool, is_kept: bool, bytes: &[u8]) -> bool {
     let mut path = io::buffer();
     let n = name_word(i, &mut path);
     if n == 0 {
         return false;
     }
     if is_kept {
-        return is_done(files::write(&path[..n], bytes), i);
+        return is_done(files::write(&path[..n], kind, is_replacing, bytes), i);
     }
-    is_done(files::remove(&path[..n]), i)
+    is_done(files::remove(&path[..n], kind, is_replacing), i)
 }
 
 // Leaves what is told to be kept in the file that word `i` names, and then says the line.
-pub fn keep(i: usize, told: Told, bytes: &[u8], line: &[u8]) {
-    if store(i, told.is_kept, front(bytes, told.bytes)) {
+pub fn keep(i: usize, kind: Kind, is_replacing: bool, told: Told, bytes: &[u8], line: &[u8]) {
+    if store(
+        i,
+        kind,
+        is_replacing,
+        told.is_kept,
+        front(bytes, told.bytes),
+    ) {
+        say::answer(front(line, told.line));
+    }
+}
+
+// Removes the files that two words name, a table and a packet; neither where one may not be removed.
+fn remove_both(table: usize, packet: usize, is_replacing: bool) -> bool {
+    if !may_take(packet, Kind::Packet, is_replacing) {
+        return false;
+    }
+    if store(table, Kind::Table, is_replacing, false, b"") {
+        return store(packet, Kind::Packet, is_replacing, false, b"");
+    }
+    false
+}
+
+// Writes two files that were begun, and names them; whether they have their names.
+fn write_both(
+    first: Draft,
+    path: &[u8],
+    part: &[u8],
+    bytes: &[u8],
+    second: Draft,
+    other: &[u8],
+    other_part: &[u8],
+    other_bytes: &[u8],
+) -> bool {
+    if files::add(first.fd, path, bytes) {
+        if files::add(second.fd, other, other_bytes) {
+            return files::finish_both(first.fd, path, part, second.fd, other, other_part);
+        }
+    }
+    files::abandon(first.fd, part);
+    files::abandon(second.fd, other_part);
+    false
+}
+
+// Writes the two files, of which the first was begun.
+fn store_second(
+    first: Draft,
+    path: &[u8],
+    part: &[u8],
+    bytes: &[u8],
+    packet: usize,
+    is_replacing: bool,
+    other_bytes: &[u8],
+) -> bool {
+    let mut other = io::buffer();
+    let n = name_word(packet, &mut other);
+    let mut other_part = io::buffer();
+    let second = begin_word(
+        packet,
+        &other[..n],
+        Kind::Packet,
+        is_replacing,
+        &mut other_part,
+    );
+    if second.fd < 0 {
+        files::abandon(first.fd, part);
+        return false;
+    }
+    let named = front(&other_part, second.length);
+    if files::is_beside(first.fd, second.fd) {
+        say::trouble(Trouble::TwoNames, packet, 0);
+        files::abandon(first.fd, part);
+        files::abandon(second.fd, named);
+        return false;
+    }
+    write_both(
+        first,
+        path,
+        part,
+        bytes,
+        second,
+        &other[..n],
+        named,
+        other_bytes,
+    )
+}
+
+// Writes the files that two words name, a table and a packet, both or neither; whether that was done.
+fn store_both(
+    table: usize,
+    bytes: &[u8],
+    packet: usize,
+    other_bytes: &[u8],
+    is_replacing: bool,
+) -> bool {
+    let mut path = io::buffer();
+    let n = name_word(table, &mut path);
+    if n == 0 {
+        return false;
+    }
+    let mut part = io::buffer();
+    let first = begin_word(table, &path[..n], Kind::Table, is_replacing, &mut part);
+    if first.fd < 0 {
+        return false;
+    }
+    store_second(
+        first,
+        &path[..n],
+        front(&part, first.length),
+        bytes,
+        packet,
+        is_replacing,
+        other_bytes,
+    )
+}
+
+// Leaves what is told to be kept, a table and its packet, in the files that two words name, both or neither, and then says the line.
+pub fn keep_both(
+    table: usize,
+    packet: usize,
+    is_replacing: bool,
+    told: Told,
+    bytes: &[u8],
+    packet_bytes: &[u8],
+    line: &[u8],
+) {
+    let is_done = if told.is_kept {
+        store_both(
+            table,
+            front(bytes, told.bytes),
+            packet,
+            packet_bytes,
+            is_replacing,
+        )
+    } else {
+        remove_both(table, packet, is_replacing)
+    };
+    if is_done {
         say::answer(front(line, told.line));
     }
 }

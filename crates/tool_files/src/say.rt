@@ -8,17 +8,22 @@ use telling::tell_version;
 use troubles::Trouble;
 use words::line::front;
 
-// An answer.
+// An answer. What it speaks of is done by then, so that only the line is lost where standard output is full or closed.
 pub fn answer(line: &[u8]) {
-    io::write_all(STDOUT_FILENO, line);
+    if !io::write_all(STDOUT_FILENO, line) {
+        files::fail(b"standard output");
+    }
 }
 
 // Trouble with word `i`, or with the file that it names and a number of its bytes.
 pub fn trouble(trouble: Trouble, i: usize, number: usize) {
     let mut word = io::buffer();
     let n = os::arg(i, &mut word);
+    let mut shown = io::buffer();
+    let name = front(&word, n);
+    let s = files::show(front(name, libc::PATH_MAX), &mut shown);
     let mut line = io::large_buffer();
-    let m = tell_trouble(trouble, number as u64, &word[..n], &mut line);
+    let m = tell_trouble(trouble, number as u64, front(&shown, s), &mut line);
     io::write_all(STDERR_FILENO, &line[..m]);
 }
 
@@ -59,27 +64,33 @@ pub fn version() {
 }
 
 // What the commands are.
-const HELP: [u8; 1255] = *b"\
-osc decode udp|tcp|tcp-vec|tcp2|tcp2-vec INPUT TABLE [--depth N] [--records N]
+const HELP: [u8; 1984] = *b"\
+osc decode udp|tcp|tcp-vec|tcp2|tcp2-vec INPUT TABLE [--depth N] [--records N] [--replace]
     reads INPUT and writes its records, 20 bytes each, to TABLE
-osc encode udp|tcp|tcp2 TABLE SOURCE OUTPUT
+osc encode udp|tcp|tcp2 TABLE SOURCE OUTPUT [--replace]
     writes the packet of TABLE, whose texts stand in SOURCE, to OUTPUT
 osc look TABLE INDEX
     says what record INDEX of TABLE holds; the first is 0
-osc index RECORDING INDEX
+osc index RECORDING INDEX [--replace]
     writes an index of RECORDING, frames of tcp2 end to end, to INDEX: 16 bytes for each frame, up to the first that is not accepted
 osc check RECORDING INDEX
     says whether INDEX is the index of RECORDING
-osc cue RECORDING INDEX K TABLE
-    checks INDEX and writes the records of frame K of RECORDING to TABLE; the first is 0
+osc cue RECORDING INDEX K TABLE PACKET [--replace]
+    checks INDEX and writes frame K of RECORDING: its records to TABLE and its packet to PACKET; the first is 0
+    the offsets in TABLE count from the first byte of PACKET, so that osc encode udp TABLE PACKET OUTPUT writes the packet again
 osc help, osc --help, osc -h
     says this
 osc --version
     says the version
 udp is one packet, tcp the first packet of a stream, and tcp-vec all of them, as rosc has a stream: a length cuts nothing, and none
 stands before a bundle. tcp2 and tcp2-vec are the same as OSC 1.0 has it: every packet stands behind its length, which cuts it.
-Exit status: 0 an answer; 1 a refusal; 2 trouble with a word or a file; 3 Waiting; 4 tcp2-vec or index stopped at a frame.
-After 1 and 3 no TABLE or OUTPUT is left. After 4 TABLE or INDEX holds what stands before that frame.
+A TABLE or INDEX that exists is replaced or removed only where it could be one: an index is empty, or has a multiple of 16 bytes, the first
+8 of them zero; a table is empty, or has a multiple of 20 bytes, the first 4 of them / or # and three zeros. An OUTPUT or PACKET that exists
+is kept. --replace, the last word, says that any file is to be replaced.
+Exit status: 0 an answer; 1 a refusal; 2 trouble with a word or a file; 3 Waiting; 4 tcp2-vec, index or check stopped at a frame; 5 the
+answer could not be written to standard output.
+After 1 and 3 no TABLE, PACKET or OUTPUT is left. After 2 nothing was changed. After 4 TABLE or INDEX holds what stands before that frame.
+After 5 the files are as the answer says, which is on standard error.
 ";
 
 // Says what the commands are.

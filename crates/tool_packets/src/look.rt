@@ -22,10 +22,10 @@ fn look_in_file(index: usize) {
     say::answer(&line[..more]);
 }
 
-pub fn run() {
+pub fn run(count: usize) {
     let mut word = io::buffer();
     let n = os::arg(3, &mut word);
-    match look_asked(os::arg_count(), &word[..n]) {
+    match look_asked(count, &word[..n]) {
         LookAsked::As(index) => look_in_file(index),
         LookAsked::Wrong(trouble, i) => say::trouble(trouble, i, 0),
     }

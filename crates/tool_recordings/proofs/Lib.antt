@@ -1,3 +1,4 @@
 pub mod Lows
 pub mod Loops
 pub mod Ends
+pub mod Examples

@@ -4,7 +4,7 @@ use mathlib.Core.List.{List}
 use Prim.Native.Nat.{ℕ, _≤_}
 use native.Mathlib.Omega.{arith}
 use lib.ListN.{length, take, length-take}
-use Rattle.walks.specs.Walks.{LowPosition, LowAfter, WalkStep}
+use Rattle.walks.specs.Walks.{LowPosition, LowLast, LowAfter, WalkStep}
 use Rattle.walks.specs.declared.Position.{Position}
 use Rattle.walks.specs.declared.Walked.{Walked}
 use Rattle.walks.specs.declared.Walked.the-variants as walked
@@ -27,5 +27,5 @@ module _ {from : Position} {buf out kept after : List ℕ} {count : ℕ} {r : Wa
       omega (arith, by-walked from (length out) s after (subst (LowAfter from (length out)) e (w .low)), ap length f, fits)
 
   -- a step after which there are no more records
-  pub end-low : {n : ℕ} {last : Position} {why : End} → r ≡ walked.Ended n last why → LowPosition last
+  pub end-low : {n : ℕ} {last : Position} {why : End} → r ≡ walked.Ended n last why → LowLast last why
   end-low e = subst (LowAfter from (length out)) e (w .low) .0

@@ -11,6 +11,7 @@ use Rattle.cues.specs.Checks.{compared, numberedFrom}
 use Rattle.results.specs.declared.Checked.{Checked}
 use Rattle.results.specs.declared.Checked.the-variants as checked
 use Rattle.results.specs.declared.End.{End}
+use Rattle.results.specs.declared.End.the-variants as end
 use Rattle.walks.specs.Walks.{WalkStep}
 use Rattle.walks.specs.declared.Position.{Position}
 use Rattle.walks.specs.declared.Walked.{Walked}
@@ -20,6 +21,8 @@ use Rattle.tool_recordings.specs.declared.Aim.{Aim}
 use Rattle.tool_recordings.specs.declared.Aim.the-variants.{Write, Compare}
 use Rattle.tool_recordings.specs.declared.Came.{Came}
 use Rattle.tool_recordings.specs.declared.Came.the-variants.{On, Ended, Differs, Failed}
+use Rattle.tool_recordings.specs.declared.Judged.{Judged}
+use Rattle.tool_recordings.specs.declared.Judged.the-variants as judged
 
 -- the records that a step has written: the first bytes of its output
 abbrev pub freshIn : Walked → List ℕ → List ℕ
@@ -86,6 +89,23 @@ pub record LoopsAt (aim : Aim) (from : Position) (before : List ℕ) (r : Came) 
 pub record LoopsFrom (aim : Aim) (from : Position) (r : Came) : Type 0 where
   pub before : List ℕ
   pub loops : LoopsAt aim from before r
+
+-- what a check of the index says after a walk that came to its end: whether there are more bytes of the index; what went wrong was said
+pub data JudgedAt (last : Position) (why : End) (r : Judged) : Type 0 where
+  rest-fails : r ≡ judged.Failed → JudgedAt last why r
+  rest-checked : (more : List ℕ) → r ≡ judged.As (numberedFrom (last .records) (compared [] more)) (last .at) why → JudgedAt last why r
+
+-- a record that differs ended the walk, and is what is said
+abbrev pub JudgedBy : Came → Judged → Type 0
+JudgedBy (On next) r = r ≡ judged.Failed
+JudgedBy (Ended last why) r = JudgedAt last why r
+JudgedBy (Differs k) r = r ≡ judged.As (checked.Differs k) 0 end.Whole
+JudgedBy Failed r = r ≡ judged.Failed
+
+-- a check of an open index: its loop compares, and it says what that came to; or it failed
+pub data Judges (r : Judged) : Type 0 where
+  judge-fails : r ≡ judged.Failed → Judges r
+  judges : {fd : ℤ} {came : Came} → LoopsFrom (Compare fd) begun came → JudgedBy came r → Judges r
 
 -- ---- what follows
 

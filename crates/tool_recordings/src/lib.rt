@@ -17,10 +17,10 @@ ghost use Prim.Native.Nat.{_*_, _≤_};
 ghost use lib.ListN.{length};
 ghost use Rattle.wire.specs.Limits.{longest};
 ghost use Rattle.cues.specs.Cues.{entrySize, mostEntries, longestRecording};
-ghost use Rattle.walks.specs.Walks.{LowPosition};
+ghost use Rattle.walks.specs.Walks.{LowPosition, LowLast};
 ghost use Rattle.tool_walks.specs.Runs.{begun};
-ghost use Rattle.tool_recordings.specs.CodeCame.{LowCame, StaysOrFails, Room};
-ghost use Rattle.tool_recordings.specs.Loops.{ComparedOn, HandedOn, TurnsTo, LoopsAt, LoopsFrom};
+ghost use Rattle.tool_recordings.specs.CodeCame.{LowCame, LowJudged, StaysOrFails, Room};
+ghost use Rattle.tool_recordings.specs.Loops.{ComparedOn, HandedOn, TurnsTo, LoopsAt, LoopsFrom, JudgedAt, Judges};
 
 // How often it is said how much is read: 16 MiB.
 const OFTEN: u64 = 0x100_0000;
@@ -45,7 +45,10 @@ pub enum Came {
 
 // What a check came to.
 pub enum Judged {
-    As(Checked),
+    // How the index is, at which offset of the recording its last frame ends, and why no more; 0 and `Whole` of an index that differs
+    // before.
+    As(Checked, u64, End),
+    // What went wrong was said.
     Failed,
 }
 
@@ -230,30 +233,38 @@ pub fn walk_over(fd: i32, name: &[u8], aim: Aim, index_name: &[u8]) -> Came
     came
 }
 
-// Checks what an open index still has after `records` of them: it should be nothing.
-fn judge_rest(fd: i32, index_name: &[u8], records: usize) -> Judged
-    requires { ⌜ records ≤ longestRecording ⌝ }
+// Checks what an open index still has after the records of a walk, which ended so: it should be nothing.
+fn judge_rest(fd: i32, index_name: &[u8], last: Position, end: End) -> Judged
+    requires { ⌜ LowLast last end ⌝ }
+    ensures { λ r. ⌜ JudgedAt last end r × LowJudged r ⌝ }
 {
     let mut more = [0u8; 1];
     let got = files::read_on(fd, index_name, &mut more, 0);
     if !got.is_read {
         return Judged::Failed;
     }
-    Judged::As(check_part(records, b"", front(&more, got.count)))
+    let checked = check_part(last.records, b"", front(&more, got.count));
+    Judged::As(checked, last.at, end)
 }
 
 // Checks an open index against an open recording.
-fn judge_open(fd: i32, name: &[u8], index: i32, index_name: &[u8]) -> Judged {
+fn judge_open(fd: i32, name: &[u8], index: i32, index_name: &[u8]) -> Judged
+    ensures { λ r. ⌜ Judges r × LowJudged r ⌝ }
+{
     match walk_over(fd, name, Aim::Compare(index), index_name) {
-        Came::Ended(last, _) => judge_rest(index, index_name, last.records),
-        Came::Differs(k) => Judged::As(Checked::Differs(k)),
+        Came::Ended(last, end) => judge_rest(index, index_name, last, end),
+        Came::Differs(k) => Judged::As(Checked::Differs(k), 0, End::Whole),
         Came::On(_) => Judged::Failed,
         Came::Failed => Judged::Failed,
     }
 }
 
 // The same of an index that is as long after it as it was before.
-pub fn judge(fd: i32, name: &[u8], index: i32, index_name: &[u8]) -> Judged {
+//
+// Ruled out: a count of records that leaves out those of earlier buffers; a refused frame whose field begins behind the longest recording.
+pub fn judge(fd: i32, name: &[u8], index: i32, index_name: &[u8]) -> Judged
+    ensures { λ r. ⌜ Judges r × LowJudged r ⌝ }
+{
     let size = files::length_of(index);
     let judged = judge_open(fd, name, index, index_name);
     if files::is_shorter(index, size, 0, false) {

@@ -28,7 +28,14 @@ troubles =
     ∷ trouble.IndexWords
     ∷ trouble.CheckWords
     ∷ trouble.CueWords
-    ∷ trouble.Shorter ∷ []
+    ∷ trouble.Shorter
+    ∷ trouble.NoReplace
+    ∷ trouble.IndexLength
+    ∷ trouble.IndexFront
+    ∷ trouble.TableLength
+    ∷ trouble.TableFront
+    ∷ trouble.Exists
+    ∷ trouble.TwoNames ∷ []
 
 -- a trouble stands at this place among them
 pub record PlacedAt (t : Trouble) (place : ℕ) : Type 0 where

@@ -23,6 +23,13 @@ pub enum Trouble {
     CheckWords,
     CueWords,
     Shorter,
+    NoReplace,
+    IndexLength,
+    IndexFront,
+    TableLength,
+    TableFront,
+    Exists,
+    TwoNames,
 }
 
 // The place of a trouble among the others.
@@ -52,5 +59,12 @@ pub fn place_of(trouble: Trouble) -> usize
         Trouble::CheckWords => 17,
         Trouble::CueWords => 18,
         Trouble::Shorter => 19,
+        Trouble::NoReplace => 20,
+        Trouble::IndexLength => 21,
+        Trouble::IndexFront => 22,
+        Trouble::TableLength => 23,
+        Trouble::TableFront => 24,
+        Trouble::Exists => 25,
+        Trouble::TwoNames => 26,
     }
 }

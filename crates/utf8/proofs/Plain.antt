@@ -12,6 +12,7 @@ use lib.ListN.{length, take, drop, getD, length-take, length-drop, take-append-d
 use lib.Seq.{drop-cons, drop-drop, drop-length, getD-take, getD-drop, take-all, take-length}
 use Rattle.utf8.specs.Utf8.{Range, Octets, Decides}
 use Rattle.utf8.specs.Derive.{step, run, utf8}
+use Rattle.utf8.specs.Automaton.{RunPasses}
 use Rattle.utf8.specs.CodeHighest.{highestOf, PlainFront}
 use Rattle.utf8.proofs.Grammar.{octets, same-answer}
 use Rattle.utf8.proofs.Same.{same-rows, same-rows→eq}
@@ -116,7 +117,11 @@ ascii-run top (x ∷ s) h rest =
     let (low, one) = below-top 0x80 top x (ltb top x) refl (top-below 0x80 (cond (ltb top x) x top) s h) in
     ap (λ (rows : List (List Range)). run rows (s ++ rest)) (single x one) ∙ ascii-run (cond (ltb top x) x top) s h rest
 
--- and are UTF-8
+-- a run of octets below 0x80 changes no answer on what follows it
+pub run-passes : RunPasses
+run-passes s rest f = ascii-run 0 s (all-below 0x80 0 s (omega arith) f) rest
+
+-- octets below 0x80 are UTF-8
 plain-octets : (s : List ℕ) → highestOf 0 s < 0x80 → Decides true (Octets s)
 plain-octets s h =
     let e : utf8 s ≡ true = ap utf8 (sym (append-nil s)) ∙ ascii-run 0 s h [] in

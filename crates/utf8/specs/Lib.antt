@@ -1,5 +1,6 @@
 pub mod CodeHighest
 pub mod Lead
 pub mod Utf8
-pub mod CodeStates
 pub mod Derive
+pub mod Automaton
+pub mod CodeStates

@@ -6,10 +6,13 @@ ghost use lib.ListN.{length};
 ghost use Rattle.utf8.specs.Utf8.{Octets, Decides};
 ghost use Rattle.utf8.specs.Lead.{leadOf};
 ghost use Rattle.utf8.specs.CodeHighest.{highestOf, PlainFront};
-ghost use Rattle.utf8.specs.CodeStates.{classes, nexts, Shift, Reads};
+ghost use Rattle.utf8.specs.Automaton.{classes, nexts, StateRow};
+ghost use Rattle.utf8.specs.CodeStates.{Reads};
 
-// The class of each byte value: how many of the grammar's limits (`limits`, in specs/CodeStates.antt) are at or below it.
+// The class of each byte value: how many of the grammar's limits (`limits`, in specs/Automaton.antt) are at or below it.
+// A comment names the first byte value of each class.
 const CLASS: [u8; 256] = [
+    0, // 00
     0,
     0,
     0,
@@ -137,7 +140,7 @@ const CLASS: [u8; 256] = [
     0,
     0,
     0,
-    0,
+    1, // 80
     1,
     1,
     1,
@@ -153,7 +156,7 @@ const CLASS: [u8; 256] = [
     1,
     1,
     1,
-    1,
+    2, // 90
     2,
     2,
     2,
@@ -169,7 +172,7 @@ const CLASS: [u8; 256] = [
     2,
     2,
     2,
-    2,
+    3, // A0
     3,
     3,
     3,
@@ -201,9 +204,9 @@ const CLASS: [u8; 256] = [
     3,
     3,
     3,
-    3,
+    4, // C0
     4,
-    4,
+    5, // C2
     5,
     5,
     5,
@@ -233,8 +236,8 @@ const CLASS: [u8; 256] = [
     5,
     5,
     5,
-    5,
-    6,
+    6, // E0
+    7, // E1
     7,
     7,
     7,
@@ -246,16 +249,15 @@ const CLASS: [u8; 256] = [
     7,
     7,
     7,
-    7,
-    8,
+    8, // ED
+    9, // EE
     9,
-    9,
-    10,
+    10, // F0
+    11, // F1
     11,
     11,
-    11,
-    12,
-    13,
+    12, // F4
+    13, // F5
     13,
     13,
     13,
@@ -268,26 +270,144 @@ const CLASS: [u8; 256] = [
     13,
 ];
 
-// The next states, a row for each class: two octal digits for each state, the state 0 last, are 6 * next state. So a state is kept as the
-// shift that reads a row, and only the shift waits for the byte before.
-// In the state 0 a character may begin, in the state 8 no byte helps any more. The classes 14 and 15 do not occur, and lead to 8.
-const NEXT: [u64; 16] = [
-    0o60_60_60_60_60_60_60_60_00,
-    0o60_14_60_06_60_14_06_00_60,
-    0o60_60_14_06_60_14_06_00_60,
-    0o60_60_14_60_06_14_06_00_60,
-    0o60_60_60_60_60_60_60_60_60,
-    0o60_60_60_60_60_60_60_60_06,
-    0o60_60_60_60_60_60_60_60_30,
-    0o60_60_60_60_60_60_60_60_14,
-    0o60_60_60_60_60_60_60_60_36,
-    0o60_60_60_60_60_60_60_60_14,
-    0o60_60_60_60_60_60_60_60_44,
-    0o60_60_60_60_60_60_60_60_22,
-    0o60_60_60_60_60_60_60_60_52,
-    0o60_60_60_60_60_60_60_60_60,
-    0o60_60_60_60_60_60_60_60_60,
-    0o60_60_60_60_60_60_60_60_60,
+// The next state, by state and class: a row for each of the 9 states, with an entry for each of the 14 classes. A state is kept as the
+// place where its row begins, 14 times its number, so that an entry stands at the sum of state and class.
+const NEXT: [u8; 126] = [
+    // 0: a character may begin
+    0, // 00 to 7F
+    112,
+    112,
+    112,
+    112, // C0 and C1 would be overlong
+    14, // C2 to DF
+    56, // E0
+    28, // E1 to EC
+    70, // ED
+    28, // EE and EF
+    84, // F0
+    42, // F1 to F3
+    98, // F4
+    112, // F5 to FF
+    // 1: a tail is to come
+    112,
+    0,
+    0,
+    0,
+    112,
+    112,
+    112,
+    112,
+    112,
+    112,
+    112,
+    112,
+    112,
+    112,
+    // 2: two tails are to come
+    112,
+    14,
+    14,
+    14,
+    112,
+    112,
+    112,
+    112,
+    112,
+    112,
+    112,
+    112,
+    112,
+    112,
+    // 3: three tails are to come
+    112,
+    28,
+    28,
+    28,
+    112,
+    112,
+    112,
+    112,
+    112,
+    112,
+    112,
+    112,
+    112,
+    112,
+    // 4, after E0: A0 to BF is to come, and a tail
+    112,
+    112, // E0 80 to E0 9F would be overlong
+    112,
+    14,
+    112,
+    112,
+    112,
+    112,
+    112,
+    112,
+    112,
+    112,
+    112,
+    112,
+    // 5, after ED: 80 to 9F is to come, and a tail
+    112,
+    14,
+    14,
+    112, // ED A0 to ED BF would be surrogates
+    112,
+    112,
+    112,
+    112,
+    112,
+    112,
+    112,
+    112,
+    112,
+    112,
+    // 6, after F0: 90 to BF is to come, and two tails
+    112,
+    112, // F0 80 to F0 8F would be overlong
+    28,
+    28,
+    112,
+    112,
+    112,
+    112,
+    112,
+    112,
+    112,
+    112,
+    112,
+    112,
+    // 7, after F4: 80 to 8F is to come, and two tails
+    112,
+    28,
+    112, // F4 90 to F4 BF would be beyond U+10FFFF
+    112,
+    112,
+    112,
+    112,
+    112,
+    112,
+    112,
+    112,
+    112,
+    112,
+    112,
+    // 8: no byte helps any more
+    112,
+    112,
+    112,
+    112,
+    112,
+    112,
+    112,
+    112,
+    112,
+    112,
+    112,
+    112,
+    112,
+    112,
 ];
 
 // The greatest byte, and 0 where there is none. With no early exit, a compiled step takes many bytes.
@@ -364,26 +484,26 @@ fn plain_front(s: &[u8]) -> usize
 
 // The automaton on some bytes, from one state to another: each byte is one step. The tables are lent, since each function that binds one
 // builds it anew.
-fn advance(s: &[u8], class: &[u8; 256], next: &[u64; 16], from: u64) -> u64
-    requires { ⌜ (now class ≡ classes) × (now next ≡ nexts) × Shift from ⌝ }
+fn advance(s: &[u8], class: &[u8; 256], next: &[u8; 126], from: usize) -> usize
+    requires { ⌜ (now class ≡ classes) × (now next ≡ nexts) × StateRow from ⌝ }
     ensures { λ r. ⌜ Reads from (now (s .entry)) r ⌝ }
 {
-    let mut shift = from;
+    let mut state = from;
     let mut i = 0;
     while i < s.len() {
-        shift = (next[class[s[i] as usize] as usize] >> shift) % 64;
+        state = next[state + class[s[i] as usize] as usize] as usize;
         i += 1;
     }
-    shift
+    state
 }
 
 // The same for a block: where no character is open and all its bytes are below 0x80, it is passed over.
-fn across(s: &[u8], class: &[u8; 256], next: &[u64; 16], from: u64) -> u64
-    requires { ⌜ (now class ≡ classes) × (now next ≡ nexts) × Shift from ⌝ }
+fn across(s: &[u8], class: &[u8; 256], next: &[u8; 126], from: usize) -> usize
+    requires { ⌜ (now class ≡ classes) × (now next ≡ nexts) × StateRow from ⌝ }
     ensures { λ r. ⌜ Reads from (now (s .entry)) r ⌝ }
 {
-    if highest(s) < 0x80 {
-        if from == 0 {
+    if from == 0 {
+        if highest(s) < 0x80 {
             return 0;
         }
     }
@@ -396,14 +516,14 @@ fn walk(s: &[u8]) -> bool
 {
     let class = CLASS;
     let next = NEXT;
-    let mut shift: u64 = 0;
+    let mut state: usize = 0;
     let mut at: usize = 0;
-    while 16 <= s.len() - at {
-        let end = at + 16;
-        shift = across(&s[at..end], &class, &next, shift);
+    while 32 <= s.len() - at {
+        let end = at + 32;
+        state = across(&s[at..end], &class, &next, state);
         at = end;
     }
-    advance(&s[at..], &class, &next, shift) == 0
+    advance(&s[at..], &class, &next, state) == 0
 }
 
 // Whether `s` is UTF-8. Bytes below 0x80 are characters by themselves, and need no tables.

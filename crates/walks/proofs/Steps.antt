@@ -10,12 +10,13 @@ use lib.Seq.{length-take-le}
 use Rattle.refusal.specs.declared.Refusal.{Refusal}
 use Rattle.wire.specs.Limits.{longest}
 use Rattle.cues.specs.Cues.{entrySize, mostEntries, longestRecording, Indexes, MayContinue}
+use Rattle.results.specs.Ends.{FieldUpTo}
 use Rattle.results.specs.declared.End.{End}
 use Rattle.results.specs.declared.End.the-variants as end
 use Rattle.results.specs.declared.Indexed.{Indexed}
 use Rattle.results.specs.declared.Indexed.the-variants.{Written, Refused}
 use Rattle.cues.proofs.Steps.{Stepped, stepped, full-moves, only-far}
-use Rattle.walks.specs.Walks.{LowPosition, isLast, readsOn, further, walkedBy, WalkStep}
+use Rattle.walks.specs.Walks.{LowPosition, LowLast, isLast, readsOn, further, walkedBy, WalkStep}
 use Rattle.walks.specs.CodeWalks.{CanWalk, RestKept}
 use Rattle.walks.specs.declared.Position.{Position}
 use Rattle.walks.specs.declared.Walked.{Walked}
@@ -33,6 +34,12 @@ pub record StepLow (from : Position) (count room n used : ℕ) : Type 0 where
   pub few : 12 * n ≤ used
   pub near : from .at + used ≤ longestRecording
   pub fits : n * entrySize ≤ room
+
+-- a field that was short lies as far on in the recording as its bytes do
+further-on : (at used n : ℕ) (why : End) → FieldUpTo used n why → at + n ≤ longestRecording → FieldUpTo (at + used) longestRecording why
+further-on at used n end.Whole h low = tt
+further-on at used n end.Waiting h low = tt
+further-on at used n (end.Refused k) h low = omega (arith, h, low)
 
 module _ {from : Position} {buf : List ℕ} {count : ℕ} {out : List ℕ} (can : CanWalk from buf count out) where
   there : length (take count buf) ≡ count
@@ -61,6 +68,17 @@ module _ {from : Position} {buf : List ℕ} {count : ℕ} {out : List ℕ} (can 
             few = omega (arith, s .few, can .low .few);
             near = s .near;
             short = omega (arith, can .there, can .full);
+          }
+
+      last-low : (kept : ℕ) → kept ≡ count - used → LowLast (further from n used kept) why
+      last-low kept k =
+          let low = low-after kept k in
+          let s = stepped wrote in
+          record {
+            few = low .few;
+            near = low .near;
+            short = low .short;
+            field = further-on (from .at) used (length (take count buf)) why (s .field) (s .low);
           }
 
       module _ {kept : List ℕ} {k : ℕ} {on : Bool} (rest : RestKept used count buf kept k) (as-said : on ≡ readsOn (isLast count) why) where
@@ -93,7 +111,7 @@ module _ {from : Position} {buf : List ℕ} {count : ℕ} {out : List ℕ} (can 
               gives = rw (← as-said, t, rest .count);
               keeps = keeps;
               far = λ z. let x : _≡_ {A = ℕ} 0 1 = cc in absurd (omega arith);
-              low = (low-after k (rest .count), step-low .fits);
+              low = (last-low k (rest .count), step-low .fits);
             }
 
     -- the recording is too long

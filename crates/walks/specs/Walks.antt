@@ -8,6 +8,7 @@ use lib.Dec.{ltb}
 use lib.ListN.{length, take, drop}
 use Rattle.wire.specs.Limits.{longest}
 use Rattle.cues.specs.Cues.{entrySize, longestRecording, Indexes}
+use Rattle.results.specs.Ends.{FieldUpTo}
 use Rattle.results.specs.declared.End.{End}
 use Rattle.results.specs.declared.End.the-variants as end
 use Rattle.results.specs.declared.Indexed.{Indexed}
@@ -50,10 +51,17 @@ pub record LowPosition (p : Position) : Type 0 where
   pub near : p .at ≤ longestRecording
   pub short : p .kept ≤ longest
 
+-- so is one that has ended, and a field that was short begins in the recording
+pub record LowLast (p : Position) (why : End) : Type 0 where
+  pub few : 12 * p .records ≤ p .at
+  pub near : p .at ≤ longestRecording
+  pub short : p .kept ≤ longest
+  pub field : FieldUpTo (p .at) longestRecording why
+
 -- after a buffer its records are in the output, and where it is read on, the walk is further on
 abbrev pub LowAfter : Position → ℕ → Walked → Type 0
 LowAfter from room (On written next) = LowPosition next × (from .at < next .at) × (written ≤ room)
-LowAfter from room (Ended written last why) = LowPosition last × (written ≤ room)
+LowAfter from room (Ended written last why) = LowLast last why × (written ≤ room)
 LowAfter from room TooLong = Unit {0}
 
 -- the contract: the records of the buffer's frames stand in the output, what was not used is kept, and the walk stands where it should. It

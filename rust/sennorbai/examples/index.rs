@@ -33,7 +33,8 @@ fn told(written: Written) -> String {
     match stop {
         Stop::Whole => format!("{records} cues, {end} bytes"),
         Stop::Waiting => format!("{records} cues up to the frame at {end}, which is cut off"),
-        Stop::Refused(refusal) => format!("{records} cues up to the frame at {end}: {refusal}"),
+        Stop::Refused(ended) => format!("{records} cues up to {ended}"),
+        other => format!("{records} cues up to the frame at {end}: {other:?}"),
     }
 }
 

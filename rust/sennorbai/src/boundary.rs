@@ -11,10 +11,11 @@
 //! 48 to 63, the offset of the frame's prefix. Of a call that is refused count and bytes left are 0, and that tells the two apart.
 //!
 //! A step over a stream has in bits 0 to 31 of its answer the bytes that were used, and in bits 56 to 63 only a refusal of the call. As
-//! more it has the number of a refused frame's refusal in bits 48 to 63: that frame stands right after the used bytes.
+//! more it has the number of a refused frame's refusal in bits 48 to 63, and in bits 32 to 47 where a field began: that frame stands right
+//! after the used bytes.
 //!
 //! A step that writes a cue index has in bits 32 to 55 the records written and in bits 0 to 31 the bytes used; as more it has 1 where
-//! the next frame is not all there, and the number of a refused frame's refusal in bits 48 to 63. A check has in bits 0 to 55 the number of
+//! the next frame is not all there, and of a refused one what a step over a stream has. A check has in bits 0 to 55 the number of
 //! the next record, or that of the first that differs with 25 in bits 56 to 63. A cue has its records in bits 32 to 55 and its length in
 //! bits 0 to 31, and its offset beside it.
 //!
@@ -124,62 +125,72 @@ mod c {
     }
 }
 
-// SAFETY, of every call of `c` below: each pointer is that of a slice which lives through the call, with that slice's length,
-// or of a number that lives as long; what may be written is lent by `&mut`, so nothing else names it; the functions keep no
-// pointer, and are proved for every input.
+// What every call of `c` below rests on: a slice's pointer and length name bytes that live through the call; what may be written is lent
+// by `&mut`, so nothing else names it; and the functions keep no pointer and are proved for every input.
 
 /// `osc_decode_udp`: one packet from all of a UDP packet.
 pub fn decode_udp(msg: &[u8], table: &mut [u8], depth: u64, more: &mut u64) -> u64 {
+    // SAFETY: `msg` is read within its length; `table` is written within its length and `more` is one number, each lent alone.
     unsafe { c::osc_decode_udp(msg.as_ptr(), msg.len(), table.as_mut_ptr(), table.len(), depth, more) }
 }
 
 /// `osc_decode_tcp`: the first packet of a TCP stream.
 pub fn decode_tcp(msg: &[u8], table: &mut [u8], depth: u64, more: &mut u64) -> u64 {
+    // SAFETY: `msg` is read within its length; `table` is written within its length and `more` is one number, each lent alone.
     unsafe { c::osc_decode_tcp(msg.as_ptr(), msg.len(), table.as_mut_ptr(), table.len(), depth, more) }
 }
 
 /// `osc_decode_tcp_vec`: the packets of a TCP stream.
 pub fn decode_tcp_vec(msg: &[u8], table: &mut [u8], depth: u64, more: &mut u64) -> u64 {
+    // SAFETY: `msg` is read within its length; `table` is written within its length and `more` is one number, each lent alone.
     unsafe { c::osc_decode_tcp_vec(msg.as_ptr(), msg.len(), table.as_mut_ptr(), table.len(), depth, more) }
 }
 
 /// `osc_decode_tcp2`: the first packet of a TCP stream, by edition 2.
 pub fn decode_tcp2(msg: &[u8], table: &mut [u8], depth: u64, more: &mut u64) -> u64 {
+    // SAFETY: `msg` is read within its length; `table` is written within its length and `more` is one number, each lent alone.
     unsafe { c::osc_decode_tcp2(msg.as_ptr(), msg.len(), table.as_mut_ptr(), table.len(), depth, more) }
 }
 
 /// `osc_decode_tcp_vec2`: the packets of a TCP stream, by edition 2.
 pub fn decode_tcp_vec2(msg: &[u8], table: &mut [u8], depth: u64, more: &mut u64) -> u64 {
+    // SAFETY: `msg` is read within its length; `table` is written within its length and `more` is one number, each lent alone.
     unsafe { c::osc_decode_tcp_vec2(msg.as_ptr(), msg.len(), table.as_mut_ptr(), table.len(), depth, more) }
 }
 
 /// `osc_read_portion`: the packets of the whole frames among `bytes`, which were kept of a TCP stream and came after that, by edition 2.
 pub fn read_portion(bytes: &[u8], table: &mut [u8], depth: u64, more: &mut u64) -> u64 {
+    // SAFETY: `bytes` is read within its length; `table` is written within its length and `more` is one number, each lent alone.
     unsafe { c::osc_read_portion(bytes.as_ptr(), bytes.len(), table.as_mut_ptr(), table.len(), depth, more) }
 }
 
 /// `osc_index_step`: the cue index of the whole frames among `bytes`, which stand at offset `base` of a recording in edition 2.
 pub fn index_step(bytes: &[u8], base: u64, out: &mut [u8], more: &mut u64) -> u64 {
+    // SAFETY: `bytes` is read within its length; `out` is written within its length and `more` is one number, each lent alone.
     unsafe { c::osc_index_step(bytes.as_ptr(), bytes.len(), base, out.as_mut_ptr(), out.len(), more) }
 }
 
 /// `osc_index_check_step`: the records written afresh against as many bytes of an index, of which the first is number `record`.
 pub fn index_check_step(fresh: &[u8], given: &[u8], record: u64) -> u64 {
+    // SAFETY: `fresh` and `given` are read within their lengths.
     unsafe { c::osc_index_check_step(fresh.as_ptr(), fresh.len(), given.as_ptr(), given.len(), record) }
 }
 
 /// `osc_cue`: the record of number `k` in an index.
 pub fn cue(index: &[u8], k: u64, offset: &mut u64) -> u64 {
+    // SAFETY: `index` is read within its length; `offset` is one number, lent alone.
     unsafe { c::osc_cue(index.as_ptr(), index.len(), k, offset) }
 }
 
 /// `osc_encode`: the packet of `count` records.
 pub fn encode(table: &[u8], count: u64, source: &[u8], out: &mut [u8]) -> u64 {
+    // SAFETY: `table` and `source` are read within their lengths; `out` is written within its length, lent alone.
     unsafe { c::osc_encode(table.as_ptr(), table.len(), count, source.as_ptr(), source.len(), out.as_mut_ptr(), out.len()) }
 }
 
 /// `osc_encode_tcp`: the same for a stream; a length stands before a message and none before a bundle.
 pub fn encode_tcp(table: &[u8], count: u64, source: &[u8], out: &mut [u8]) -> u64 {
+    // SAFETY: `table` and `source` are read within their lengths; `out` is written within its length, lent alone.
     unsafe {
         c::osc_encode_tcp(table.as_ptr(), table.len(), count, source.as_ptr(), source.len(), out.as_mut_ptr(), out.len())
     }
@@ -187,6 +198,7 @@ pub fn encode_tcp(table: &[u8], count: u64, source: &[u8], out: &mut [u8]) -> u6
 
 /// `osc_encode_tcp2`: the same by edition 2; a length stands before either.
 pub fn encode_tcp2(table: &[u8], count: u64, source: &[u8], out: &mut [u8]) -> u64 {
+    // SAFETY: `table` and `source` are read within their lengths; `out` is written within its length, lent alone.
     unsafe {
         c::osc_encode_tcp2(table.as_ptr(), table.len(), count, source.as_ptr(), source.len(), out.as_mut_ptr(), out.len())
     }
@@ -194,21 +206,25 @@ pub fn encode_tcp2(table: &[u8], count: u64, source: &[u8], out: &mut [u8]) -> u
 
 /// `osc_encode_string`: a text with its 1 to 4 NULs.
 pub fn encode_string(text: &[u8], out: &mut [u8]) -> u64 {
+    // SAFETY: `text` is read within its length; `out` is written within its length, lent alone.
     unsafe { c::osc_encode_string(text.as_ptr(), text.len(), out.as_mut_ptr(), out.len()) }
 }
 
 /// `osc_pad`: the next multiple of 4, or 14, which is none, for a position over 2^64 - 4.
 pub fn pad(pos: u64) -> u64 {
+    // SAFETY: no pointer is given, and every number has an answer.
     unsafe { c::osc_pad(pos) }
 }
 
 /// `osc_look`: the kind of a record in the low byte; bits 56 to 63 are the refusal's number.
 pub fn look(table: &[u8], index: u64) -> u64 {
+    // SAFETY: `table` is read within its length.
     unsafe { c::osc_look(table.as_ptr(), table.len(), index) }
 }
 
 /// `osc_start`: where the item of a record begins, in bits 0 to 31; bits 56 to 63 are the refusal's number.
 pub fn start(table: &[u8], index: u64) -> u64 {
+    // SAFETY: `table` is read within its length.
     unsafe { c::osc_start(table.as_ptr(), table.len(), index) }
 }
 
@@ -228,11 +244,19 @@ pub(crate) struct Given<'a> {
     pub stopped: Option<Stop>,
 }
 
-/// A refused frame that ended a list: why, and the offset of its prefix.
+/// A refused frame that ended a list or an index: why, and the offset of its prefix. Both offsets are the call's.
 #[derive(Clone, Copy)]
 pub(crate) struct Stop {
     pub refusal: Refusal,
     pub frame: usize,
+}
+
+/// The refused frame after the bytes that a step has used, by what the step has said beside its answer.
+pub(crate) fn ended(more: u64, used: usize) -> Option<Stop> {
+    match (more >> 48) as u8 {
+        0 => None,
+        number => Some(Stop { refusal: Refusal::of(number, (more >> 32) as u16 as u32), frame: used }),
+    }
 }
 
 /// The records of well-formed trees, one after another, and the bytes that their ranges lie in.
@@ -273,12 +297,8 @@ impl<'a> Nodes<'a> {
         let mut more = 0;
         let answer = Refusal::settle(read_portion(bytes, table, depth, &mut more), 0)?;
         let (count, used) = ((answer >> 32) as usize, answer as u32 as usize);
-        let stopped = match (more >> 48) as u8 {
-            0 => None,
-            number => Some(Stop { refusal: Refusal::of(number, (more >> 32) as u16 as u32), frame: used }),
-        };
         let nodes = Nodes { records: &table.as_chunks().0[..count], source: bytes };
-        Ok(Given { nodes, left: bytes.len() - used, dirty: more as u32 as usize, stopped })
+        Ok(Given { nodes, left: bytes.len() - used, dirty: more as u32 as usize, stopped: ended(more, used) })
     }
 
     /// A table from anywhere, if it is well formed. The encoder's first test is that, and 11 is given for nothing else; with no
@@ -333,10 +353,11 @@ impl<'a> Nodes<'a> {
         let (a, b) = (u32::from_be_bytes([p, q, r, s]), u32::from_be_bytes([t, u, v, w]));
         let long = (a as u64) << 32 | b as u64;
         match kind {
-            // SAFETY: the records are of well-formed trees, so the range of a `/`, `s` or `b` lies in `source`; that of a `/`
-            // or `s` is valid UTF-8.
+            // SAFETY: the records are of well-formed trees, so the range of a `/` lies in `source` and is valid UTF-8.
             b'/' => Value::Message(unsafe { self.text(a, b) }),
+            // SAFETY: so does that of an `s`, and so is it.
             b's' => Value::Text(unsafe { self.text(a, b) }),
+            // SAFETY: the range of a `b` lies in `source`.
             b'b' => Value::Blob(unsafe { self.part(a, b) }),
             // SAFETY: the number of a `c` in a well-formed tree is a scalar number.
             b'c' => Value::Char(unsafe { char::from_u32_unchecked(a) }),
@@ -357,16 +378,26 @@ impl<'a> Nodes<'a> {
         }
     }
 
-    /// The bytes of a range, which lies in the source.
+    /// The bytes of a range.
+    ///
+    /// # Safety
+    ///
+    /// The range lies in the source.
     #[inline]
     unsafe fn part(self, offset: u32, length: u32) -> &'a [u8] {
         let from = offset as usize;
+        // SAFETY: the caller says that the range lies in the source.
         unsafe { self.source.get_unchecked(from..from + length as usize) }
     }
 
-    /// The text of a range, which lies in the source and is valid UTF-8.
+    /// The text of a range.
+    ///
+    /// # Safety
+    ///
+    /// The range lies in the source and is valid UTF-8.
     #[inline]
     unsafe fn text(self, offset: u32, length: u32) -> &'a str {
+        // SAFETY: the caller says that the range lies in the source and is valid UTF-8.
         unsafe { core::str::from_utf8_unchecked(self.part(offset, length)) }
     }
 }

@@ -22,15 +22,13 @@
 //!
 //! index[31] = 3;
 //! let error = check(&recording[..], Cursor::new(&index)).unwrap_err();
-//! assert_eq!(error.to_string(), "25: record 1");
+//! assert_eq!(error.to_string(), "25: index differs, record 1");
 //! # Ok::<(), sennorbai::index::Error>(())
 //! ```
 
 use crate::boundary;
-use crate::decode::decode_tcp;
-use crate::edition::Edition;
-use crate::limits::{DEEPEST, LONGEST};
-use crate::refusal::Refusal;
+use crate::limits::LONGEST;
+use crate::stream::Ended;
 use core::fmt;
 use std::io::{self, Read, Seek, SeekFrom, Write};
 
@@ -62,18 +60,30 @@ pub struct Written {
 
 /// Why an index goes no further.
 #[derive(Clone, Copy, Debug, PartialEq, Eq, Hash)]
+#[non_exhaustive]
 pub enum Stop {
     /// The recording ends there.
     Whole,
     /// The recording ends within the frame.
     Waiting,
-    /// The frame is refused, as [`decode_tcp`] refuses it with room for [`MOST_IN_A_CUE`] records: where a field was short, its offset is
-    /// counted from the frame's prefix.
-    Refused(Refusal),
+    /// The frame is refused, as [`decode_tcp`](crate::decode_tcp) refuses it with room for [`MOST_IN_A_CUE`] records. Where it stands and
+    /// where a field began that was short is counted from the recording's first byte.
+    ///
+    /// ```
+    /// use sennorbai::index::{write, Stop};
+    ///
+    /// let recording = b"\0\0\0\x08/a\0\0,\0\0\0\0\0\0\x04/abc";
+    /// let Stop::Refused(ended) = write(&recording[..], Vec::new())?.stop else { panic!() };
+    /// assert_eq!((ended.refusal.number(), ended.frame, ended.field), (17, 12, Some(16)));
+    /// assert_eq!(ended.to_string(), "the frame at byte 12: 17: the address at offset 16 is not all there");
+    /// # Ok::<(), sennorbai::index::Error>(())
+    /// ```
+    Refused(Ended),
 }
 
 /// Why there is no index, or why one is not accepted.
 #[derive(Debug)]
+#[non_exhaustive]
 pub enum Error {
     /// The recording cannot be read.
     Recording(io::Error),
@@ -81,7 +91,7 @@ pub enum Error {
     Index(io::Error),
     /// 1: the recording has 2^63 bytes or more.
     TooLong,
-    /// 25: the index differs from the one that belongs to the recording. It is said as `osc` says it, by the record alone.
+    /// 25: the index differs from the one that belongs to the recording. It is said as `osc` says it.
     Differs {
         /// The first record that differs, is missing or is extra, from 0; a part of a record counts as one.
         record: u64,
@@ -105,7 +115,7 @@ impl fmt::Display for Error {
             Error::Recording(error) => write!(f, "the recording: {error}"),
             Error::Index(error) => write!(f, "the index: {error}"),
             Error::TooLong => write!(f, "1: the recording has 2^63 bytes or more"),
-            Error::Differs { record } => write!(f, "{INDEX_DIFFERS}: record {record}"),
+            Error::Differs { record } => write!(f, "{INDEX_DIFFERS}: index differs, record {record}"),
         }
     }
 }
@@ -242,22 +252,16 @@ fn walk(mut recording: impl Read, mut each: impl FnMut(&[u8]) -> Result<(), Erro
         let (count, used) = ((answer >> 32) as usize, answer as u32 as usize);
         each(&out[..count * ENTRY])?;
         records += count as u64;
+        let refused = boundary::ended(more, used).map(|stop| Ended::new(stop, end));
         end += used as u64;
-        if more >> 48 != 0 {
-            return Ok(Written { records, end, stop: refused(&bytes[used..], (more >> 48) as u8) });
+        if let Some(ended) = refused {
+            return Ok(Written { records, end, stop: Stop::Refused(ended) });
         }
         kept = bytes.len() - used;
         if used > 0 {
             buffer.copy_within(used..used + kept, 0);
         }
     }
-}
-
-/// The frame at the front of some bytes, which a step has refused with this number. A decoder refuses it so too, with no room as with
-/// some, and says where a field began that was short.
-fn refused(bytes: &[u8], number: u8) -> Stop {
-    let told = decode_tcp(Edition::Standard, bytes, &mut [], DEEPEST).err();
-    Stop::Refused(told.filter(|refusal| refusal.number() == number).unwrap_or(Refusal::of(number, 0)))
 }
 
 /// The next bytes, as many as come at once; none at the end.

@@ -38,9 +38,9 @@
 //!
 //! Depth counts bundles and arrays together: a bundle is one level and so is an array, along the deepest path of a tree; a message
 //! adds none. A decoder is told how deep its trees may be, at most [`DEEPEST`]; an encoder takes a tree of that depth and none
-//! deeper. So no call goes deeper than that either: each ends within 35,664 bytes of stack, whatever it is given.
+//! deeper. So no call goes deeper than that either: each ends within 35,680 bytes of stack, whatever it is given.
 #![cfg_attr(not(feature = "std"), no_std)]
-#![deny(missing_docs, unsafe_code)]
+#![deny(missing_docs, unsafe_code, clippy::undocumented_unsafe_blocks)]
 
 pub mod boundary;
 mod builder;
@@ -66,3 +66,30 @@ pub use refusal::{Field, Refusal};
 pub use stream::{Ended, Portion, StreamReader};
 pub use table::{look, start_of, Packet, Packets, Record, Records, Siblings, Table};
 pub use value::{Color, Midi, Time, Value};
+
+/// What a later version may add a case to cannot be matched case by case: each of these programs would not compile then, and does not now.
+///
+/// ```compile_fail,E0005
+/// use sennorbai::Refusal::*;
+/// let (TooLong | Empty | NotUtf8 | BadStart | NotOpen | UnknownTag | NotScalar | TooDeep | TableFull | BadTable | OutputShort
+///     | DepthLimit | PadOverflow | BytesLeft | OddLength | Short { .. }) = Empty;
+/// ```
+/// ```compile_fail,E0005
+/// use sennorbai::Field::*;
+/// let (Address | TypeText | Data | Padding | Head) = Address;
+/// ```
+/// ```compile_fail,E0005
+/// use sennorbai::Value::*;
+/// let (Message(_) | Bundle(_) | Int(_) | Float(_) | Text(_) | Blob(_) | Time(_) | Long(_) | Double(_) | Char(_) | Color(_)
+///     | Midi(_) | Bool(_) | Nil | Inf | Array) = Nil;
+/// ```
+/// ```compile_fail,E0005
+/// use sennorbai::index::Stop::*;
+/// let (Whole | Waiting | Refused(_)) = Whole;
+/// ```
+/// ```compile_fail,E0005
+/// use sennorbai::index::Error::*;
+/// let (Recording(_) | Index(_) | TooLong | Differs { .. }) = TooLong;
+/// ```
+#[cfg(all(doctest, feature = "std"))]
+struct Open;

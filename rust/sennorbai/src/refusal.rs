@@ -20,6 +20,7 @@ use core::fmt;
 /// assert_eq!(refusal.to_string(), "18: the type text at offset 4 is not all there");
 /// ```
 #[derive(Clone, Copy, Debug, PartialEq, Eq, PartialOrd, Ord, Hash)]
+#[non_exhaustive]
 pub enum Refusal {
     /// The input of a decoder or the result of an encoder is over [`LONGEST`](crate::LONGEST) bytes, or a frame of edition 2 would
     /// be: its length is over 65,531.
@@ -63,6 +64,7 @@ pub enum Refusal {
 
 /// What was short, of a [`Refusal::Short`].
 #[derive(Clone, Copy, Debug, PartialEq, Eq, PartialOrd, Ord, Hash)]
+#[non_exhaustive]
 pub enum Field {
     /// The address of a message, its NUL included. A first text is that until it is known to be `#bundle`.
     Address,

@@ -64,27 +64,40 @@ impl StreamReader {
     }
 
     /// Room for the next bytes of the stream. Write to its beginning, and say by [`received`](StreamReader::received) how many they
-    /// are. After every read that gives an answer there is room for 4 bytes at least; there is none once the stream has ended.
+    /// are. After every read that gives an answer there is room for 4 bytes at least, unless the stream has ended: then there is none,
+    /// and a socket that reads into it answers 0, as it does where the sender has closed. So look at [`ended`](Portion::ended) after
+    /// each read. With the feature `std`, `receive` does both steps and tells the two apart.
     ///
     /// ```
     /// use sennorbai::{StreamReader, DEEPEST, LONGEST, RECORD};
+    /// use std::error::Error;
     /// use std::io::Read;
     ///
-    /// let mut socket = &b"\0\0\0\x08/a\0\0,\0\0\0\0\0\0\x0C/b"[..];
-    /// let mut table = vec![0; RECORD * LONGEST];
-    /// let mut reader = StreamReader::new(DEEPEST);
-    /// let mut packets = 0;
-    /// loop {
-    ///     let many = socket.read(reader.spare())?;
-    ///     if many == 0 {
-    ///         break;
+    /// /// How many packets a sender sends before it closes, and how many bytes of a frame that does not come whole.
+    /// fn record(mut socket: impl Read) -> Result<(usize, usize), Box<dyn Error>> {
+    ///     let mut table = vec![0; RECORD * LONGEST];
+    ///     let mut reader = StreamReader::new(DEEPEST);
+    ///     let mut packets = 0;
+    ///     loop {
+    ///         let many = socket.read(reader.spare())?;
+    ///         if many == 0 {
+    ///             return Ok((packets, reader.kept().len()));
+    ///         }
+    ///         reader.received(many);
+    ///         let portion = reader.read(&mut table)?;
+    ///         packets += portion.packets().roots().count();
+    ///         if let Some(ended) = portion.ended() {
+    ///             return Err(ended.into());
+    ///         }
     ///     }
-    ///     reader.received(many);
-    ///     packets += reader.read(&mut table)?.packets().roots().count();
     /// }
+    ///
     /// // The sender has closed within a frame.
-    /// assert_eq!((packets, reader.kept()), (1, &b"\0\0\0\x0C/b"[..]));
-    /// # Ok::<(), Box<dyn std::error::Error>>(())
+    /// assert_eq!(record(&b"\0\0\0\x08/a\0\0,\0\0\0\0\0\0\x0C/b"[..])?, (1, 6));
+    /// // The second of three frames is refused: there is no type tag `x`.
+    /// let refused = &b"\0\0\0\x08/a\0\0,\0\0\0\0\0\0\x08/b\0\0,x\0\0\0\0\0\x08/c\0\0,\0\0\0"[..];
+    /// assert_eq!(record(refused).unwrap_err().to_string(), "the frame at byte 12: 7: unknown type tag");
+    /// # Ok::<(), Box<dyn Error>>(())
     /// ```
     pub fn spare(&mut self) -> &mut [u8] {
         if self.from > 0 {
@@ -100,6 +113,44 @@ impl StreamReader {
     /// taken for all that it had.
     pub fn received(&mut self, many: usize) {
         self.to += many.min(self.room());
+    }
+
+    /// Reads the next bytes of the stream from `socket`, as many as it gives at once, and answers how many these are: 0 where the sender
+    /// has closed. Where there is no room to read into, that is an error which says why: the stream has ended, with the [`Ended`] in it,
+    /// or the bytes that have come are to be read first.
+    ///
+    /// ```
+    /// use sennorbai::{StreamReader, DEEPEST, LONGEST, RECORD};
+    ///
+    /// let mut socket = &b"\0\0\0\x08/a\0\0,\0\0\0\0\0\0\x08/b\0\0,x\0\0\0\0\0\x08/c\0\0,\0\0\0"[..];
+    /// let mut table = vec![0; RECORD * LONGEST];
+    /// let mut reader = StreamReader::new(DEEPEST);
+    /// assert_eq!(reader.receive(&mut socket)?, 36);
+    /// assert_eq!(reader.read(&mut table)?.packets().roots().count(), 1);
+    /// let error = reader.receive(&mut socket).unwrap_err();
+    /// assert_eq!(error.to_string(), "the frame at byte 12: 7: unknown type tag");
+    /// # Ok::<(), Box<dyn std::error::Error>>(())
+    /// ```
+    #[cfg(feature = "std")]
+    pub fn receive(&mut self, socket: &mut impl std::io::Read) -> std::io::Result<usize> {
+        use std::io::{Error, ErrorKind};
+        if let Some(ended) = self.ended {
+            return Err(Error::new(ErrorKind::InvalidData, ended));
+        }
+        let spare = self.spare();
+        if spare.is_empty() {
+            return Err(Error::other("the reader's buffer is full: the bytes that have come are to be read first"));
+        }
+        loop {
+            match socket.read(spare) {
+                Err(error) if error.kind() == ErrorKind::Interrupted => {}
+                Err(error) => return Err(error),
+                Ok(many) => {
+                    self.received(many);
+                    return Ok(many);
+                }
+            }
+        }
     }
 
     /// Copies the next bytes of the stream, as many as there is room for, and answers how many these are. Where they are not all,
@@ -124,11 +175,11 @@ impl StreamReader {
     /// kept for the next read.
     ///
     /// A table of [`RECORD`](crate::RECORD) times [`LONGEST`] bytes always has room. One that is too small is refused with
-    /// [`Refusal::TableFull`], and nothing is consumed: the same frames can be read into a larger one. The only other refusal is
-    /// [`Refusal::DepthLimit`]. Neither ends the stream, and neither changes a byte of the table.
+    /// [`Refusal::TableFull`], and nothing is consumed: the same frames can be read into a larger one. The only other refusal of a stream
+    /// that goes on is [`Refusal::DepthLimit`]. Neither ends the stream, and neither changes a byte of the table.
     ///
-    /// Where a frame is refused, the packets before it are given once, and every read from then on has the same
-    /// [`ended`](Portion::ended).
+    /// Where a frame is refused, the packets before it are given once, with that frame as [`ended`](Portion::ended). Nothing can come
+    /// after it, so every read from then on is refused as the frame is: a loop that does not look at `ended` ends all the same.
     ///
     /// ```
     /// use sennorbai::{Refusal, StreamReader, DEEPEST, RECORD};
@@ -143,16 +194,20 @@ impl StreamReader {
     /// assert_eq!(portion.packets().count(), 2);
     /// let ended = portion.ended().unwrap();
     /// assert_eq!((ended.refusal, ended.frame), (Refusal::UnknownTag, 12));
-    /// assert_eq!(reader.read(&mut table)?.ended(), Some(ended));
+    /// assert_eq!(reader.read(&mut table).unwrap_err(), Refusal::UnknownTag);
+    /// assert_eq!(reader.ended(), Some(ended));
     /// # Ok::<(), Refusal>(())
     /// ```
     pub fn read<'a>(&'a mut self, table: &'a mut [u8]) -> Result<Portion<'a>, Refusal> {
+        if let Some(ended) = self.ended {
+            return Err(ended.refusal);
+        }
         let (bytes, start) = (&self.buffer[self.from..self.to], self.consumed);
         let given = Nodes::portion(bytes, table, self.depth)?;
         let used = bytes.len() - given.left;
         self.from += used;
         self.consumed += used as u64;
-        // The bytes from a refused frame on stay, and the next read finds it again.
+        // The bytes from a refused frame on stay: they are what is kept.
         self.ended = given.stopped.map(|stop| Ended::new(stop, start));
         Ok(Portion { packets: Packets::new(given), start, ended: self.ended })
     }
@@ -221,7 +276,7 @@ impl<'a> Portion<'a> {
     }
 }
 
-/// The refused frame that ended a stream. Both offsets are counted from the stream's first byte.
+/// The refused frame that ended a stream, or the index of a recording. Both offsets are counted from the stream's first byte.
 ///
 /// ```
 /// use sennorbai::{Field, Refusal, StreamReader, DEEPEST, RECORD};
@@ -248,7 +303,7 @@ pub struct Ended {
 
 impl Ended {
     /// A frame at which a step stopped, that had so many bytes of the stream before it.
-    fn new(Stop { refusal, frame }: Stop, before: u64) -> Ended {
+    pub(crate) fn new(Stop { refusal, frame }: Stop, before: u64) -> Ended {
         let field = refusal.offset().map(|at| before + at as u64);
         let refusal = match refusal {
             Refusal::Short { field, at } => Refusal::Short { field, at: at - frame as u32 },

@@ -9,7 +9,8 @@ use core::iter::FusedIterator;
 /// A node table as an encoder takes it: `count` records, and the source that their ranges lie in.
 ///
 /// It may hold any bytes. [`encode`](crate::encode) refuses what is not well formed, and [`check`](Table::check) gives the
-/// records of what is.
+/// records of what is. Both read each of its texts, and many of them may have the same range: 600 texts over the same 4 MiB take more than
+/// a second. Where a stranger's table is taken, bound the product of `count` and the length of `source`.
 #[derive(Clone, Copy, Debug, PartialEq, Eq)]
 pub struct Table<'a> {
     /// The records, [`RECORD`](crate::RECORD) bytes each. Bytes after the last one are not looked at.

@@ -4,6 +4,7 @@
 ///
 /// Floats have the bits of the packet, a NaN's payload included; like any float, a NaN is not equal to itself.
 #[derive(Clone, Copy, Debug, PartialEq)]
+#[non_exhaustive]
 pub enum Value<'a> {
     /// `/`: a message with its address. It contains arguments.
     Message(&'a str),

@@ -3,7 +3,7 @@
 #![cfg(feature = "std")]
 
 use sennorbai::index::{check, fits, write, Cue, Error, Stop, Written, ENTRY};
-use sennorbai::{Field, Refusal};
+use sennorbai::{Ended, Field, Refusal};
 use std::cell::{Cell, RefCell};
 use std::io::{self, Cursor, Read, Seek, SeekFrom, Write};
 use std::rc::Rc;
@@ -82,6 +82,14 @@ impl Recording {
     /// How far the index goes, with this reason why no further.
     fn up_to_here(&self, stop: Stop) -> Written {
         Written { records: self.records() as u64, end: self.bytes.len() as u64, stop }
+    }
+
+    /// The same at a frame that is refused so: a field that was short has its own offset counted from the frame, and that in the recording
+    /// stands beside it.
+    fn refused_here(&self, refusal: Refusal) -> Written {
+        let frame = self.bytes.len() as u64;
+        let field = refusal.offset().map(|at| frame + at as u64);
+        self.up_to_here(Stop::Refused(Ended { refusal, frame, field }))
     }
 
     fn whole(&self) -> Written {
@@ -196,7 +204,7 @@ fn differs(recording: &Recording, index: &[u8]) -> u64 {
         match check(&recording.bytes[..], Slowly(Cursor::new(index), Numbers(6), most)) {
             Err(error @ Error::Differs { record }) => {
                 assert_eq!(error.number(), Some(25));
-                assert_eq!(error.to_string(), format!("25: record {record}"));
+                assert_eq!(error.to_string(), format!("25: index differs, record {record}"));
                 differs.push(record);
             }
             Err(other) => panic!("{other:?}"),
@@ -259,7 +267,7 @@ fn stops_at(name: &str, bytes: &[u8], refusal: Refusal) {
         let recording = Recording::of(any_packets(7, before));
         for after in [&[][..], &[0], &frame(&bare("/after", 1).bytes)] {
             let bytes = [&recording.bytes[..], bytes, after].concat();
-            agrees(name, &bytes, &recording.index, recording.up_to_here(Stop::Refused(refusal)));
+            agrees(name, &bytes, &recording.index, recording.refused_here(refusal));
         }
     }
 }
@@ -362,7 +370,9 @@ fn a_late_difference() {
 fn a_damaged_end() {
     let recording = Recording::of([bare("/a", 1)]);
     let bytes = [&recording.bytes[..], &frame(b"/abc"), &frame(&bare("/c", 1).bytes)].concat();
-    let due = recording.up_to_here(Stop::Refused(Refusal::Short { field: Field::Address, at: 4 }));
+    let due = recording.refused_here(Refusal::Short { field: Field::Address, at: 4 });
+    let Stop::Refused(ended) = due.stop else { panic!("it is refused") };
+    assert_eq!(ended.to_string(), "the frame at byte 12: 17: the address at offset 16 is not all there");
     agrees("damaged", &bytes, &recording.index, due);
     // What comes later is not even read.
     assert_eq!(check((&bytes[..]).chain(Broken), Cursor::new(&recording.index)).unwrap().written(), due);

@@ -57,11 +57,11 @@ fn says_where_it_goes_no_further() {
     assert_eq!(run(&["check", &recording, &index]).unwrap(), told);
     // The same index is that of a recording with another damage there, and not of the whole one.
     fs::write(&recording, [&RECORDING[..44], b"\0\0\0\0"].concat()).unwrap();
-    let told = "2 cues up to the frame at 44: 2: a packet of no bytes";
+    let told = "2 cues up to the frame at byte 44: 2: a packet of no bytes";
     assert_eq!(run(&["check", &recording, &index]).unwrap(), told);
     fs::write(&recording, RECORDING).unwrap();
     let error = run(&["cue", &recording, &index, "0"]).unwrap_err();
-    assert_eq!(error.to_string(), "25: record 2");
+    assert_eq!(error.to_string(), "25: index differs, record 2");
 }
 
 #[test]

@@ -40,6 +40,7 @@ fn says(value: Value<'_>) -> Vec<u8> {
         Value::Long(x) => x.to_be_bytes().to_vec(),
         Value::Double(x) => x.to_bits().to_be_bytes().to_vec(),
         Value::Bool(_) | Value::Nil | Value::Inf | Value::Array => Vec::new(),
+        other => panic!("a value that this test does not know: {other:?}"),
     }
 }
 
@@ -113,17 +114,14 @@ impl Stream {
         let (mut seen, mut fed) = (Seen::default(), 0);
         for place in places.into_iter().chain([self.bytes.len()]) {
             let from = fed;
-            while fed < place {
+            while fed < place && seen.ended.is_none() {
                 let taken = reader.feed(&self.bytes[fed..place]);
                 fed += taken;
                 self.step(reader, fed, &mut seen, table);
-                assert!(taken > 0 || seen.ended.is_some(), "{}: no byte taken at {fed}", self.name);
-                if seen.ended.is_some() {
-                    break;
-                }
+                assert!(taken > 0, "{}: no byte taken at {fed}", self.name);
             }
             // A portion of no bytes changes nothing.
-            if from == place {
+            if from == place && seen.ended.is_none() {
                 self.step(reader, fed, &mut seen, table);
             }
         }
@@ -156,7 +154,7 @@ impl Stream {
         assert!(seen.is_beginning_of(&self.due), "{name}: {fed} bytes fed");
     }
 
-    /// A stream that has ended takes nothing more, and says so again, whatever the table.
+    /// A stream that has ended takes nothing more, and says why, whatever the table.
     fn stays_ended(&self, reader: &mut StreamReader, frame: u64, table: &mut [u8]) {
         let (ended, kept) = (reader.ended().unwrap(), reader.kept().to_vec());
         assert!(kept.len() >= 4 && self.bytes[frame as usize..].starts_with(&kept), "{}", self.name);
@@ -165,9 +163,9 @@ impl Stream {
             assert_eq!(reader.feed(b"\0\0\0\x08/a\0\0,\0\0\0"), 0);
             assert!(reader.spare().is_empty());
             reader.received(7);
-            let again = reader.read(table).unwrap();
-            assert_eq!((again.packets().count(), again.packets().dirty()), (0, 0), "{}", self.name);
-            assert_eq!((again.ended(), again.start()), (Some(ended), frame), "{}", self.name);
+            assert_eq!(reader.read(table).unwrap_err(), ended.refusal, "{}", self.name);
+            #[cfg(feature = "std")]
+            assert_eq!(reader.receive(&mut &b"\0\0\0\x08"[..]).unwrap_err().to_string(), ended.to_string(), "{}", self.name);
             assert_eq!((reader.ended(), reader.consumed(), reader.kept()), (Some(ended), frame, &kept[..]), "{}", self.name);
         }
         // It is what the frame alone is refused with.
@@ -511,6 +509,53 @@ fn spare_and_received_are_feed() {
     reader.received(usize::MAX);
     assert_eq!((reader.kept().len(), reader.spare().len()), (LONGEST, 0));
     reader.received(usize::MAX);
+    assert_eq!(reader.kept().len(), LONGEST);
+}
+
+/// A socket that gives at most so many bytes at once, and is interrupted before each time.
+#[cfg(feature = "std")]
+struct Slow<'a>(&'a [u8], usize, bool);
+
+#[cfg(feature = "std")]
+impl std::io::Read for Slow<'_> {
+    fn read(&mut self, buffer: &mut [u8]) -> std::io::Result<usize> {
+        self.2 = !self.2;
+        if self.2 {
+            return Err(std::io::ErrorKind::Interrupted.into());
+        }
+        let many = buffer.len().min(self.1);
+        self.0.read(&mut buffer[..many])
+    }
+}
+
+/// A recorder that looks at nothing but errors: it has all packets, or an error that says why not.
+#[cfg(feature = "std")]
+#[test]
+fn a_careless_recorder_hears_of_a_refused_frame() {
+    let mut table = room();
+    for stream in short() {
+        let (mut reader, mut socket, mut seen) = (StreamReader::new(stream.depth), Slow(&stream.bytes, 5, false), 0);
+        let error = loop {
+            match reader.receive(&mut socket) {
+                Ok(0) => break None,
+                Ok(many) => assert!(many <= 5),
+                Err(error) => break Some(error.to_string()),
+            }
+            match reader.read(&mut table) {
+                Ok(portion) => seen += portion.packets().count(),
+                Err(refusal) => break Some(refusal.to_string()),
+            }
+        };
+        assert_eq!(seen, stream.due.items.len(), "{}", stream.name);
+        assert_eq!(error.is_some(), stream.due.ended.is_some(), "{}", stream.name);
+        assert_eq!(error, reader.ended().map(|ended| ended.to_string()), "{}", stream.name);
+    }
+    // A buffer that is full is not a sender that has closed.
+    let mut reader = StreamReader::new(DEEPEST);
+    let zeros = [0; LONGEST + 1];
+    assert_eq!(reader.receive(&mut &zeros[..]).unwrap(), LONGEST);
+    let words = "the reader's buffer is full: the bytes that have come are to be read first";
+    assert_eq!(reader.receive(&mut &zeros[LONGEST..]).unwrap_err().to_string(), words);
     assert_eq!(reader.kept().len(), LONGEST);
 }
 

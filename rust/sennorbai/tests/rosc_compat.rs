@@ -148,6 +148,95 @@ fn a_packet_past_several_limits_has_the_refusal_of_the_library() {
     assert_eq!(refusal(&bundle(vec![deep(64), many()])), Refusal::TooLong);
 }
 
+/// What the usual loop over a stream has: it appends what comes to what remained, and decodes.
+fn stream_of(frames: impl IntoIterator<Item = Vec<u8>>) -> Vec<u8> {
+    frames.into_iter().flatten().collect()
+}
+
+fn numbered(i: usize) -> OscPacket {
+    message("/cue", vec![(i as i32).into()])
+}
+
+fn frame(packet: &OscPacket) -> Vec<u8> {
+    encoder::encode_tcp(packet).unwrap()
+}
+
+#[test]
+fn a_stream_may_be_longer_than_the_library_takes_at_once() {
+    let stream = stream_of((0..20_000).map(|i| frame(&numbered(i))));
+    assert_eq!(stream.len(), 20 * 20_000);
+    let (rest, packets) = decoder::decode_tcp_vec(&stream).unwrap();
+    assert!(rest.is_empty());
+    assert!(packets.iter().cloned().eq((0..20_000).map(numbered)));
+    // Cut anywhere, the frames that are whole are given, and what is cut waits, as in rosc: not with a part of a length, nor with the
+    // last 4 bytes missing.
+    for cut in (65_535..65_560).chain(131_070..131_080).chain([100_000, 399_979, 399_985, 399_995, 399_999]) {
+        match decoder::decode_tcp_vec(&stream[..cut]) {
+            Ok((rest, packets)) => assert_eq!((packets.len(), rest.len()), (cut / 20, cut % 20)),
+            Err(error) => {
+                assert!(matches!(error, OscError::ReadError(_)) && [1, 2, 3, 16, 17, 18, 19].contains(&(cut % 20)))
+            }
+        }
+    }
+    // The first packet of it.
+    let (rest, first) = decoder::decode_tcp(&stream).unwrap();
+    assert_eq!((rest, first), (&stream[20..], Some(numbered(0))));
+    // A length that is more than all of it waits.
+    let waits = [&0x0010_0000u32.to_be_bytes()[..], &stream].concat();
+    assert_eq!(decoder::decode_tcp(&waits).unwrap(), (&waits[..], None));
+    assert_eq!(decoder::decode_tcp_vec(&waits).unwrap(), (&waits[..], vec![]));
+}
+
+#[test]
+fn what_a_long_stream_has_in_it() {
+    let many = || stream_of((0..5_000).map(|i| frame(&numbered(i))));
+    let (count, size) = (5_000, many().len());
+    let limit = |msg: &[u8]| matches!(decoder::decode_tcp_vec(msg), Err(OscError::Limit(Refusal::TooLong)));
+    let given = |msg: &[u8]| decoder::decode_tcp_vec(msg).map(|(rest, packets)| (packets.len(), rest.len())).unwrap();
+
+    // A message of 65,535 bytes at most is read, and a longer one is over the limit; the packets before it are given.
+    let long =
+        |bytes: usize| [&[0; 4][..], b"/a\0\0,b\0\0", &(bytes as u32 - 12).to_be_bytes(), &vec![7; bytes - 12]].concat();
+    assert_eq!(given(&[long(65_532), many()].concat()), (count + 1, 0));
+    assert!(limit(&[long(65_536), many()].concat()));
+    assert_eq!(given(&[many(), long(65_536)].concat()), (count, 65_540));
+    assert_eq!(given(&[many(), long(65_536), many()].concat()), (count, 65_540 + size));
+    assert!(matches!(decoder::decode_tcp(&[long(65_536), many()].concat()), Err(OscError::Limit(Refusal::TooLong))));
+
+    // A bundle takes the frames after it, as many as there are: with more than 65,535 bytes of them it is over the limit.
+    let bundled = frame(&bundle(vec![]));
+    let framed = [&size_of(bundled.len())[..], &bundled].concat();
+    assert!(limit(&[&framed[..], &many()].concat()));
+    assert_eq!(given(&[&many()[..], &framed, &many()].concat()), (count, framed.len() + size));
+    assert_eq!(given(&[&many()[..], &framed].concat()), (count + 1, 0));
+    // It ends where an element is no packet, or is not all there.
+    for end in [&b"\0\0\0\x00"[..], b"\0\0\0\x04/abc"] {
+        let stream = [&framed[..], end, &many()].concat();
+        let (rest, first) = decoder::decode_tcp(&stream).unwrap();
+        assert_eq!((rest.len(), first), (end.len() + size, Some(bundle(vec![]))));
+    }
+    let stream = [&framed[..], b"\x10\0\0\0", &many()].concat();
+    assert_eq!(given(&stream), (1, 4 + size));
+    // An element that is there, and more than is looked at: that it is none cannot be known.
+    assert!(limit(&[&framed[..], &size_of(size - 4), &many()].concat()));
+
+    // What is refused is refused as rosc does it, with the packets before it.
+    let refused = stream_of([many(), b"\0\0\0\x08/a\0\0,x\0\0".to_vec(), many()]);
+    assert!(matches!(decoder::decode_tcp_vec(&refused), Err(OscError::BadArg(_))));
+    // Too deep is a limit too.
+    let deeper = stream_of([many(), frame(&deep(64)), many()]);
+    assert_eq!(given(&deeper).0, count);
+    let mut bundles = vec![0; 4];
+    encoder::encode_into(&deep(65), &mut bundles).unwrap();
+    assert_eq!(given(&[&many()[..], &bundles].concat()), (count, bundles.len()));
+    let first = [&bundles[..], &[0; 4], &many()].concat();
+    assert!(matches!(decoder::decode_tcp_vec(&first), Err(OscError::Limit(Refusal::TooDeep))));
+}
+
+fn size_of(length: usize) -> [u8; 4] {
+    (length as u32).to_be_bytes()
+}
+
 /// An output that encodes a packet itself whenever it is written to.
 struct Busy(Vec<u8>);
 
@@ -246,17 +335,31 @@ fn nothing_panics_where_rosc_does() {
     assert_eq!(bytes, [1, 2]);
 }
 
+/// The stack of the next test. Encoding passes it on 48 KiB too, in a debug build; a walk that called itself for each level of 60,000 or
+/// 100,000 would take many megabytes.
+const STACK: usize = 128 << 10;
+
 #[test]
-fn a_program_may_nest_arrays_to_any_depth() {
-    // Dropping calls itself for each level; encoding does not.
+fn a_program_may_nest_arrays_and_bundles_to_any_depth() {
     let run = || {
-        let packet = deep_arrays(100_000);
-        assert!(matches!(encoder::encode(&packet), Err(OscError::Limit(_))));
-        let [bytes, frame] = written(&packet);
+        let arrays = deep_arrays(100_000);
+        // There is no table for so many records.
+        assert!(matches!(encoder::encode(&arrays), Err(OscError::Limit(Refusal::TooLong))));
+        let [bytes, frame] = written(&arrays);
         assert_eq!(bytes, [b"/a\0\0,", &[b'['; 100_000][..], &[b']'; 100_000], b"\0\0\0"].concat());
         assert_eq!(frame, [&size(&bytes)[..], &bytes].concat());
+
+        let bundles = deep(60_000);
+        assert!(matches!(encoder::encode(&bundles), Err(OscError::Limit(Refusal::TooDeep))));
+        let [bytes, frame] = written(&bundles);
+        assert_eq!((bytes.len(), bytes == frame), (20 * 60_000 - 4, true));
+        assert_eq!(bytes[16..20], (20 * 59_999u32 - 4).to_be_bytes());
+        assert!(bytes.chunks(20).all(|level| level.starts_with(b"#bundle\0\0\0\0\x07\0\0\0\x09")));
+
+        // Dropping calls itself for each level, as in rosc, so neither is dropped.
+        std::mem::forget((arrays, bundles));
     };
-    std::thread::Builder::new().stack_size(256 << 20).spawn(run).unwrap().join().unwrap();
+    std::thread::Builder::new().stack_size(STACK).spawn(run).unwrap().join().unwrap();
 }
 
 #[test]

@@ -52,6 +52,7 @@ fn data_says_what_the_value_says() {
                 assert_eq!(data, None);
                 continue;
             }
+            other => panic!("a value that this test does not know: {other:?}"),
         };
         assert_eq!(data, Some(&due[..]), "{record:?}");
     }

@@ -1,17 +1,14 @@
 -- A field that was short in edition 2 is not all there within its frame, which the length cuts (Tickets 1 and 2).
-use mathlib.Core.Path.{_≡_, refl, ap, sym, subst, _∙_}
+use mathlib.Core.Path.{_≡_, refl, subst}
 use mathlib.Core.List.{List, [], _∷_}
 use Prim.Native.Nat.{ℕ, suc, _+_, _-_, _%_, _≤_}
 use native.Mathlib.Omega.{arith}
 use lib.Dec.{leb}
-use lib.ListN.{length, take, drop, length-take, length-drop}
-use lib.Seq.{length-take-le, take-add, drop-at}
-use Rattle.refusal.specs.declared.Fault.{Fault}
+use lib.ListN.{length, drop, length-drop}
 use Rattle.refusal.specs.declared.Fault.the-variants.{Short}
 use Rattle.refusal.specs.declared.Field.{Field}
 use Rattle.refusal.specs.declared.Field.the-variants.{Padding}
 use Rattle.refusal.specs.declared.Refusal.{Refusal}
-use Rattle.refusal.specs.declared.Refusal.the-variants.{Unreadable}
 use Rattle.wire.specs.Limits.{longestFramed}
 use Rattle.wire.specs.Number.{number}
 use Rattle.wire.proofs.Choices.{by-test, by-eq, by-le}
@@ -21,77 +18,87 @@ use Rattle.argument.specs.Dirt.{dirtyIn}
 use Rattle.heads.specs.Heads.{lengthOf}
 use Rattle.heads.specs.declared.Length.{Length}
 use Rattle.packet.specs.Packet.{Out, fault, one, after, readPacket}
-use Rattle.framing.specs.Framing.{Whole, trees, waiting, refusal, stopped, wholly, cutWith, cutFrame, tcp2, stops, tcpVec2}
+use Rattle.framing.specs.Framing.{Whole, Frame, trees, waiting, refusal, stopped, wholly, cutWith, cutFrame, tcp2, stops, tcpVec2}
 use Rattle.framing.proofs.FrameKnot.{cut-length, cut-in}
 use Rattle.answering.specs.Limits.{limited, decoded, forestOf}
 use Rattle.results.specs.declared.Decoded.the-variants.{Refused, Stopped}
 use Rattle.decoder.proofs.Chosen.{by-decoded, by-trees, by-bounded}
-use Rattle.calls.specs.Fields.{ShortIn, CutShort, CutFieldsShort, CutFrameShort}
-use Rattle.calls.proofs.Fields.Told.{further, OutShort, packet-short, FrameHas, first-has, told-has}
-use Rattle.calls.proofs.Fields.Told.{ListHas, frames-has, own-field}
+use Rattle.calls.specs.Fields.{Form, prefix, address, typeText, padding, plain, string, blob, timeTag, fieldOf, needs, packetFields}
+use Rattle.calls.specs.Fields.{ShortIn, cut-here, cut-later, cutPacket, CutShort, CutFieldsShort, CutFrameShort}
+use Rattle.calls.proofs.Fields.Judged.{Judgement, bad, Judged, outEnd, packet-judged}
+use Rattle.calls.proofs.Fields.Told.{FrameHas, first-has, told-has, ListHas, frames-has, own-field}
 
 -- ---- a frame
 
--- the frame at the front of l is all there, and the field of its packet that k tells of is short
-record InCut (l : List ℕ) (k : Fault) : Type 0 where
-  whole : 4 + number 4 l ≤ length l
-  fours : number 4 l % 4 ≡ 0
-  short : ShortIn (take (number 4 l) (drop 4 l)) 4 k
+-- the frame at the front of l is all there, and its packet ends so
+pub record InCut (l : List ℕ) (x : Judgement) : Type 0 where
+  pub whole : 4 + number 4 l ≤ length l
+  pub fours : number 4 l % 4 ≡ 0
+  pub judged : Judged (packetFields (cutPacket l) 4) (cutPacket l) 4 x
 
 module _ (limit base : ℕ) (l : List ℕ) where
   abbrev Cut : Length → Type 0
   Cut x = FrameHas (InCut l) (cutWith limit base l x)
 
-  packet-cut : 4 + number 4 l ≤ length l → number 4 l % 4 ≡ 0 → (o : Out) → OutShort (take (number 4 l) (drop 4 l)) 4 o
-      → FrameHas (InCut l) (wholly limit (4 + number 4 l) (after 4 o))
-  packet-cut h e (fault k) s = record { whole = h; fours = e; short = s }
+  packet-cut : 4 + number 4 l ≤ length l → number 4 l % 4 ≡ 0 → (o : Out)
+      → Judged (packetFields (cutPacket l) 4) (cutPacket l) 4 (outEnd o) → FrameHas (InCut l) (wholly limit (4 + number 4 l) (after 4 o))
+  packet-cut h e (fault k) s = record { whole = h; fours = e; judged = s }
   packet-cut h e (one item f used) s =
       by-eq (FrameHas (InCut l)) (4 + used) (4 + number 4 l)
-      (λ _. by-test (FrameHas (InCut l)) (leb (depth (node item f nil)) limit) (λ _. tt)
+      (λ _. by-test (FrameHas (InCut l)) (leb (depth (node item f nil)) limit) (λ _. record { whole = h; fours = e; judged = s })
       (λ _ k g. let z : _≡_ {A = ℕ} 0 1 = cc in omega arith))
       (λ _ k g. let z : _≡_ {A = ℕ} 0 1 = cc in omega arith)
 
-  -- a fault of a frame is that of a field which is short in it
-  cut-has : FrameHas (InCut l) (cutFrame limit base l)
+  -- a fault of a frame tells the field that is short in it, and one that is accepted has none
+  pub cut-judged : FrameHas (InCut l) (cutFrame limit base l)
   unfolding cutFrame lengthOf
-  cut-has =
+  cut-judged =
       by-le Cut 4 (length l)
       (λ h. by-le Cut (number 4 l) longestFramed
       (λ _. by-eq Cut (number 4 l % 4) 0
       (λ e. by-le Cut (number 4 l) (length l - 4)
-      (λ g. packet-cut (omega arith) e (readPacket base (take (number 4 l) (drop 4 l)) 4)
-      (packet-short base (take (number 4 l) (drop 4 l)) 4))
+      (λ g. packet-cut (omega arith) e (readPacket base (cutPacket l) 4) (packet-judged base (cutPacket l) 4))
       (λ _. tt))
       (λ _ k g. let z : _≡_ {A = ℕ} 0 1 = cc in omega arith))
       (λ _ k g. let z : _≡_ {A = ℕ} 0 1 = cc in omega arith))
       (λ _. tt)
 
--- what is short in a packet is short in its frame; no padding is, since the frame ends at a multiple of 4
-cut-short : {at : ℕ} {field : Field} (l : List ℕ) → InCut l (Short field at) → CutShort l field at
-cut-short {at} {field} l w =
-    let n = number 4 l in
-    let packet = take n (drop 4 l) in
-    let all : length packet ≡ n = cut-length l n (w .whole) in
-    let front : length (take 4 l) ≡ 4 = length-take-le 4 l (omega (arith, w .whole)) in
-    let rest : drop 4 (take (4 + n) l) ≡ packet = ap (drop 4) (take-add 4 n l) ∙ drop-at (take 4 l) packet 4 front in
+-- a form that is told as padding needs what padding needs
+padding-form : (form : Form) (p : ℕ) (l : List ℕ) → fieldOf form ≡ Padding → needs form p l ≡ needs padding p l
+padding-form padding p l e = refl
+padding-form prefix p l e = let z : _≡_ {A = ℕ} 0 1 = cc in absurd (omega arith)
+padding-form address p l e = let z : _≡_ {A = ℕ} 0 1 = cc in absurd (omega arith)
+padding-form typeText p l e = let z : _≡_ {A = ℕ} 0 1 = cc in absurd (omega arith)
+padding-form (plain n) p l e = let z : _≡_ {A = ℕ} 0 1 = cc in absurd (omega arith)
+padding-form string p l e = let z : _≡_ {A = ℕ} 0 1 = cc in absurd (omega arith)
+padding-form blob p l e = let z : _≡_ {A = ℕ} 0 1 = cc in absurd (omega arith)
+padding-form timeTag p l e = let z : _≡_ {A = ℕ} 0 1 = cc in absurd (omega arith)
+
+-- padding is never short where the bytes end at a multiple of 4
+padding-whole : {forms : List Form} {l : List ℕ} {p : ℕ} {field : Field} {at : ℕ} → (p + length l) % 4 ≡ 0
+    → ShortIn forms l p field at → field ≡ Padding → ⊥
+padding-whole {l = l} fours (cut-here {form} {p = p} h) e = omega (arith, padding-form form p l e)
+padding-whole {l = l} fours (cut-later {form} {p = p} h s) e =
+    let n = needs form p l in
+    let sum : p + n + length (drop n l) ≡ p + length l = omega (arith, length-drop n l) in
+    padding-whole (rw sum fours) s e
+
+cut-short : (l : List ℕ) (field : Field) (at : ℕ) → InCut l (bad (Short field at)) → CutShort l field at
+cut-short l field at w =
+    let all : length (cutPacket l) ≡ number 4 l = cut-length l (number 4 l) (w .whole) in
     record {
       whole = w .whole;
-      prefixed = w .short .0;
-      short =
-          further 4 (take (4 + n) l) 0 (Short field at) (omega (arith, length-take (4 + n) l, w .whole))
-          (subst (λ (x : List ℕ). ShortIn x 4 (Short field at)) (sym rest) (w .short));
-      no-padding = λ e.
-          let s = subst (λ (x : Field). ShortIn packet 4 (Short x at)) e (w .short) in
-          omega (arith, s .0, s .1, s .2, w .fours, length-drop (at - 4) packet);
+      short = w .judged;
+      no-padding = padding-whole (omega (arith, all, w .fours)) (w .judged);
     }
 
--- the field that `decode_tcp` tells of in edition 2 is not all there within its frame
+-- the field that `decode_tcp` tells in edition 2 is the one that is short within its frame
 pub cut-fields-short : CutFieldsShort
 unfolding tcp2
 cut-fields-short msg limit table field at e =
-    cut-short msg
+    cut-short msg field at
     (told-has (InCut msg) (tcp2 limit) limit msg table
-    (first-has (InCut msg) (length msg) (cutFrame limit 0 msg) (cut-has limit 0 msg)) e)
+    (first-has (InCut msg) (length msg) (cutFrame limit 0 msg) (cut-judged limit 0 msg)) e)
 
 -- ---- a list
 
@@ -117,16 +124,16 @@ module _ {count left dirty at : ℕ} {r : Refusal} where
       by-decoded (λ d. d ≡ Stopped count left dirty r at → rule msg ≡ stopped (forestOf (rule msg)) left r at) rule capacity limit msg
       (λ h p. refused-unstopped p) (λ h p. refused-unstopped p) (λ h n. limited-stopped capacity limit msg (rule msg))
 
-list-has : (limit : ℕ) (msg : List ℕ) → ListHas InCut msg 0 (tcpVec2 limit msg)
+list-has : (limit : ℕ) (msg : List ℕ) → ListHas (λ b m. cutFrame limit b m) InCut 0 msg (tcpVec2 limit msg)
 unfolding tcpVec2
 list-has limit [] = tt
 list-has limit (x ∷ msg) =
-    frames-has InCut stops (λ base l r h. h) (λ b m. cutFrame limit b m) (cut-in limit) (cut-has limit) (suc (length (x ∷ msg))) 0 (x ∷ msg)
-    (omega arith)
+    frames-has (λ b m. cutFrame limit b m) InCut stops (λ base l r h. h) (cut-in limit) (cut-judged limit) (suc (length (x ∷ msg))) 0
+    (x ∷ msg) (omega arith)
 
--- and the one that `decode_tcp_vec` tells of, within the frame at which the list stops
+-- and the one that `decode_tcp_vec` tells, within the frame at which the list stops
 pub cut-frame-short : CutFrameShort
-cut-frame-short msg limit table count left dirty field at frame e =
-    let read = read-stopped (tcpVec2 limit) (capacity table) limit msg e in
-    let own = own-field InCut msg (subst (ListHas InCut msg 0) read (list-has limit msg) (Short field at) refl) in
-    (own .0, cut-short (drop frame msg) (own .2))
+cut-frame-short msg limit table count left dirty field at start e =
+    let rule : ℕ → List ℕ → Frame = λ b m. cutFrame limit b m in
+    let stopped = read-stopped (tcpVec2 limit) (capacity table) limit msg e in
+    own-field rule InCut CutShort cut-short msg (subst (ListHas rule InCut 0 msg) stopped (list-has limit msg) (Short field at) refl)

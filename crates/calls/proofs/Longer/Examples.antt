@@ -2,7 +2,7 @@
 -- and lists, for which a refusal with 4 to 8 does not stay.
 use mathlib.Core.Path.{_≡_, refl, sym, _∙_}
 use mathlib.Core.List.{List, [], _∷_, _++_}
-use Prim.Native.Nat.{ℕ}
+use Prim.Native.Nat.{ℕ, _*_, _≤_}
 use native.Mathlib.Omega.{arith}
 use lib.ListN.{drop}
 use Rattle.refusal.specs.declared.Fault.the-variants.{Empty, Short, BadStart, UnknownTag}
@@ -13,15 +13,15 @@ use Rattle.node.specs.Forest.{size, depth, snoc}
 use Rattle.node.specs.Tags.{classOf, sortOf}
 use Rattle.text.specs.Text.{readText}
 use Rattle.argument.specs.Argument.{readArg}
-use Rattle.argument.specs.Dirt.{keptPadding, packetsPadding}
+use Rattle.argument.specs.Dirt.{keptPadding, packetsPadding, pads, AllZero}
 use Rattle.arguments.specs.Arguments.{readTags}
 use Rattle.heads.specs.Heads.{sizeOf, prefixOf, lengthOf}
 use Rattle.packet.specs.FirstText.{startOf}
 use Rattle.packet.specs.Packet.{readMessage, bundleBy, elementBy, elementsBy, packetBy, packetAt, readPacket}
-use Rattle.framing.specs.Framing.{udp, readFrame, cutFrame, tcp, framesAt, tcpVec, tcpVec2, ruleOf}
+use Rattle.framing.specs.Framing.{udp, readFrame, cutFrame, tcp, tcp2, framesAt, tcpVec, tcpVec2, ruleOf}
 use Rattle.edition.specs.declared.Edition.the-variants.{Standard}
-use Rattle.edition.specs.declared.Framing.the-variants.{TcpVec}
-use Rattle.answering.specs.Limits.{decoded}
+use Rattle.edition.specs.declared.Framing.the-variants.{Tcp, TcpVec}
+use Rattle.answering.specs.Limits.{decoded, forestOf}
 use Rattle.results.specs.declared.Decoded.{Decoded}
 use Rattle.results.specs.declared.Decoded.the-variants.{Packets, Refused}
 use Rattle.calls.specs.Words.{Gives, Unlimited}
@@ -30,7 +30,8 @@ use Rattle.decoder.proofs.Answers.{no-packets}
 use Rattle.table.proofs.Examples as p3
 use Rattle.table.proofs.Examples.{empty, nested}
 use Rattle.calls.proofs.Longer.MoreBytes.{more-bytes-udp, more-bytes-tcp}
-use Rattle.calls.proofs.Longer.Stay.{list-stays}
+use Rattle.calls.proofs.Longer.Stay.{frame-stays, list-stays}
+use Rattle.calls.proofs.Soiled.{dirt-low, clean-only}
 use Rattle.calls.proofs.Longer.Faults.{faults-stay-udp, faults-stay-tcp}
 use Rattle.calls.proofs.Room.Examples.{blank, nested-answer}
 
@@ -192,7 +193,7 @@ unfolding number size depth snoc classOf sortOf readText readArg readTags startO
 both-given = refl
 
 -- with the rest of the second frame, the first one's record stays
-first-stays : Stay (TcpVec Standard) begun (drop 4 slash) 0 64 (blank 1) (blank 2) 1
+first-stays : Stay (TcpVec Standard) begun (drop 4 slash) 0 64 (blank 1) (blank 2) 1 0
 first-stays =
     list-stays begun (drop 4 slash) 0 64 (blank 1) (blank 2) 1 0 (omega arith) one-given
     (record {
@@ -200,3 +201,36 @@ first-stays =
       no-10 = λ e. let p = both-given in let z : _≡_ {A = ℕ} 0 1 = cc in omega arith;
       no-13 = λ e. let p = both-given in let z : _≡_ {A = ℕ} 0 1 = cc in omega arith;
     })
+
+-- a frame whose address has a dirty byte of padding
+abbrev soiled : List ℕ
+soiled = 0 ∷ 0 ∷ 0 ∷ 8 ∷ 0x2F ∷ 0x61 ∷ 0 ∷ 9 ∷ 0x2C ∷ 0 ∷ 0 ∷ 0 ∷ []
+
+frame-given : Gives (answerTo (ruleOf (Tcp Standard) 0) 0 soiled (blank 1)) 1 1
+unfolding number size depth snoc classOf sortOf readText readArg readTags startOf sizeOf lengthOf readMessage bundleBy elementBy
+    elementsBy packetBy packetAt readPacket cutFrame tcp2 decoded keptPadding packetsPadding
+frame-given = (refl, refl)
+
+again-given : answerTo (ruleOf (Tcp Standard) 1) 1 (soiled ++ slash) (blank 2) ≡ Packets 1 12 1
+unfolding number size depth snoc classOf sortOf readText readArg readTags startOf sizeOf lengthOf readMessage bundleBy elementBy
+    elementsBy packetBy packetAt readPacket cutFrame tcp2 decoded keptPadding packetsPadding
+again-given = refl
+
+-- with another frame after it and a higher limit, its record stays, and the one dirty byte
+one-stays : Stay (Tcp Standard) soiled slash 0 1 (blank 1) (blank 2) 1 1
+one-stays =
+    frame-stays soiled slash 0 1 (blank 1) (blank 2) 1 1 (omega arith) frame-given
+    (record {
+      no-1 = λ e. let p = again-given in let z : _≡_ {A = ℕ} 0 1 = cc in omega arith;
+      no-10 = λ e. let p = again-given in let z : _≡_ {A = ℕ} 0 1 = cc in omega arith;
+      no-13 = λ e. let p = again-given in let z : _≡_ {A = ℕ} 0 1 = cc in omega arith;
+    })
+
+-- ---- dirty padding
+
+-- the frame has two texts, so that its dirt is at most 6; and as it is not 0, not every padding byte is
+soiled-low : 1 ≤ 3 * pads (forestOf (ruleOf (Tcp Standard) 0 soiled))
+soiled-low = dirt-low (ruleOf (Tcp Standard) 0) soiled (blank 1) 0 1 1 frame-given
+
+soiled-not-clean : AllZero (packetsPadding soiled (forestOf (ruleOf (Tcp Standard) 0 soiled))) → _≡_ {A = ℕ} 1 0
+soiled-not-clean = clean-only (ruleOf (Tcp Standard) 0) soiled (blank 1) 0 1 1 frame-given .1

@@ -1,4 +1,5 @@
--- Demand 3 in edition 2: bytes appended and limits no lower leave every packet that was given at its place (Ticket 1).
+-- Demand 3 in edition 2: bytes appended and limits no lower leave every packet that was given at its place (Ticket 1), and its dirty
+-- padding (Ticket 8).
 use mathlib.Core.Path.{_≡_, refl, ap, sym, subst, _∙_}
 use mathlib.Core.Logic.{⊎-elim}
 use mathlib.Core.List.{List, _++_}
@@ -9,7 +10,8 @@ use lib.ListN.{length, take, drop, length-append, length-drop}
 use lib.Seq.{take-at, drop-append-le}
 use Rattle.edition.specs.declared.Edition.the-variants.{Standard}
 use Rattle.wire.proofs.Choices.{by-eq, by-le, lt-or-le}
-use Rattle.argument.specs.Dirt.{dirtyIn}
+use Rattle.argument.specs.Dirt.{packetsPadding, dirtyIn}
+use Rattle.argument.proofs.Pads.{packets-join}
 use Rattle.node.specs.Forest.{Forest, nil, node, size, depth}
 use Rattle.node.specs.Records.{recordSize, recordsOf, capacity}
 use Rattle.node.proofs.Recorded.{length-records}
@@ -36,6 +38,7 @@ use Rattle.calls.specs.Words.{BeginsSame, none, also, Gives, Allowed}
 use Rattle.calls.specs.Demands.{answerTo, Stay, PacketsStay, StandardStays}
 use Rattle.calls.proofs.Answered.{held, given-is, given-records}
 use Rattle.folding.proofs.Settled.{SameFrame, cut-same}
+use Rattle.calls.proofs.Longer.Frames.{dirt-longer, frame-longer}
 use Rattle.calls.proofs.Longer.Tables.{begins-records}
 
 -- ---- a frame
@@ -121,6 +124,12 @@ unfolding size
 begins-size none = omega arith
 begins-size (also w) = omega (arith, begins-size w)
 
+begins-soil : (msg : List ℕ) {f g : Forest} → BeginsSame f g → dirtyIn msg f ≤ dirtyIn msg g
+unfolding packetsPadding
+begins-soil msg none = omega arith
+begins-soil msg (also {item} {inside} {f} {g} w) =
+    omega (arith, packets-join msg item inside f, packets-join msg item inside g, begins-soil msg w)
+
 -- where 13, 1 and 10 do not refuse a call, it gives the trees that it reads, which are within the limit
 allowed-gives : (rule : List ℕ → Whole) (capacity limit : ℕ) (msg : List ℕ) → Accepted (rule msg) → depth (forestOf (rule msg)) ≤ limit
     → Allowed (decoded rule capacity limit msg)
@@ -153,23 +162,30 @@ gives-accepted count dirty rule capacity limit msg =
     by-whole (trees f left) p = tt
     by-whole (stopped f left j at) p = tt
 
--- where the trees of the longer input begin with those of the shorter one, its records stay
+-- where the trees of the longer input begin with those of the shorter one, its records stay; and where bytes appended leave the dirt of
+-- those, it does not fall
 module _ (framing : Framing) (msg more : List ℕ) (limit limit' : ℕ) (table table' : List ℕ) (count dirty : ℕ)
     (e : Gives (answerTo (ruleOf framing limit) limit msg table) count dirty)
     (a : Accepted (ruleOf framing limit' (msg ++ more))) (s : depth (forestOf (ruleOf framing limit' (msg ++ more))) ≤ limit')
     (w : BeginsSame (forestOf (ruleOf framing limit msg)) (forestOf (ruleOf framing limit' (msg ++ more))))
+    (d : dirtyIn (msg ++ more) (forestOf (ruleOf framing limit msg)) ≡ dirtyIn msg (forestOf (ruleOf framing limit msg)))
+    (alone : framing ≡ Tcp Standard → forestOf (ruleOf framing limit' (msg ++ more)) ≡ forestOf (ruleOf framing limit msg))
     (n : Allowed (answerTo (ruleOf framing limit') limit' (msg ++ more) table')) where
-  stays : Stay framing msg more limit limit' table table' count
+  stays : Stay framing msg more limit limit' table table' count dirty
   stays =
       let F = forestOf (ruleOf framing limit msg) in
       let e' = allowed-gives (ruleOf framing limit') (capacity table') limit' (msg ++ more) a s n in
-      let c = held count dirty (ruleOf framing limit) (capacity table) limit msg e .counts in
+      let was = held count dirty (ruleOf framing limit) (capacity table) limit msg e in
+      let c = was .counts in
+      let soils : dirtyIn (msg ++ more) F ≡ dirty = d ∙ was .soils in
       let r = begins-records 0 (drop (recordSize * size (forestOf (ruleOf framing limit' (msg ++ more)))) table') w in
       record {
         many = size (forestOf (ruleOf framing limit' (msg ++ more)));
         dirt = dirtyIn (msg ++ more) (forestOf (ruleOf framing limit' (msg ++ more)));
         answers = e';
         no-fewer = omega (arith, begins-size w);
+        no-cleaner = omega (arith, begins-soil (msg ++ more) w);
+        one-frame = λ q. (ap size (alone q) ∙ c, ap (dirtyIn (msg ++ more)) (alone q) ∙ soils);
         records =
             ap (take (recordSize * count)) (given-is _ _ (ruleOf framing limit') limit' (msg ++ more) table' e' ∙ r .1)
             ∙ take-at (recordsOf 0 F) (r .0) (recordSize * count) (length-records 0 F ∙ ap (λ (k : ℕ). recordSize * k) c)
@@ -177,11 +193,11 @@ module _ (framing : Framing) (msg more : List ℕ) (limit limit' : ℕ) (table t
       }
 
 first-kept : (n n' : ℕ) (x y : Frame) → Kept x y → Accepted (first n x)
-    → Accepted (first n' y) × BeginsSame (forestOf (first n x)) (forestOf (first n' y))
+    → Accepted (first n' y) × BeginsSame (forestOf (first n x)) (forestOf (first n' y)) × (forestOf (first n' y) ≡ forestOf (first n x))
 first-kept n n' wait y k h = absurd h
 first-kept n n' (refused j) y k h = absurd h
 first-kept n n' (read (fault j)) y k h = absurd h
-first-kept n n' (read (one item f u)) y k h = rw k (tt, also none)
+first-kept n n' (read (one item f u)) y k h = rw k (tt, also none, refl)
 
 first-shallow : (limit n : ℕ) (x : Frame) → Shallow limit x → depth (forestOf (first n x)) ≤ limit
 unfolding depth
@@ -197,7 +213,8 @@ frame-stays msg more limit limit' table table' count dirty d e n =
     let k = first-kept (length msg) (length (msg ++ more)) (cutFrame limit 0 msg) (cutFrame limit' 0 (msg ++ more)) (cut-kept d 0 msg more)
     (gives-accepted count dirty (ruleOf (Tcp Standard) limit) (capacity table) limit msg e) in
     stays (Tcp Standard) msg more limit limit' table table' count dirty e (k .0)
-    (first-shallow limit' (length (msg ++ more)) (cutFrame limit' 0 (msg ++ more)) (cut-shallow limit' 0 (msg ++ more))) (k .1) n
+    (first-shallow limit' (length (msg ++ more)) (cutFrame limit' 0 (msg ++ more)) (cut-shallow limit' 0 (msg ++ more))) (k .1)
+    (frame-longer limit msg more) (λ _. k .2) n
 
 -- so do those that `decode_tcp_vec` gives
 pub list-stays : PacketsStay (TcpVec Standard)
@@ -206,7 +223,8 @@ list-stays msg more limit limit' table table' count dirty d e n =
     stays (TcpVec Standard) msg more limit limit' table table' count dirty e (vec2-accepted limit' (msg ++ more))
     (vec2-shallow limit' (msg ++ more))
     (rw (lists.vec2-remaining limit msg, lists.vec2-remaining limit' (msg ++ more))
-    (begins d (suc (length msg)) 0 msg more (omega arith))) n
+    (begins d (suc (length msg)) 0 msg more (omega arith)))
+    (rw (lists.vec2-remaining limit msg) (dirt-longer limit msg more)) (λ q. let z : _≡_ {A = ℕ} 0 1 = cc in absurd (omega arith)) n
 
 -- both
 pub standard-stays : StandardStays

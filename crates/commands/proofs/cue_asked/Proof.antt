@@ -34,17 +34,17 @@ unfolding cueAsked
 returns c =
     let p1 = c .before in
     let p3 = p1 .before .before in
-    rw (eq-eqb _ 6 (p3 .before .if1 .taken)) (ap cueWith (sym (p1 .x .given .1) ∙ p3 .short-number .ensures))
+    rw (eq-eqb _ 7 (p3 .before .if1 .taken)) (ap cueWith (sym (p1 .x .given .1) ∙ p3 .short-number .ensures))
 
 returns-2 : tie.Need-returns-2
 unfolding cueAsked
 returns-2 c =
     let p2 = c .before .before in
-    rw (eq-eqb _ 6 (p2 .before .if1 .taken)) (ap cueWith (sym (c .enum-told .given .1) ∙ p2 .short-number .ensures))
+    rw (eq-eqb _ 7 (p2 .before .if1 .taken)) (ap cueWith (sym (c .enum-told .given .1) ∙ p2 .short-number .ensures))
 
 returns-3 : tie.Need-returns-3
 unfolding cueAsked
-returns-3 c = rw (ne-eqb _ 6 (c .if1 .left))
+returns-3 c = rw (ne-eqb _ 7 (c .if1 .left))
 
 pub cue-asked-spec : {M : Type 1} → statement M
 cue-asked-spec =

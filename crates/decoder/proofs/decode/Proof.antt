@@ -54,10 +54,10 @@ nothing-waits c =
 
 nothing-refused : tie.Need-returns-3
 nothing-refused c =
-    let p = c .before .before in
-    let a = start p .args in
+    let told = c .before .before in
+    let a = start told .args in
     record {
-      answered = answered p refl;
+      answered = answered told refl;
       left = unwritten (forestOf (ruleOf (a .framing) (a .depth) (a .msg .now))) (a .table .now) (c .enum-told2 .given .1) refl;
     }
 

@@ -8,6 +8,12 @@ use Rattle.apart.proofs.Bounds.{indexed-fits}
 use Rattle.osc.proofs.osc_index_step.Statement.{statement}
 use Rattle.osc.proofs.osc_index_step.Tie as tie
 
+of-indexed-requires : tie.Need-of-indexed-requires
+of-indexed-requires c κs =
+    let p2 = c .before .before in
+    let a = p2 .before .before .before .before .args in
+    indexed-fits (a .base) (a .bytes .now) (length (a .out .now)) (p2 .index-step .ensures .answers)
+
 tell-requires : tie.Need-tell-requires
 tell-requires c κs =
     let p4 = c .before .before .before .before in
@@ -21,4 +27,4 @@ returns c =
     tells-by _ (p2 .before .before .before .index-step .ensures) (p2 .of-indexed .ensures) (c .tell .ensures)
 
 pub osc-index-step-spec : {M : Type 1} → statement M
-osc-index-step-spec = tie.close (tie.spec (λ c κs. search needs) (λ c κs. search needs) tell-requires (λ c. search needs) returns)
+osc-index-step-spec = tie.close (tie.spec (λ c κs. search needs) of-indexed-requires tell-requires (λ c. search needs) returns)

@@ -9,10 +9,10 @@ use mir.Syntax.{w32}
 use mir.Val.{toZ}
 use lib.IntN.{negsuc}
 use lib.ListN.{take, replicate}
-use Rattle.wire.specs.Number.{bytes}
+use Rattle.wire.specs.Number.{number, bytes}
 use Rattle.wire.specs.Limits.{deepest}
 use Rattle.node.specs.Tags.{bundleKind, classOf, sortOf}
-use Rattle.node.specs.Forest.{Forest, nil, node, size, depth}
+use Rattle.node.specs.Forest.{Forest, nil, node, size, depth, snoc}
 use Rattle.node.specs.Records.{recordOf, recordsOf}
 use Rattle.node.specs.Rules.{ownRules}
 use Rattle.node.specs.declared.record.Item.{Item}
@@ -20,8 +20,13 @@ use Rattle.values.specs.Look.{lookAt}
 use Rattle.values.specs.declared.value.OscType.{OscType}
 use Rattle.values.specs.declared.value.OscType.the-variants.{Int}
 use Rattle.values.specs.declared.look.Looked.the-variants.{Value}
-use Rattle.argument.specs.Argument.{argItem}
+use Rattle.text.specs.Text.{readText}
+use Rattle.argument.specs.Argument.{argItem, readArg}
+use Rattle.argument.specs.Dirt.{dirtyIn}
+use Rattle.arguments.specs.Arguments.{readTags}
 use Rattle.heads.specs.Heads.{messageItem}
+use Rattle.packet.specs.FirstText.{startOf}
+use Rattle.packet.specs.Packet.{one, readMessage, packetBy, packetAt, readPacket}
 use Rattle.framing.specs.Framing.{udp, tcp}
 use Rattle.table.specs.Formed.{rangeOk, allowed}
 use Rattle.table.specs.Tree.{IsTree}
@@ -33,14 +38,16 @@ use Rattle.osc10.specs.Words.{NoNul}
 use Rattle.osc10.specs.Osc10.{end, atom, array, word, long, string, blob, char, Packet, message, bundle, none, also, ArgumentsAllowed}
 use Rattle.osc10.specs.Osc10.{Allowed, AllAllowed, argumentsDeep, deep, tagsOf, as-word, as-long, as-string, as-blob, as-char, no-argument}
 use Rattle.osc10.specs.Osc10.{one-atom, one-array, Spells, as-message, as-bundle, no-element, element}
-use Rattle.osc10.specs.Strict.{ArgumentsStrict, StrictIn, Strict, StrictNode, StrictForest}
+use Rattle.osc10.specs.Strict.{ArgumentsStrict, StrictIn, Strict, StrictNode, StrictForest, StrictTree}
 use Rattle.standards.specs.Seen.{argument, argumentEntries, entriesOf, Seen, as-i, LookAs}
 use Rattle.standards.specs.Standards.{oscFrame, AcceptedAs, SeenIn, SpelledStrictly, FrameOf}
 use Rattle.utf8.proofs.Grammar.{octets}
 use Rattle.table.proofs.Examples.{packet as p3-bytes, small-bytes, by-tests}
-use Rattle.osc10.proofs.Strict.{strict-allowed}
+use Rattle.osc10.proofs.Clean.{call-clean}
+use Rattle.osc10.proofs.Placed.{at-all}
+use Rattle.osc10.proofs.Strict.{strict-allowed, strict-packet, strict-tree}
 use Rattle.standards.proofs.Osc10.Accepted.{osc10-accepted, frame-accepted}
-use Rattle.standards.proofs.Osc10.Seen.{osc10-seen}
+use Rattle.standards.proofs.Osc10.Seen.{osc10-seen, frame-seen}
 use Rattle.standards.proofs.Osc10.Written.{strict-written, strict-frame-written}
 
 -- ---- P3, and a bundle that holds it
@@ -179,6 +186,29 @@ unfolding deep argumentsDeep entriesOf argumentEntries
 mixed-seen =
     osc10-seen mixed mixed-bytes (strict-allowed mixed mixed-strict) mixed-spelled (omega arith) (omega arith) (replicate 120 0)
     (omega arith)
+
+-- so does one of its frame
+pub mixed-frame-seen : SeenIn tcp mixed (oscFrame mixed-bytes) (replicate 120 0)
+unfolding deep argumentsDeep entriesOf argumentEntries bytes
+mixed-frame-seen =
+    frame-seen mixed mixed-bytes (strict-allowed mixed mixed-strict) mixed-spelled (omega arith) (omega arith) (replicate 120 0)
+    (omega arith)
+
+-- the tree that P3 is accepted as has no dirt
+p3-read : readPacket 0 p3-bytes 0 ≡ one (messageItem 0 2) (node (argItem 105 8 5 0) nil nil) 12
+unfolding number snoc classOf sortOf readText readArg readTags startOf readMessage packetBy packetAt readPacket
+p3-read = refl
+
+p3-clean : dirtyIn p3-bytes (node (messageItem 0 2) (node (argItem 105 8 5 0) nil nil) nil) ≡ 0
+p3-clean = call-clean p3-bytes 0 p3 p3-spelled p3-allowed 0 refl (at-all p3-bytes) (omega arith) p3-read refl
+
+-- the tree of a packet of OSC 1.0 itself has only what OSC 1.0 has, and the packet of such a tree is one
+mixed-tree : StrictTree (oscFrame mixed-bytes) (mixed-accepted .item) (mixed-accepted .inside)
+mixed-tree = strict-tree (oscFrame mixed-bytes) mixed (mixed-accepted .stands) mixed-strict
+
+mixed-again : Strict mixed
+mixed-again =
+    strict-packet (oscFrame mixed-bytes) 0 mixed nil (strict-allowed mixed mixed-strict) (mixed-accepted .stands) mixed-tree
 
 -- an i is seen as one number
 i-seen : {l : List ℕ} {x : ℕ} {v : OscType} → Seen l (argument (word 105 x)) v → v ≡ Int (toZ w32 x)

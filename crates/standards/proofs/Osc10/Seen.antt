@@ -37,7 +37,7 @@ use Rattle.decoder.proofs.Sizes.{WholeIn, whole-in}
 use Rattle.calls.proofs.Answered.{after-fits, after-held}
 use Rattle.osc10.proofs.Tags.{of-among, classIs, atom-sort}
 use Rattle.given.proofs.Starts.Forests.{Begun}
-use Rattle.given.proofs.Starts.Tables.{WholeBegun, whole-begun}
+use Rattle.given.proofs.Starts.Tables.{forest-begun}
 use Rattle.standards.proofs.Osc10.Trees.{packet-fits}
 use Rattle.standards.proofs.Osc10.Accepted.{osc10-accepted, frame-accepted}
 
@@ -205,7 +205,8 @@ module _ (framing : Framing) (P : Packet) (l : List ℕ) (h : Allowed P) (low : 
       let q : answerTo rule deepest l table ≡ Packets count 0 0 = rw c at (A .decodes (capacity table) (omega arith)) in
       let few : size F + 0 ≤ length l = subst (WholeIn (length l)) (A .read) (whole-in framing deepest l) in
       let t = tableAfter rule deepest l table in
-      let b : Begun 0 F (length l) = subst (WholeBegun 0 (length l)) (A .read) (whole-begun framing deepest l) in
+      let b : Begun l 0 F (length l)
+      = subst (λ (x : Forest). Begun l 0 x (length l)) (ap forestOf (A .read)) (forest-begun l framing deepest) in
       let f = packet-fits (omega arith) P h (A .stands) b (omega arith) in
       let w = after-held rule deepest l table q F (ap forestOf (A .read)) f (omega arith) in
       let s = w .spans in

@@ -93,7 +93,8 @@ module _ {s : List ℕ} (low : length s < 256 ^ 4) where
   atom-fits (blob content) h w = (omega (arith, w .numbers .lies), omega (arith, w .numbers .lies))
   atom-fits (char x) h w = (omega (arith, scalar-small x h, w .numbers .0), omega (arith, w .numbers .1))
 
-  arguments-fit : (A : OscArguments) {from upto : ℕ} {F : Forest} → ArgumentsAllowed A → ArgumentsAre s A F → Begun from F upto
+  arguments-fit : (A : OscArguments) {l : List ℕ} {from upto : ℕ} {F : Forest} → ArgumentsAllowed A → ArgumentsAre s A F
+      → Begun l from F upto
       → upto < 256 ^ 4 → FieldsFit F
   unfolding ArgumentsAllowed FieldsFit
   arguments-fit end h no-node b n = tt
@@ -111,14 +112,16 @@ module _ {s : List ℕ} (low : length s < 256 ^ 4) where
   mutual
     unfolding Allowed AllAllowed FieldsFit
 
-    tree-fits : (P : Packet) {from upto : ℕ} {item : Item} {f : Forest} → Allowed P → StandsFor s P item f → Begun from f upto
+    tree-fits : (P : Packet) {l : List ℕ} {from upto : ℕ} {item : Item} {f : Forest} → Allowed P → StandsFor s P item f
+        → Begun l from f upto
         → upto < 256 ^ 4 → (item .a < 256 ^ 4) × (item .b < 256 ^ 4) × FieldsFit f
     tree-fits (message address A) h (is-message m x) b n =
         (omega (arith, m .range .lies), omega (arith, m .range .lies), arguments-fit A (h .2) x b n)
     tree-fits (bundle seconds fractional Ps) h (is-bundle t x) b n =
         (omega (arith, h .0, t .first), omega (arith, h .1, t .second), forest-fits Ps (h .2) x b n)
 
-    forest-fits : (Ps : Packets) {from upto : ℕ} {F : Forest} → AllAllowed Ps → StandFor s Ps F → Begun from F upto → upto < 256 ^ 4
+    forest-fits : (Ps : Packets) {l : List ℕ} {from upto : ℕ} {F : Forest} → AllAllowed Ps → StandFor s Ps F → Begun l from F upto
+        → upto < 256 ^ 4
         → FieldsFit F
     forest-fits none h no-packet b n = tt
     forest-fits (also P Ps) h (packet x r) (begun.Begun.also k g i j) n =
@@ -126,8 +129,8 @@ module _ {s : List ℕ} (low : length s < 256 ^ 4) where
         (w .0, w .1, omega (arith, begun-le i, begun-le j), w .2, forest-fits Ps (h .1) r j n)
 
   -- the numbers of a tree that stands for a packet fit a record, where its starts do
-  pub packet-fits : (P : Packet) {from upto : ℕ} {item : Item} {f : Forest} → Allowed P → StandsFor s P item f
-      → Begun from (node item f nil) upto → upto < 256 ^ 4 → FieldsFit (node item f nil)
+  pub packet-fits : (P : Packet) {l : List ℕ} {from upto : ℕ} {item : Item} {f : Forest} → Allowed P → StandsFor s P item f
+      → Begun l from (node item f nil) upto → upto < 256 ^ 4 → FieldsFit (node item f nil)
   unfolding FieldsFit
   packet-fits P h x (begun.Begun.also k g i j) n =
       let w = tree-fits P h x i (omega (arith, begun-le j)) in

@@ -1,13 +1,18 @@
--- Examples, computed, that meet the hypotheses of `round-trip` and `osc10-written`: document 01's P3, a bundle with a message that has a
--- text and an array, and the bundle in a bundle of crates/table/proofs/Examples.antt.
-use mathlib.Core.Path.{refl}
+-- Examples, computed, that meet the hypotheses of `round-trip`, `osc10-written` and `encode-ignores`: document 01's P3, a bundle with a
+-- message that has a text and an array, and the bundle in a bundle of crates/table/proofs/Examples.antt.
+use mathlib.Core.Path.{_≡_, refl, sym, ap}
+use mathlib.Core.Bool.{true}
 use mathlib.Core.List.{List, [], _∷_}
-use Prim.Native.Nat.{ℕ, _≤_}
+use Prim.Native.Nat.{ℕ, _%_, _≤_}
 use native.Mathlib.Omega.{arith}
-use lib.ListN.{length, take, replicate}
+use lib.ListN.{length, take, set, replicate, length-set}
+use lib.Seq.{getD-set-other}
+use Rattle.edition.specs.declared.Edition.{Edition}
+use Rattle.refusal.specs.Refusal.{numberOf}
+use Rattle.refusal.specs.declared.Refusal.the-variants.{BadTable}
 use Rattle.wire.specs.Number.{bytes}
 use Rattle.node.specs.Forest.{Forest, nil, node, size, depth}
-use Rattle.node.specs.Tags.{bundleKind, classOf, sortOf}
+use Rattle.node.specs.Tags.{bundleKind, among, classOf, sortOf}
 use Rattle.node.specs.declared.record.Item.{Item}
 use Rattle.node.specs.Rules.{ownRules}
 use Rattle.node.specs.Records.{recordOf, recordsOf, capacity}
@@ -18,15 +23,20 @@ use Rattle.table.specs.Formed.{rangeOk, allowed}
 use Rattle.table.specs.Tree.{IsTree}
 use Rattle.strings.specs.Atomic.{oscString, oscBlob}
 use Rattle.writers.specs.Osc.{writeData, writeTags, writeMessage, writeBundle, writeElements, writePacket}
-use Rattle.encoder.specs.Outcome.{formed, unframed, treeOutcome, bytesOutcome}
+use Rattle.encoder.specs.AfterNo.{AfterNo}
+use Rattle.encoder.specs.AfterNo as after-no
+use Rattle.encoder.specs.Outcome.{formed, unframed, framedBy, treeOutcome, bytesOutcome}
 use Rattle.osc10.specs.Words.{NoNul, CleanNode, Clean}
 use Rattle.osc10.specs.Osc10.{Spelled}
 use Rattle.framing.specs.Framing.{udp}
 use Rattle.standards.specs.Trip.{Playable, PlaysBack}
+use Rattle.standards.specs.Ignored.{StartsDiffer}
 use Rattle.table.proofs.Examples.{small-bytes, by-tests, nested, once, within, nested-table, nested-tree}
 use Rattle.table.proofs.Examples as p3
+use Rattle.encoder.proofs.NoLeads.{no-number}
 use Rattle.standards.proofs.Osc10.Written.{osc10-written}
 use Rattle.standards.proofs.Trip.RoundTrip.{round-trip}
+use Rattle.standards.proofs.Ignored.{encode-ignores, encode-tcp-ignores}
 
 -- ---- a round trip, with what `encode` does by its contract
 
@@ -147,3 +157,40 @@ unfolding depth bytes oscString writeData writeTags writeMessage writeBundle wri
 bundle-written =
     osc10-written table 5 source bundle inside (bundle-playable .bytes) (bundle-playable .sourced) bundle-is (bundle-playable .clean)
     (replicate 40 0) _ (formed bundle inside bundle-is refl) 40 refl
+
+-- ---- P3 with another start
+
+-- a table of which one byte of a start is changed
+changed : (t : List ℕ) (i v : ℕ) → 16 ≤ i % 20 → StartsDiffer t (set t i v)
+changed t i v h =
+    record { long = sym (length-set t i v); same = λ j k. sym (getD-set-other t i j v 0 (λ e. omega (arith, ap (λ (n : ℕ). n % 20) e))) }
+
+-- the integer begins at 9
+abbrev other-five : Forest
+other-five = node (argItem 105 9 5 0) nil nil
+
+other-tree : IsTree (set (p3.table 2 2) 39 9) 2 p3.packet p3.message other-five
+unfolding bytes size classOf sortOf recordOf recordsOf ownRules rangeOk allowed
+other-tree = by-tests p3.packet p3.message other-five tt tt (omega arith)
+
+-- it is encoded as P3 is
+encodes-alike : treeOutcome unframed p3.packet (replicate 12 0) p3.message p3.five
+    ≡ treeOutcome unframed p3.packet (replicate 12 0) p3.message other-five
+encodes-alike =
+    encode-ignores (p3.table 2 2) (set (p3.table 2 2) 39 9) (changed (p3.table 2 2) 39 9 (omega arith)) 2 p3.packet (replicate 12 0) _ _
+    (formed p3.message p3.five p3.p3-tree refl) (formed p3.message other-five other-tree refl)
+
+-- so it is after its length, in both editions
+encodes-alike-tcp : (edition : Edition) → treeOutcome (framedBy edition) p3.packet (replicate 16 0) p3.message p3.five
+    ≡ treeOutcome (framedBy edition) p3.packet (replicate 16 0) p3.message other-five
+encodes-alike-tcp edition =
+    encode-tcp-ignores edition (p3.table 2 2) (set (p3.table 2 2) 39 9) (changed (p3.table 2 2) 39 9 (omega arith)) 2 p3.packet
+    (replicate 16 0) _ _ (formed p3.message p3.five p3.p3-tree refl) (formed p3.message other-five other-tree refl)
+
+-- ---- a table that is not well formed
+
+-- after the survey's "no" it is refused with 11
+wrong-end-number : among (numberOf BadTable) (11 ∷ 9 ∷ 1 ∷ []) ≡ true
+wrong-end-number =
+    let w : AfterNo (p3.table 2 3) 2 p3.packet BadTable = after-no.malformed p3.wrong-end refl in
+    no-number w

@@ -28,7 +28,7 @@ use Rattle.calls.proofs.Answered.{after-held}
 use Rattle.osc10.proofs.Depth.{tree-deep}
 use Rattle.osc10.proofs.Spelled.{packet-is}
 use Rattle.given.proofs.Starts.Forests.{Begun}
-use Rattle.given.proofs.Starts.Tables.{WholeBegun, whole-begun}
+use Rattle.given.proofs.Starts.Tables.{forest-begun}
 use Rattle.standards.proofs.Osc10.Trees.{same-tree, same-size, packet-fits}
 use Rattle.standards.proofs.Osc10.Accepted.{osc10-accepted}
 use Rattle.standards.proofs.Trip.Tables.{spans-fit, same-table}
@@ -51,7 +51,8 @@ module _ {t : List ℕ} {count : ℕ} {source : List ℕ} {item : Item} {inside 
       let same : Same source l F T = same-tree (S .packet) (S .allowed) (S .stands) (A .stands) trip.Same.none in
       let n : size T ≡ count = sym (same-size same) ∙ tree-size w in
       let d : answerTo rule deepest l table ≡ Packets count 0 0 = rw n at (A .decodes (capacity table) (omega arith)) in
-      let b : Begun 0 T (length l) = subst (WholeBegun 0 (length l)) (A .read) (whole-begun framing deepest l) in
+      let b : Begun l 0 T (length l)
+      = subst (λ (x : Forest). Begun l 0 x (length l)) (ap forestOf (A .read)) (forest-begun l framing deepest) in
       let f : FieldsFit T = packet-fits (omega arith) (S .packet) (S .allowed) (A .stands) b (omega arith) in
       let s = after-held rule deepest l table d T (ap forestOf (A .read)) f (omega (arith, w .few)) .spans in
       record { decodes = d; same = same-table t (tableAfter rule deepest l table) count same (w .spans) s }

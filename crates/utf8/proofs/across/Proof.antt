@@ -6,9 +6,9 @@ use Rattle.utf8.proofs.across.Tie as tie
 
 returns : tie.Need-returns
 returns c =
-    let p1 = c .before in
-    let p4 = p1 .before .before .before in
-    passed-over _ (p4 .args .s .now) (c .if2 .taken) (rw (p1 .before .highest .ensures) at (p1 .if1 .taken))
+    let p2 = c .before .before in
+    let p4 = p2 .before .before in
+    passed-over _ (p4 .args .s .now) (p2 .if1 .taken) (rw (c .before .highest .ensures) at (c .if2 .taken))
 
 pub across-spec : {M : Type 1} → statement M
 across-spec = tie.close (tie.spec (λ c κs. search needs) returns (λ c κs. search needs) (λ c. search needs))

@@ -2,58 +2,53 @@
 -- The measure is how many are left.
 use mathlib.Core.Path.{_≡_, refl, _∙_}
 use mathlib.Core.List.{List, _++_}
-use Prim.Native.Nat.{ℕ, _≤_, _-_, _/_}
+use Prim.Native.Nat.{ℕ, _+_, _≤_, _<_, _-_, _/_}
 use native.Mathlib.Omega.{arith}
 use borrow.Author.Needs.{needs}
-use lib.ListN.{length, drop, drop-of-length-le}
+use lib.ListN.{length, drop, getD, drop-of-length-le}
 use Rattle.utf8.specs.Derive.{run}
-use Rattle.utf8.specs.CodeStates.{wants, Shift}
-use Rattle.utf8.proofs.Steps.{class-small, turn}
+use Rattle.utf8.specs.Automaton.{wants, StateRow}
+use Rattle.utf8.proofs.Steps.{entry-within, entry-small, turn}
 use Rattle.utf8.proofs.advance.Statement.{statement}
 use Rattle.utf8.proofs.advance.Tie as tie
 
 abbrev Inv-loop : tie.InvT-loop
-Inv-loop s class next from shift₀ i₀ shift i =
-    (i ≤ length s) × Shift shift
-    × ((rest : List ℕ) → run (wants (shift / 6)) (drop i s ++ rest) ≡ run (wants (from / 6)) (s ++ rest))
+Inv-loop s class next from state₀ i₀ state i =
+    (i ≤ length s) × StateRow state
+    × ((rest : List ℕ) → run (wants (state / 14)) (drop i s ++ rest) ≡ run (wants (from / 14)) (s ++ rest))
 
 abbrev μ-loop : tie.MeasureT-loop
-μ-loop s class next from shift₀ i₀ shift i = length s - i
+μ-loop s class next from state₀ i₀ state i = length s - i
 
 loop-holds : tie.Need-loop-holds Inv-loop μ-loop
 loop-holds c = (search needs, c .pre .2, λ rest. refl)
 
-cast-shift : tie.Need-cast-shift Inv-loop μ-loop
-cast-shift c = omega (arith, c .shared-slice-known .given (c .before .before .loop .i))
+cast-state : tie.Need-cast-state Inv-loop μ-loop
+cast-state c = omega (arith, c .shared-slice-known .given (c .before .before .loop .i))
 
-element-copy-out-shift : tie.Need-element-copy-out-shift Inv-loop μ-loop
-element-copy-out-shift c = c .shared-slice-known .given (c .before .before .loop .i) .fits
+element-copy-out-state : tie.Need-element-copy-out-state Inv-loop μ-loop
+element-copy-out-state c = c .shared-slice-known .given (c .before .before .loop .i) .fits
 
-cast-shift-2 : tie.Need-cast-shift-2 Inv-loop μ-loop
-cast-shift-2 c =
+-- the entry of this turn stands in the table
+entry : (c : tie.After-state Inv-loop μ-loop)
+    → c .before .before .before .loop .state
+    + getD (c .before .before .before .before .args .class .now)
+    (getD (c .before .before .before .before .args .s .now) (c .before .before .before .loop .i) 0) 0
+    < 126
+entry c =
+    let p3 = c .before .before .before in
+    let p4 = p3 .before in
+    entry-within _ _ (p4 .pre .0) (p4 .pre .1) (p3 .loop .state) _ (p3 .loop .inv .1)
+    (c .before .shared-slice-known .given (p3 .loop .i) .fits)
+
+cast-state-3 : tie.Need-cast-state-3 Inv-loop μ-loop
+cast-state-3 c =
     let p4 = c .before .before .before .before in
+    let p5 = p4 .before in
     omega (
       arith,
-      class-small _ _ (p4 .pre .0) (p4 .pre .1) _
-          (c .before .shared-slice-known .given (c .before .before .before .loop .i) .fits),
-    )
-
-mul-shift : tie.Need-mul-shift Inv-loop μ-loop
-mul-shift c =
-    let p4 = c .before .before .before .before in
-    omega (
-      arith,
-      class-small _ _ (p4 .pre .0) (p4 .pre .1) _
-          (c .before .shared-slice-known .given (c .before .before .before .loop .i) .fits),
-    )
-
-element-copy-out-shift-2 : tie.Need-element-copy-out-shift-2 Inv-loop μ-loop
-element-copy-out-shift-2 c =
-    let p4 = c .before .before .before .before in
-    omega (
-      arith,
-      class-small _ _ (p4 .pre .0) (p4 .pre .1) _
-          (c .before .shared-slice-known .given (c .before .before .before .loop .i) .fits),
+      entry-small _ _ (p5 .pre .0) (p5 .pre .1) (p4 .loop .state) _ (p4 .loop .inv .1)
+          (c .before .before .shared-slice-known .given (p4 .loop .i) .fits),
     )
 
 loop-again : tie.Need-loop-again Inv-loop μ-loop
@@ -62,9 +57,9 @@ loop-again c =
     let p4 = p2 .before .before in
     let p5 = p4 .before in
     let l = p4 .loop in
-    let (shift, same) = turn _ _ (p5 .pre .0) (p5 .pre .1) (l .shift) (p5 .args .s .now) (l .i) (l .inv .1)
+    let (row, same) = turn _ _ (p5 .pre .0) (p5 .pre .1) (l .state) (p5 .args .s .now) (l .i) (l .inv .1)
     (p2 .shared-slice-known .given (l .i) .fits) (p2 .before .loop-test .taken) in
-    (search needs, shift, λ rest. same rest ∙ l .inv .2 rest)
+    (search needs, row, λ rest. same rest ∙ l .inv .2 rest)
 
 returns : tie.Need-returns Inv-loop μ-loop
 returns c =
@@ -80,12 +75,12 @@ advance-spec =
     μ-loop
     loop-holds
     (λ c. search needs)
-    cast-shift
-    element-copy-out-shift
-    cast-shift-2
-    mul-shift
-    element-copy-out-shift-2
-    (λ c. search needs)
+    cast-state
+    element-copy-out-state
+    (λ c. omega (arith, entry c))
+    (λ c. omega (arith, entry c))
+    entry
+    cast-state-3
     (λ c. search needs)
     (λ c. search needs)
     loop-again

@@ -35,10 +35,12 @@ impl Cue {
     }
 }
 
-/// The frame at which an index ends, by the number of its refusal, and from which place on that is known.
+/// The frame at which an index ends, by the number of its refusal, where a field began that was short, counted from the frame's prefix, and
+/// from which place on that is known.
 #[derive(Clone, Copy, Debug)]
 struct Refused {
     number: u8,
+    field: usize,
     known: usize,
 }
 
@@ -59,9 +61,9 @@ impl Index {
             note_front(front, seen);
             match front {
                 Front::Waiting => waits = true,
-                Front::Refused(number) => index.refuse(number, recording),
-                Front::Read { depth, .. } if depth > DEEPEST => index.refuse(9, recording),
-                Front::Read { records, .. } if records > MOST => index.refuse(10, recording),
+                Front::Refused { number, field } => index.refuse(number, field, recording),
+                Front::Read { depth, .. } if depth > DEEPEST => index.refuse(9, 0, recording),
+                Front::Read { records, .. } if records > MOST => index.refuse(10, 0, recording),
                 Front::Read { size, records, .. } => {
                     index.end += size;
                     index.cues.push(Cue { at, end: index.end, records });
@@ -73,21 +75,22 @@ impl Index {
     }
 
     /// A length that is refused is so once it is there, and every other frame once it is whole.
-    fn refuse(&mut self, number: u8, recording: &[u8]) {
+    fn refuse(&mut self, number: u8, field: usize, recording: &[u8]) {
         let length = if matches!(number, 1 | 16) { 0 } else { word(recording, self.end) as usize };
-        self.refused = Some(Refused { number, known: self.end + 4 + length });
+        self.refused = Some(Refused { number, field, known: self.end + 4 + length });
     }
 
     fn note_end(&self, recording: &[u8], seen: &mut Seen) {
         let left = recording.len() - self.end;
         seen.note_if(Rule::IndexNone, recording.is_empty());
         seen.note_if(Rule::IndexWhole, left == 0 && self.cues.len() > 1);
-        let Some(Refused { number, known }) = self.refused else {
+        let Some(Refused { number, known, .. }) = self.refused else {
             seen.note_if(Rule::IndexWaitsLength, (1..4).contains(&left));
             seen.note_if(Rule::IndexWaitsPart, left >= 4);
             return;
         };
         seen.note(if self.end == 0 { Rule::IndexFirst } else { Rule::IndexLater });
+        seen.note_if(Rule::IndexField, self.end > 0 && (17..=21).contains(&number));
         let good = |at: usize| matches!(standard::front(&recording[at..]), Front::Read { .. });
         seen.note_if(Rule::IndexOver, !matches!(number, 1 | 16) && good(known));
     }
@@ -125,7 +128,7 @@ impl Index {
         let used = cues.last().map_or(0, |cue| cue.end - from);
         due.answer = (cues.len() as u64) << 32 | used as u64;
         due.more = match self.refused {
-            Some(Refused { number, .. }) if self.ends_by(to) => (number as u64) << 48,
+            Some(Refused { number, field, .. }) if self.ends_by(to) => (number as u64) << 48 | place(number, used + field) << 32,
             _ => (used < bytes) as u64,
         };
         seen.note_if(Rule::IndexUpper, !cues.is_empty() && base >= 1 << 32);
@@ -149,6 +152,11 @@ impl Index {
             _ => Rule::IndexPacket,
         });
     }
+}
+
+/// Where a field began, beside the refusals that have one: 17 to 21.
+fn place(number: u8, at: usize) -> u64 {
+    if (17..=21).contains(&number) { at as u64 } else { 0 }
 }
 
 /// Notes a frame at a limit.
@@ -245,7 +253,7 @@ fn look_up(asked: &Asked, due: &mut Due, seen: &mut Seen) {
     let (records, part) = ((index.len() / ENTRY) as u64, !index.len().is_multiple_of(ENTRY));
     *due = Due::new();
     seen.note_if(Rule::CueFirst, k == 0 && records > 1);
-    seen.note_if(Rule::CueLast, k > 0 && k + 1 == records);
+    seen.note_if(Rule::CueLast, k > 0 && k.checked_add(1) == Some(records));
     seen.note_if(Rule::CuePast, k == records && records > 0 && !part);
     seen.note_if(Rule::CuePart, k == records && part);
     seen.note_if(Rule::CueFar, k >= 1 << 60 && records > 0);
@@ -301,7 +309,10 @@ mod tests {
         let both = [MESSAGE, BUNDLE].concat();
         assert_eq!(step(1 << 32, 32, &both), (2 << 32 | 48, 0, written.clone()));
         assert_eq!(step(1 << 32, 33, &[&both, &[0; 3][..]].concat()), (2 << 32 | 48, 1, written.clone()));
-        assert_eq!(step(1 << 32, 32, &[&both, &[0; 4][..]].concat()), (2 << 32 | 48, 2 << 48, written));
+        assert_eq!(step(1 << 32, 32, &[&both, &[0; 4][..]].concat()), (2 << 32 | 48, 2 << 48, written.clone()));
+        // The address of the third frame begins 52 bytes after the first byte of the call, and 4 after its own prefix.
+        let short = [&both, &b"\0\0\0\x04/abc"[..]].concat();
+        assert_eq!(step(1 << 32, 32, &short), (2 << 32 | 48, 17 << 48 | 52 << 32, written));
         assert_eq!(step(1 << 32, 31, &both), (12 << 56, 0, Vec::new()));
         assert_eq!(step(TOP - 47, 32, &both), (1 << 56, 0, Vec::new()));
         assert_eq!(step(TOP - 48, 32, &both).0, 2 << 32 | 48);
@@ -367,7 +378,7 @@ mod tests {
         assert_eq!(told(0, 47), (1, 16, 1));
         assert_eq!(told(16, 48), (1, 32, 0));
         assert_eq!(told(48, 55), (0, 0, 1));
-        assert_eq!(told(48, 56), (0, 0, 17 << 48));
-        assert_eq!(told(16, 56), (1, 32, 17 << 48));
+        assert_eq!(told(48, 56), (0, 0, 17 << 48 | 4 << 32));
+        assert_eq!(told(16, 56), (1, 32, 17 << 48 | 36 << 32));
     }
 }

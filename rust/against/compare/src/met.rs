@@ -232,6 +232,7 @@ rules! {
     IndexWaitsPart 1 "cue index: the last frame is not all there",
     IndexFirst 1 "cue index: the first frame is refused",
     IndexLater 1 "cue index: a later frame is refused",
+    IndexField 1 "cue index: a later frame is refused, and a field of it is short",
     IndexOver 1 "cue index: a good frame after the refused one",
     Index3276 1 "cue index: a frame with 3,276 records",
     Index3277 1 "cue index: refused, a frame with 3,277 records",

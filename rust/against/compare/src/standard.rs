@@ -203,8 +203,8 @@ pub enum Front {
     Read { size: usize, depth: u64, records: usize },
     /// A frame that is not all there.
     Waiting,
-    /// A frame that is refused, with this number.
-    Refused(u8),
+    /// A frame that is refused, with this number, and where a field began that was short, or 0.
+    Refused { number: u8, field: usize },
 }
 
 /// The frame at the front of some bytes, which may be more than an input has.
@@ -212,7 +212,7 @@ pub fn front(bytes: &[u8]) -> Front {
     let mut stream = Stream::default();
     stream.next(bytes, &mut Vec::new());
     match (stream.refused, stream.frames.first()) {
-        (Some(refused), _) => Front::Refused(refused.number),
+        (Some(Refused { number, field, .. }), _) => Front::Refused { number, field },
         (None, None) => Front::Waiting,
         (None, Some(frame)) => Front::Read { size: stream.at, depth: frame.depth.both, records: frame.records },
     }

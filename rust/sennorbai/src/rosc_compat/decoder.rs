@@ -4,7 +4,7 @@
 
 use super::scratch::{first, lend};
 use super::{OscArray, OscBundle, OscColor, OscError, OscMessage, OscMidiMessage, OscPacket, OscTime, OscType};
-use crate::{Decoded, Edition, Record, Time, Value, DEEPEST, LONGEST, RECORD};
+use crate::{Decoded, Edition, Field, Record, Refusal, Time, Value, DEEPEST, LONGEST, RECORD};
 use std::mem;
 
 /// Common MTU size for ethernet
@@ -30,7 +30,12 @@ pub fn decode_udp(msg: &[u8]) -> Result<(&[u8], OscPacket), OscError> {
 /// [^1]: _In a stream-based protocol such as TCP, the stream should begin with an int32 giving the size of the first packet, followed by the contents of the first packet, followed by the size of the second packet, etc._
 ///
 /// [OSC specification]: https://cnmat.org/OpenSoundControl/OSC-spec.html
+///
+/// The slice may be longer than the library takes at once; the packet may not.
 pub fn decode_tcp(msg: &[u8]) -> Result<(&[u8], Option<OscPacket>), OscError> {
+    if msg.len() > LONGEST {
+        return front(msg);
+    }
     lend(|buffers| match crate::decode_tcp(Edition::Rosc, msg, first(&mut buffers.table, room(msg)), DEEPEST)? {
         Decoded::Packet(read) => Ok((last(msg, read.left()), Some(packet(read.root())))),
         Decoded::Waiting => Ok((msg, None)),
@@ -39,11 +44,71 @@ pub fn decode_tcp(msg: &[u8]) -> Result<(&[u8], Option<OscPacket>), OscError> {
 
 /// Takes a bytes slice from a TCP stream (or any stream-based protocol) and returns a vec of all
 /// OSC packets in the slice as well as a slice of the bytes remaining after the last packet.
+///
+/// The slice may be longer than the library takes at once. Where a packet is over the limits and others stand before it, these are
+/// returned, and it is the first of the remaining bytes; the next call says which limit it is.
 pub fn decode_tcp_vec(msg: &[u8]) -> Result<(&[u8], Vec<OscPacket>), OscError> {
+    if msg.len() <= LONGEST {
+        return list(msg);
+    }
+    let (mut input, mut packets) = (msg, Vec::new());
+    loop {
+        match front(input) {
+            Ok((rest, Some(packet))) => {
+                packets.push(packet);
+                input = rest;
+                if rest.is_empty() {
+                    return Ok((rest, packets));
+                }
+            }
+            Ok((rest, None)) => return Ok((rest, packets)),
+            Err(OscError::Limit(_)) if !packets.is_empty() => return Ok((input, packets)),
+            Err(error) => return Err(error),
+        }
+    }
+}
+
+/// The packets of a stream that the library takes at once.
+fn list(msg: &[u8]) -> Result<(&[u8], Vec<OscPacket>), OscError> {
     lend(|buffers| {
         let read = crate::decode_tcp_vec(Edition::Rosc, msg, first(&mut buffers.table, room(msg)), DEEPEST)?.packets();
         Ok((last(msg, read.left()), read.roots().map(packet).collect()))
     })
+}
+
+/// The first packet of a stream of any length, from the bytes after its length: as many as the library takes at once.
+///
+/// By `more-bytes-udp` of the library's theorems a message in them is the message of the whole stream, and by `faults-stay-udp` a refusal
+/// of its bytes is that of the whole stream. A field that is short in them is over the limit, and so may a bundle be.
+fn front(msg: &[u8]) -> Result<(&[u8], Option<OscPacket>), OscError> {
+    let Some((length, packets)) = msg.split_first_chunk() else {
+        return Err(Refusal::Short { field: Field::Head, at: 0 }.into());
+    };
+    if u32::from_be_bytes(*length) as usize > msg.len() {
+        return Ok((msg, None));
+    }
+    let window = &packets[..packets.len().min(LONGEST)];
+    lend(|buffers| {
+        let read = match crate::decode_udp(window, first(&mut buffers.table, room(window)), DEEPEST) {
+            Err(Refusal::Short { .. }) if window.len() < packets.len() => return Err(Refusal::TooLong.into()),
+            other => other?,
+        };
+        let rest = &packets[window.len() - read.left()..];
+        if matches!(read.root().value(), Value::Bundle(_)) && goes_on(rest, read.left()) {
+            return Err(Refusal::TooLong.into());
+        }
+        Ok((rest, Some(packet(read.root()))))
+    })
+}
+
+/// Whether a bundle may go on past the bytes that it was read from: what is left begins with an element that is all there, but not in the
+/// first `seen` bytes. An element that was seen and not taken has ended the bundle, and so has one that is not all there.
+fn goes_on(left: &[u8], seen: usize) -> bool {
+    let Some(size) = left.first_chunk() else {
+        return false;
+    };
+    let end = u32::from_be_bytes(*size) as usize + size.len();
+    seen < end && end <= left.len()
 }
 
 /// The bytes of a table that has room for what an input decodes to: n bytes never need more than n records. An input over the

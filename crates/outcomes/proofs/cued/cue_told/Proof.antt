@@ -10,7 +10,7 @@ use Rattle.results.specs.declared.Checked.{Checked}
 use Rattle.results.specs.declared.Checked.the-variants.{Fits, Differs}
 use Rattle.telling.specs.Forms.{Says}
 use Rattle.telling.specs.Refusals.{refusedLine}
-use Rattle.telling.specs.Indexes.{checkedLine}
+use Rattle.telling.specs.Indexes.{differsLine}
 use Rattle.outcomes.specs.Cued.{hasCue, noCueLine}
 use Rattle.outcomes.proofs.cued.cue_told.Statement.{statement}
 use Rattle.outcomes.proofs.cued.cue_told.Tie as tie
@@ -25,7 +25,7 @@ no-record : {x : Checked} {n k m : ℕ} {line : List ℕ} → x ≡ Fits n → n
 no-record {n = n} {k = k} e h s = (rw e (le-ltb k n h), rw e s)
 
 -- the index differs
-no-index : (k : ℕ) {x : Checked} {j m : ℕ} {line : List ℕ} → x ≡ Differs j → Says (checkedLine (Differs j)) line m
+no-index : (k : ℕ) {x : Checked} {j m : ℕ} {line : List ℕ} → x ≡ Differs j → Says (differsLine j) line m
     → (hasCue x k ≡ false) × Says (noCueLine x) line m
 no-index k e s = (rw e refl, rw e s)
 
@@ -41,7 +41,7 @@ returns-2 c =
 returns-3 : tie.Need-returns-3
 returns-3 c =
     let p5 = c .before .before .before .before .before in
-    let w = no-index _ (p5 .checked2 .given .1) (c .before .before .tell-checked .ensures) in
+    let w = no-index _ (p5 .checked2 .given .1) (c .before .before .tell-differs .ensures) in
     (w .0, refl, refl, w .1)
 
 pub cue-told-spec : {M : Type 1} → statement M

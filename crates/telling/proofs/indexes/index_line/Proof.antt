@@ -1,10 +1,9 @@
 -- `telling::indexes::index_line` meets its contract, by why the index ends.
 use borrow.Author.Needs.{needs}
 use mathlib.Core.Path.{sym, ap, _∙_}
-use mathlib.Core.List.{[], _∷_}
-use Prim.Native.Nat.{ℕ}
-use Rattle.telling.specs.Forms.{pieceOf, takenBy, filledIn, line}
-use Rattle.telling.specs.Indexes.{indexRefusedForm, indexLine}
+use Rattle.results.specs.declared.End.{End}
+use Rattle.telling.specs.Forms.{pieceOf, takenBy, filledIn}
+use Rattle.telling.specs.Indexes.{writtenWords, endForm, endLine}
 use Rattle.telling.specs.CodeTable.{saidBy}
 use Rattle.telling.proofs.Said.{same-said}
 use Rattle.telling.proofs.indexes.index_line.Statement.{statement}
@@ -12,34 +11,32 @@ use Rattle.telling.proofs.indexes.index_line.Tie as tie
 
 returns : tie.Need-returns
 unfolding saidBy filledIn pieceOf takenBy
-returns c =
+returns c words =
     let p1 = c .before in
     let a = p1 .before .before .args in
-    same-said [] (c .formed .ensures) ∙ sym (ap (indexLine (a .records) (a .at)) (p1 .enum-told .given .1))
+    same-said words (c .formed .ensures)
+    ∙ sym (ap (λ (why : End). endLine (endForm writtenWords why) (a .records) (a .at) words) (p1 .enum-told .given .1))
 
 returns-2 : tie.Need-returns-2
 unfolding saidBy filledIn pieceOf takenBy
-returns-2 c =
+returns-2 c words =
     let p1 = c .before in
     let a = p1 .before .before .args in
-    same-said [] (c .formed2 .ensures) ∙ sym (ap (indexLine (a .records) (a .at)) (p1 .enum-told2 .given .1))
+    same-said words (c .formed2 .ensures)
+    ∙ sym (ap (λ (why : End). endLine (endForm writtenWords why) (a .records) (a .at) words) (p1 .enum-told2 .given .1))
 
 returns-3 : tie.Need-returns-3
 unfolding saidBy filledIn pieceOf takenBy
-returns-3 c =
+returns-3 c words =
     let p1 = c .before in
-    let p3 = p1 .before .before in
-    let a = p3 .before .before .args in
-    same-said [] (c .formed3 .ensures)
-    ∙ ap (λ (n : ℕ). line indexRefusedForm (a .records ∷ a .at ∷ n ∷ []) []) (p1 .number-of .ensures)
-    ∙ sym (ap (indexLine (a .records) (a .at)) (p3 .end .given .1))
+    let a = p1 .before .before .args in
+    same-said words (c .formed3 .ensures)
+    ∙ sym (ap (λ (why : End). endLine (endForm writtenWords why) (a .records) (a .at) words) (p1 .enum-told3 .given .1))
 
 pub index-line-spec : {M : Type 1} → statement M
 index-line-spec =
     tie.close
     (tie.spec
-    (λ c. search needs)
-    (λ c κs. search needs)
     (λ c. search needs)
     (λ c κs. search needs)
     (λ c. search needs)

@@ -1,27 +1,26 @@
 -- `telling::indexes::tell_checked` meets its contract, by what the check answers.
 use borrow.Author.Needs.{needs}
 use mathlib.Core.Path.{refl}
-use mathlib.Core.List.{[]}
-use Rattle.telling.specs.Forms.{pieceOf, takenBy, filledIn}
+use Rattle.results.specs.declared.Checked.{Checked}
 use Rattle.telling.specs.Indexes.{checkedLine}
-use Rattle.telling.specs.CodeTable.{saidBy}
 use Rattle.telling.proofs.Told.{says-of}
-use Rattle.telling.proofs.Said.{same-said}
 use Rattle.telling.proofs.indexes.tell_checked.Statement.{statement}
 use Rattle.telling.proofs.indexes.tell_checked.Tie as tie
 
 returns : tie.Need-returns
-unfolding saidBy filledIn pieceOf takenBy
 returns c =
     let p2 = c .before .before in
-    let p5 = p2 .before .before .before in
-    says-of checkedLine (p5 .before .before .checked .given .1) (same-said [] (p5 .formed .ensures)) (p2 .tell .ensures)
+    let p4 = p2 .before .before in
+    let p6 = p4 .before .before in
+    let a = p6 .before .before .before .args in
+    says-of (λ (x : Checked). checkedLine x (a .at) (a .end)) (p6 .checked .given .1) (p4 .fits-line .ensures _) (p2 .tell-ended .ensures)
 
 returns-2 : tie.Need-returns-2
-unfolding saidBy filledIn pieceOf takenBy
 returns-2 c =
     let p2 = c .before .before in
-    says-of checkedLine (p2 .before .before .before .checked2 .given .1) refl (p2 .tell-numbered .ensures)
+    let p5 = p2 .before .before .before in
+    let a = p5 .before .before .before .args in
+    says-of (λ (x : Checked). checkedLine x (a .at) (a .end)) (p5 .checked2 .given .1) refl (p2 .tell-differs .ensures)
 
 pub tell-checked-spec : {M : Type 1} → statement M
 tell-checked-spec =
@@ -29,7 +28,6 @@ tell-checked-spec =
     (tie.spec
     (λ c. search needs)
     (λ c κs. search needs)
-    (λ c. search needs)
     (λ c κs. search needs)
     (λ c. search needs)
     (λ c κs. search needs)

@@ -3,6 +3,7 @@
 
 mod convert;
 mod helpers;
+mod long;
 mod same;
 
 use crate::ask::{Asked, Call};
@@ -90,6 +91,9 @@ fn decode_limit(msg: &[u8], packets: &[OscPacket]) -> Option<u8> {
 }
 
 fn decode(call: Call, msg: &[u8]) -> Result<Outcome, String> {
+    if msg.len() > LONGEST && call != Call::Udp {
+        return long::stream(call, msg);
+    }
     let (theirs, ours) = (theirs(call, msg), ours(call, msg));
     let packets = theirs.as_ref().ok().and_then(|(_, packets)| packets.as_deref()).unwrap_or(&[]);
     if let Some(limit) = decode_limit(msg, packets) {
@@ -177,4 +181,30 @@ fn encode_string(text: &str) -> Result<Outcome, String> {
 fn pad(position: u64) -> Result<Outcome, String> {
     let same = compat::encoder::pad(position) == rosc::encoder::pad(position);
     same.then_some(Outcome::Same).ok_or("compat: pad".to_string())
+}
+
+#[cfg(test)]
+mod tests {
+    use crate::table::Reader;
+
+    /// The rows of docs/DIFFERENCES.md on writing: the crate writes the same, as rust/sennorbai/tests/differences.rs sees it of the port.
+    #[test]
+    fn the_crate_writes_what_the_document_says() {
+        let bytes = |cell: &str| -> Vec<u8> {
+            let digits: Vec<u32> = cell.chars().filter_map(|digit| digit.to_digit(16)).collect();
+            digits.chunks(2).map(|pair| (16 * pair[0] + pair[1]) as u8).collect()
+        };
+        let document = include_str!("../../../../../docs/DIFFERENCES.md");
+        let (_, part) = document.split_once("\n## Written though OSC 1.0 forbids it, both\n").expect("the part on writing");
+        let (part, _) = part.split_once("\n## ").expect("the part after it");
+        let rows = part.lines().filter(|line| line.starts_with("| ")).skip(1);
+        let mut many = 0;
+        for row in rows.map(|line| line.split('|').collect::<Vec<_>>()) {
+            let [table, source, due] = [row[3], row[4], row[5]].map(bytes);
+            let packet = Reader { table: &table, source: &source }.packet(0);
+            assert_eq!(rosc::encoder::encode(&packet).unwrap(), due, "{row:?}");
+            many += 1;
+        }
+        assert_eq!(many, 10);
+    }
 }
