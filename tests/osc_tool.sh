@@ -346,7 +346,7 @@ expect 2 '' 'osc: folder: Is a directory' decode udp "$examples/message.osc" fol
 device=device
 mknod device c 1 3 2>/dev/null || {
     device=
-    printf 'no device can be made here: 2 cases left out\n'
+    printf 'note: tests/osc_tool.sh: no device can be made here: 2 cases left out\n'
 }
 [ -z "$device" ] || expect 2 '' 'osc: device: not a file that can be replaced' decode udp "$examples/message.osc" device
 mkfifo pipe
@@ -773,7 +773,7 @@ gone new.table
 signals='INT TERM HUP'
 env --default-signal=INT true 2>/dev/null || {
     signals='TERM HUP'
-    printf 'env cannot reset a signal here: INT left out\n'
+    printf 'note: tests/osc_tool.sh: env cannot reset a signal here: INT left out\n'
 }
 for signal in $signals; do
     rm -f live
@@ -963,7 +963,7 @@ if [ -z "$by" ] && strace -o /dev/null true 2>/dev/null; then
     unsaid "osc: rec.osc$shorter" lseek:retval=16:when=3 check rec.osc rec.idx
     gone new.
 else
-    printf 'strace is not there or may not trace: the cases of calls that fail left out\n'
+    printf 'note: tests/osc_tool.sh: strace is not there or may not trace: the cases of calls that fail left out\n'
 fi
 
 printf '%s passed, %s failed\n' "$passed" "$failed"
