@@ -829,6 +829,38 @@ static void far_records(void) {
     same("a refused frame does not wait", (uint64_t)osc_waits(more), 0);
 }
 
+/* The version in words, by a number. */
+static void spell(uint64_t version, char *to, size_t room) {
+    snprintf(to, room, "%u.%u.%u", (unsigned)(version >> 32), (unsigned)(version >> 16 & 0xFFFFu), (unsigned)(version & 0xFFFFu));
+}
+
+static uint64_t numbered(uint64_t major, uint64_t minor, uint64_t patch) { return major << 32 | minor << 16 | patch; }
+
+static void fits(const char *name, uint64_t header, uint64_t library, int due) {
+    same(name, (uint64_t)osc_version_fits(header, library), (uint64_t)due);
+}
+
+/* The library's version is the header's, in both forms; and which libraries fit a header. */
+static void versions(void) {
+    char words[32];
+    spell(osc_version(), words, sizeof words);
+    same("the version", osc_version(), OSC_VERSION);
+    same("the version in words", (uint64_t)(strcmp(words, SENNORBAI_VERSION) == 0), 1);
+    same("the version is no refusal", osc_refusal(osc_version()), 0);
+    same("the library fits", (uint64_t)osc_fits(), 1);
+    fits("the same version", numbered(0, 14, 2), numbered(0, 14, 2), 1);
+    fits("a later patch", numbered(0, 14, 2), numbered(0, 14, 3), 1);
+    fits("an earlier patch", numbered(0, 14, 2), numbered(0, 14, 1), 0);
+    fits("a later minor before 1.0", numbered(0, 14, 2), numbered(0, 15, 2), 0);
+    fits("an earlier minor before 1.0", numbered(0, 14, 2), numbered(0, 13, 3), 0);
+    fits("1.0 for a header of before", numbered(0, 14, 2), numbered(1, 14, 2), 0);
+    fits("a later minor", numbered(1, 4, 2), numbered(1, 5, 0), 1);
+    fits("an earlier minor", numbered(1, 4, 2), numbered(1, 3, 65535), 0);
+    fits("an earlier patch of the same minor", numbered(1, 4, 2), numbered(1, 4, 1), 0);
+    fits("a later major", numbered(1, 4, 2), numbered(2, 4, 2), 0);
+    fits("an earlier major", numbered(2, 0, 0), numbered(1, 65535, 65535), 0);
+}
+
 /* NULL with the length 0 is a slice of no bytes, in every function. */
 static void no_bytes(void) {
     const uint8_t five[12] = {'/', 'a', 0, 0, ',', 'i', 0, 0, 0, 0, 0, 5};
@@ -871,6 +903,7 @@ int main(void) {
     wide_numbers();
     many_numbers();
     far_records();
+    versions();
     no_bytes();
     printf("%d passed, %d failed\n", passed, failed);
     return failed != 0;

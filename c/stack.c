@@ -20,10 +20,13 @@ static const uint8_t source[] = "/\303\251";
 
 /* ---- a call, on a stack of its own */
 
-enum call { UDP, TCP, TCP_VEC, TCP2, TCP_VEC2, PORTION, INDEX, ENCODE, ENCODE_TCP, ENCODE_TCP2, STRING, CHECK, LOOK, START, CUE, PAD };
+enum call {
+    UDP, TCP, TCP_VEC, TCP2, TCP_VEC2, PORTION, INDEX, ENCODE, ENCODE_TCP, ENCODE_TCP2, STRING, CHECK, LOOK, START, CUE, PAD, VERSION
+};
 
 static const char *const names[] = {"udp",        "tcp",         "tcp_vec", "tcp2",  "tcp_vec2", "portion", "index", "encode",
-                                    "encode_tcp", "encode_tcp2", "string",  "check", "look",     "start",   "cue",   "pad"};
+                                    "encode_tcp", "encode_tcp2", "string",  "check", "look",     "start",   "cue",   "pad",
+                                    "version"};
 
 /* The call that the thread makes: n is the length of its input, or its number. */
 static struct {
@@ -62,6 +65,7 @@ static uint64_t once(enum call call, uint64_t n) {
     case LOOK: return osc_look(table, sizeof table, n);
     case START: return osc_start(table, sizeof table, n);
     case CUE: return osc_cue(table, sizeof table, n, more);
+    case VERSION: return osc_version();
     default: return osc_pad(n);
     }
 }
@@ -269,6 +273,7 @@ static void others(void) {
     run("a record past the last", LOOK, 65536, OSC_BAD_TABLE);
     run("a record past the last", START, 65536, OSC_BAD_TABLE);
     run("a position", PAD, 65533, 0);
+    run("the version", VERSION, 0, 0);
     memset(table, 0, sizeof table);
     run("the last cue", CUE, sizeof table / OSC_ENTRY - 1, 0);
     run("a cue past the last", CUE, sizeof table / OSC_ENTRY, OSC_BAD_TABLE);

@@ -12,8 +12,10 @@
 #ifndef SENNORBAI_OSC_H
 #define SENNORBAI_OSC_H
 
-/* The version of the library and of this header. */
-#define SENNORBAI_VERSION "0.13.0"
+/* The version of the library that this header belongs to, and the same as a number: the major in bits 32 to 47, the minor in bits 16 to
+ * 31, the patch in bits 0 to 15. osc_fits says whether the library that is linked fits. */
+#define SENNORBAI_VERSION "0.14.0"
+#define OSC_VERSION (UINT64_C(0) << 32 | UINT64_C(14) << 16 | UINT64_C(0))
 
 #include <stddef.h>
 #include <stdint.h>
@@ -207,6 +209,22 @@ uint64_t osc_look(const uint8_t *table, size_t table_len, uint64_t index);
 /* The start of a record in bits 0 to 31; bits 56 to 63 are the refusal's number, OSC_BAD_TABLE where the table has no such record.
  * Nothing else of the record is looked at. */
 uint64_t osc_start(const uint8_t *table, size_t table_len, uint64_t index);
+
+/* The version of the library, as a number that is made as OSC_VERSION is. It is never refused. */
+uint64_t osc_version(void);
+
+/* ---- a header and a library that fit */
+
+/* Whether a library can be used through a header: both have the same major and, before 1.0, the same minor, and the library is not older
+ * than the header. */
+static inline int osc_version_fits(uint64_t header, uint64_t library) {
+    const unsigned kept = (header >> 32) != 0 ? 32 : 16;
+    return (header >> kept) == (library >> kept) && header <= library;
+}
+
+/* Whether the library that is linked can be used through this header: 1, or 0. A program that did not build the library itself asks
+ * this before it calls another function. */
+static inline int osc_fits(void) { return osc_version_fits(OSC_VERSION, osc_version()); }
 
 /* ---- an answer, taken apart */
 

@@ -66,8 +66,8 @@ use Rattle.told.proofs.Unpacked.{packed}
 use Rattle.apart.specs.Contracts.{below56, Beside, CEnds, told-answer, told-refusal, told-stop, CDemand}
 use Rattle.apart.specs.Boundary.{StopTold, EndTold, IndexEndTold, DiffersTold, mostChecked, checkNumber, usedWithin, cContractOf}
 use Rattle.apart.specs.Boundary.{CCall, osc-decode, osc-read-portion, osc-index-step, osc-index-check-step, osc-cue, osc-encode}
-use Rattle.apart.specs.Boundary.{osc-encode-string, osc-pad, osc-look, osc-start, EveryFunction, CSettled, EndsListed, ToldApart}
-use Rattle.apart.specs.Boundary.{StopsApart, EndsApart, IndexEndsApart, DiffersApart}
+use Rattle.apart.specs.Boundary.{osc-encode-string, osc-pad, osc-look, osc-start, osc-version, EveryFunction, CSettled, EndsListed}
+use Rattle.apart.specs.Boundary.{ToldApart, StopsApart, EndsApart, IndexEndsApart, DiffersApart}
 use Rattle.apart.specs.ReadBack.{Answerable}
 use Rattle.apart.proofs.Bounds.{fits, portion-fits, index-bounded, fits-checked, differs-checked}
 use Rattle.apart.proofs.Contracts.{ends-as, alone, in-high-bits, numbers-settled, Plain, answers, refuses, tells-demand}
@@ -410,6 +410,17 @@ module _ (w : List ℕ) (b : (i : ℕ) → getD w i 0 < 256) (k : ℕ) where
         no-refusal = λ told more m s e q. s;
       }
 
+-- the version is told, and nothing else: no refusal is listed for it
+version-demand : (version : ℕ) (bits : version < 0x1_0000_0000_0000) → CDemand (cContractOf (osc-version version bits))
+version-demand version bits =
+    record {
+      settled = numbers-settled;
+      ends = λ told more after t. ends-as (t .0) (t .1) (t .2) (told-answer bits refl);
+      no-answer = λ n e h. false≢true e;
+      no-stop = λ told more s a b. s;
+      no-refusal = λ told more n s e q. s;
+    }
+
 -- ---- every function
 
 -- each function meets demand 1
@@ -428,6 +439,7 @@ every (osc-pad pos) = pad-demand pos
 every (osc-look table i) = tells-demand (lookedTold (lookAt table i)) (11 ∷ []) 256 (omega arith) refl (look-plain table i)
 every (osc-start table bytes i) =
     tells-demand (startedTold (startedAt table i)) (11 ∷ []) 0x1_0000_0000 (omega arith) refl (start-plain table bytes i)
+every (osc-version version bits) = version-demand version bits
 
 -- no second number, nothing else beside it and no other lent bytes meet its contract
 pub c-settled : CSettled

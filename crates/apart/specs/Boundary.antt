@@ -1,4 +1,4 @@
--- Demand 1 at the C boundary: the sixteen functions of include/osc.h, each as one contract.
+-- Demand 1 at the C boundary: the seventeen functions of include/osc.h, each as one contract.
 use mathlib.Core.Path.{_≡_}
 use mathlib.Core.Bool.{true, cond}
 use mathlib.Core.List.{List, [], _∷_}
@@ -91,7 +91,7 @@ usedWithin bytes told = below56 told × (lowIn told ≤ length bytes)
 
 -- a call from C and what it is handed: the five decoders by their framing, the step over a stream of edition 2, the two steps and the
 -- lookup of a cue index, the three encoders of packets by their frame; `osc_start` and `osc_cue` tell bytes as they stand, so that they are
--- bytes is said
+-- bytes is said; `osc_version` is handed nothing, and stands here for a library of any version, whose number has 48 bits
 pub data CCall : Type 0 where
   osc-decode : (framing : Framing) (msg table : List ℕ) (depth : ℕ) → CCall
   osc-read-portion : (bytes table : List ℕ) (depth : ℕ) → CCall
@@ -103,6 +103,7 @@ pub data CCall : Type 0 where
   osc-pad : (pos : ℕ) → CCall
   osc-look : (table : List ℕ) (index : ℕ) → CCall
   osc-start : (table : List ℕ) (bytes : (i : ℕ) → getD table i 0 < 256) (index : ℕ) → CCall
+  osc-version : (version : ℕ) (bits : version < 0x1_0000_0000_0000) → CCall
 
 -- its contract. Beside an answer stands dirty padding, 1 where a frame of an index waits, or all of a cue's offset; `osc_pad`
 -- tells a multiple of 4, or 14 as it is, since a position may have bits 56 to 63
@@ -125,12 +126,13 @@ cContractOf (osc-encode-string text out) = encodesTo (EncodesString text out) ou
 cContractOf (osc-pad pos) = numbers (paddedNumber (padOf pos)) 0 (14 ∷ []) (λ n. n) (λ told. told % 4 ≡ 0) nothing never
 cContractOf (osc-look table index) = tells (lookedTold (lookAt table index)) (11 ∷ []) 256
 cContractOf (osc-start table bytes index) = tells (startedTold (startedAt table index)) (11 ∷ []) 0x1_0000_0000
+cContractOf (osc-version version bits) = numbers version 0 [] inHighBits (λ told. told < 0x1_0000_0000_0000) nothing never
 
 -- what its number, `more` and the lent bytes afterwards are held to
 abbrev pub CMeets : CCall → ℕ → ℕ → List ℕ → Type 0
 CMeets c = cContractOf c .Meets
 
--- ---- demand 1 for the sixteen functions
+-- ---- demand 1 for the seventeen functions
 
 -- every one meets it
 abbrev pub EveryFunction : Type 0

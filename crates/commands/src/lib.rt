@@ -17,9 +17,6 @@ pub use options::Options;
 pub use options::no_options;
 pub use options::options_of;
 
-// The version of the program and of the library that it calls.
-pub const VERSION: [u8; 6] = *b"0.13.0";
-
 // The first word.
 pub enum Command {
     Decode,

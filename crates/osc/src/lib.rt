@@ -15,6 +15,7 @@ ghost use Rattle.encoder.specs.Outcome.{unframed, prefixed, framedBy};
 ghost use Rattle.cues.specs.Cues.{cueIn};
 ghost use Rattle.told.specs.Told.{answerOf};
 ghost use Rattle.told.specs.Answers.{paddedNumber, lookedTold, startedTold, cueToldAs, cueTold, cueBeside};
+ghost use Rattle.version.specs.Version.{versionNumber};
 ghost use Rattle.apart.specs.Boundary.{osc-decode, osc-read-portion, osc-index-step, osc-encode, osc-encode-string, CMeets, checkNumber};
 
 // A decoder by its framing, told as a number, and what is told beside it.
@@ -245,4 +246,14 @@ pub extern "C" fn osc_start(table: &[u8], index: u64) -> u64
         Started::At(start) => told::low(start),
         Started::Refused(refusal) => told::refused(refusal),
     }
+}
+
+// The version: its major in bits 32 to 47, its minor in bits 16 to 31 and its patch in bits 0 to 15. It is never refused.
+//
+// Ruled out: the number of another version; minor and patch exchanged.
+#[no_mangle]
+pub extern "C" fn osc_version() -> u64
+    ensures { λ r. ⌜ r ≡ versionNumber ⌝ }
+{
+    version::number()
 }

@@ -26,7 +26,7 @@ fn run(command: Command, count: usize, is_replacing: bool) {
         Command::Check => checking::run(count),
         Command::Cue => cue::run(count, is_replacing),
         Command::Help => say::help(),
-        Command::Version => say::version(),
+        Command::Version => say::version(version::MAJOR, version::MINOR, version::PATCH),
         Command::Unclear => say::trouble(Trouble::NoCommand, 1, 0),
     }
 }

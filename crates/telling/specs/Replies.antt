@@ -36,9 +36,9 @@ waitingForm = "waiting: % bytes, nothing read\n"
 abbrev pub writtenForm : String
 writtenForm = "written: % bytes\n"
 
--- the version, which is the text
+-- the version: major, minor and patch
 abbrev pub versionForm : String
-versionForm = "osc ~\n"
+versionForm = "osc %.%.%\n"
 
 -- packets that were read: their dirty padding is told where there is any
 abbrev pub packetsLine : ℕ → ℕ → ℕ → ℕ → List ℕ
@@ -65,8 +65,8 @@ encodedLine (encoded.Written n) = line writtenForm (n ∷ []) []
 encodedLine (encoded.Refused refusal) = refusedLine refusal
 
 -- the version
-abbrev pub versionLine : List ℕ → List ℕ
-versionLine version = line versionForm [] version
+abbrev pub versionLine : ℕ → ℕ → ℕ → List ℕ
+versionLine major minor patch = line versionForm (major ∷ minor ∷ patch ∷ []) []
 
 -- a frame of a recording, after the words for its packet, which are the text: its offset in the recording and the packet's length
 abbrev pub frameForm : String

@@ -17,14 +17,14 @@ pub struct Line {
 }
 
 // The forms, a line to each, in the order of the names below.
-const FORMS: [u8; 774] = *b"\
+const FORMS: [u8; 778] = *b"\
 packets: %, records: %, bytes left: %
 packets: %, records: %, bytes left: %, dirty padding bytes: %
 stopped: packets: %, records: %, bytes left: %, ~, frame at offset %
 stopped: packets: %, records: %, bytes left: %, dirty padding bytes: %, ~, frame at offset %
 waiting: % bytes, nothing read
 written: % bytes
-osc ~
+osc %.%.%
 record %: ~, end %
 record %: ~ %, end %
 record %: ~ -%, end %

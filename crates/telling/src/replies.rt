@@ -117,11 +117,11 @@ pub fn tell_encoded(answer: Encoded, out: &mut [u8]) -> usize
 
 // The same for the version.
 //
-// Ruled out: the version without the program's name; the name alone.
-pub fn tell_version(version: &[u8], out: &mut [u8]) -> usize
-    ensures { λ r. ⌜ Says (versionLine (now (version .entry))) (now (out .exit)) r ⌝ }
+// Ruled out: the version without the program's name; the patch in the place of the minor.
+pub fn tell_version(major: u64, minor: u64, patch: u64, out: &mut [u8]) -> usize
+    ensures { λ r. ⌜ Says (versionLine major minor patch) (now (out .exit)) r ⌝ }
 {
-    tell(formed(VERSION, 0, 0, 0, 0, 0, 0), version, out)
+    tell(formed(VERSION, major, minor, patch, 0, 0, 0), b"", out)
 }
 
 // The words for a frame of a recording, after those for its packet.

@@ -1,4 +1,4 @@
--- The C boundary: what the sixteen functions of include/osc.h answer in numbers.
+-- The C boundary: what the seventeen functions of include/osc.h answer in numbers.
 use Rattle.told.specs.Told.{Unpacks, KindsApart}
 use Rattle.apart.specs.Boundary.{CSettled, EndsListed, ToldApart, StopsApart, EndsApart, IndexEndsApart, DiffersApart}
 use Rattle.apart.specs.ReadBack.{DecodedApart, PortionApart, EncodedApart, StringApart, ToldOnce, ToldAlone, NoneWaits, RefusalTold}
@@ -6,7 +6,7 @@ use Rattle.apart.specs.ReadBack.{StepTold, StepOnce, IndexTold, IndexOnce, CueT
 
 -- The C boundary
 pub record CBoundary : Type 1 where
-  -- Demand 1: each of the sixteen functions ends in an answer; or in a refusal that is listed for it and leaves every lent byte; or it
+  -- Demand 1: each of the seventeen functions ends in an answer; or in a refusal that is listed for it and leaves every lent byte; or it
   -- stops at a refused frame that is listed; or, for an index that differs, at a record. These four can be told apart.
   -- definitions: apart/CCall, apart/CMeets
   -- edits: apart/positions_are_even, osc/refused_record_told_as_0, osc/start_refused_by_0
@@ -51,6 +51,12 @@ pub record CBoundary : Type 1 where
   pub string-told-apart : StringApart
   pub encoded-once : EncodedOnce
   pub pad-once : PadOnce
+  -- The number that `osc_version` tells has the major, the minor and the patch of the version in bits 32 to 47, 16 to 31 and 0 to 15, and
+  -- each part is read back.
+  -- definitions: version/versionNumber
+  -- code: version/number
+  -- laws: version/versions-read-back
+  -- edits: version/minor_and_patch_swapped
   -- A contract settles the number and every lent byte.
   -- edits: apart/bytes_left_open, osc/text_measured_only, osc/stream_without_a_length
   pub c-settled : CSettled

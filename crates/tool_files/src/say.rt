@@ -1,5 +1,4 @@
 // Lines written: an answer on standard output, trouble on standard error.
-use commands::VERSION;
 use libc::STDERR_FILENO;
 use libc::STDOUT_FILENO;
 use telling::tell_progress;
@@ -56,10 +55,10 @@ pub fn no_progress() {
     show(b"                                        \r");
 }
 
-// The version.
-pub fn version() {
+// The version. It is handed over by `osc_tool`, so that a version that is raised leaves this crate, and those over it, as they are.
+pub fn version(major: u16, minor: u16, patch: u16) {
     let mut line = io::buffer();
-    let n = tell_version(&VERSION, &mut line);
+    let n = tell_version(major as u64, minor as u64, patch as u64, &mut line);
     answer(&line[..n]);
 }
 

@@ -122,6 +122,7 @@ mod c {
         pub fn osc_pad(pos: u64) -> u64;
         pub fn osc_look(table: *const u8, table_len: usize, index: u64) -> u64;
         pub fn osc_start(table: *const u8, table_len: usize, index: u64) -> u64;
+        pub fn osc_version() -> u64;
     }
 }
 
@@ -226,6 +227,12 @@ pub fn look(table: &[u8], index: u64) -> u64 {
 pub fn start(table: &[u8], index: u64) -> u64 {
     // SAFETY: `table` is read within its length.
     unsafe { c::osc_start(table.as_ptr(), table.len(), index) }
+}
+
+/// `osc_version`: the major in bits 32 to 47, the minor in bits 16 to 31 and the patch in bits 0 to 15.
+pub fn version() -> u64 {
+    // SAFETY: nothing is given.
+    unsafe { c::osc_version() }
 }
 
 /// The decoders.

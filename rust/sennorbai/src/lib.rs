@@ -15,6 +15,7 @@
 //! - [`encode`], [`encode_tcp`] and [`encode_string`] write.
 //! - `index` (feature `std`, which is on by default) writes and checks a cue index of a recording, and looks cues up in one that was
 //!   checked.
+//! - [`version()`] says which version of the library is linked.
 //! - `rosc_compat` (feature `std`) has the types and signatures of the crate rosc 0.11.4.
 //!
 //! ```
@@ -56,6 +57,7 @@ pub mod rosc_compat;
 mod stream;
 mod table;
 mod value;
+mod version;
 
 pub use builder::{BuildError, Builder};
 pub use decode::{decode_tcp, decode_tcp_vec, decode_udp, Decoded, DecodedList};
@@ -66,6 +68,7 @@ pub use refusal::{Field, Refusal};
 pub use stream::{Ended, Portion, StreamReader};
 pub use table::{look, start_of, Packet, Packets, Record, Records, Siblings, Table};
 pub use value::{Color, Midi, Time, Value};
+pub use version::{version, Version};
 
 /// What a later version may add a case to cannot be matched case by case: each of these programs would not compile then, and does not now.
 ///
