@@ -70,7 +70,8 @@ fn whole(release: PathBuf) -> PathBuf {
     release
 }
 
-const RESTORE: &str = "Restore the folder dist of this crate, in the project by `git checkout dist/x86_64`, or unpack the crate again.";
+const RESTORE: &str =
+    "Restore the folder dist of this crate, in the project by `git checkout dist/x86_64`, or unpack the crate again.";
 
 /// Proves and builds the library of sources that were edited, and answers its folder.
 fn built(root: &Path) -> PathBuf {

@@ -14,8 +14,7 @@ const ROUNDS: [u32; 64] = [
 ];
 
 /// The first 32 bits of the fractional parts of the square roots of the first eight primes.
-const START: [u32; 8] =
-    [0x6a09e667, 0xbb67ae85, 0x3c6ef372, 0xa54ff53a, 0x510e527f, 0x9b05688c, 0x1f83d9ab, 0x5be0cd19];
+const START: [u32; 8] = [0x6a09e667, 0xbb67ae85, 0x3c6ef372, 0xa54ff53a, 0x510e527f, 0x9b05688c, 0x1f83d9ab, 0x5be0cd19];
 
 /// The checksum in 64 small hexadecimal digits, as `sha256sum` writes it.
 pub fn sha256(bytes: &[u8]) -> String {
@@ -41,8 +40,7 @@ fn mixed(state: [u32; 8], block: &[u8; 64]) -> [u32; 8] {
         let first = h.wrapping_add(large).wrapping_add(chosen).wrapping_add(round).wrapping_add(*word);
         let small = a.rotate_right(2) ^ a.rotate_right(13) ^ a.rotate_right(22);
         let most = (a & b) ^ (a & c) ^ (b & c);
-        (h, g, f, e, d, c, b, a) =
-            (g, f, e, d.wrapping_add(first), c, b, a, first.wrapping_add(small).wrapping_add(most));
+        (h, g, f, e, d, c, b, a) = (g, f, e, d.wrapping_add(first), c, b, a, first.wrapping_add(small).wrapping_add(most));
     }
     let mut next = state;
     for (sum, word) in next.iter_mut().zip([a, b, c, d, e, f, g, h]) {
