@@ -1,0 +1,17 @@
+# A version fits a request of the same major version that asks for no later one; before 1.0 the minor version must be the same too.
+set(PACKAGE_VERSION "@VERSION@")
+set(PACKAGE_VERSION_COMPATIBLE FALSE)
+string(REGEX MATCH "^(0\\.[0-9]+|[1-9][0-9]*)" sennorbai_own "${PACKAGE_VERSION}")
+if("${PACKAGE_FIND_VERSION}" STREQUAL "")
+    set(PACKAGE_VERSION_COMPATIBLE TRUE)
+elseif("${PACKAGE_FIND_VERSION}." MATCHES "^${sennorbai_own}\\." AND NOT PACKAGE_FIND_VERSION VERSION_GREATER PACKAGE_VERSION)
+    set(PACKAGE_VERSION_COMPATIBLE TRUE)
+endif()
+if(PACKAGE_FIND_VERSION VERSION_EQUAL PACKAGE_VERSION)
+    set(PACKAGE_VERSION_EXACT TRUE)
+endif()
+# The library is for x86-64.
+if(NOT "${CMAKE_SIZEOF_VOID_P}" STREQUAL "" AND NOT CMAKE_SIZEOF_VOID_P EQUAL 8)
+    set(PACKAGE_VERSION_UNSUITABLE TRUE)
+endif()
+unset(sennorbai_own)
