@@ -75,13 +75,16 @@ const RESTORE: &str =
 
 /// Proves and builds the library of sources that were edited, and answers its folder.
 fn built(root: &Path) -> PathBuf {
-    println!("cargo::warning=these sources are not those of dist/x86_64: libosc.a was proved and built anew by `rt staticlib osc`");
+    let why = "these sources are not those of dist/x86_64";
     match Command::new("rt").args(["staticlib", "osc"]).current_dir(root).status() {
-        Ok(status) if status.success() => root.join("target/staticlib"),
-        Ok(status) => stop(&format!("`rt staticlib osc` ended with {status}: see what it says above")),
+        Ok(status) if status.success() => {
+            println!("cargo::warning={why}: libosc.a was proved and built anew by `rt staticlib osc`");
+            root.join("target/staticlib")
+        }
+        Ok(status) => stop(&format!("{why}, and `rt staticlib osc` ended with {status}: see what it says")),
         Err(error) => stop(&format!(
-            "these sources are not those of dist/x86_64, and `rt staticlib osc`, which proves and builds libosc.a anew, cannot be run \
-             ({error}). Undo the edit, or install the Rattle kit."
+            "{why}, and `rt staticlib osc`, which proves and builds libosc.a anew, cannot be run: {error}. Undo the edit, or install the \
+             Rattle kit."
         )),
     }
 }
