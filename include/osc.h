@@ -1,4 +1,4 @@
-/* Sennorbai: Open Sound Control packets and node tables. C99 and C++17. Link with libosc.a (rt staticlib osc).
+/* Sennorbai: Open Sound Control packets and node tables. C99 and C++17. Link with dist/x86_64/libosc.a.
  *
  * No function allocates, keeps a pointer or has a state. Every pointer may be to any bytes, and a length may be 0, with a NULL pointer
  * too; slices that a call may write must not overlap the others. A `uint64_t *` is to one number, aligned as C has it. A call that is
