@@ -7,6 +7,7 @@ mod lookup; // lookup.rt: a cue by its number
 pub use checked::compare;
 pub use checked::compare_from;
 pub use cue::Cue;
+pub use cue::MOST_IN_A_CUE;
 pub use cue::cue_of;
 pub use index::ENTRY_SIZE;
 pub use index::MOST_ENTRIES;

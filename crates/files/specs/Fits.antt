@@ -37,5 +37,5 @@ fitOf Table size head = tableFit size head
 fitOf Packet size head = No Exists
 
 -- with --replace every file may be replaced
-abbrev pub allowed : Bool → Fit → Fit
-allowed replacing fit = cond replacing Yes fit
+abbrev pub allowedBy : Bool → Fit → Fit
+allowedBy replacing fit = cond replacing Yes fit

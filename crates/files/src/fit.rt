@@ -3,7 +3,7 @@ use troubles::Trouble;
 use words::line::front;
 ghost use mathlib.Core.Path.{_≡_};
 ghost use Rattle.wire.specs.Same.{sameBytes};
-ghost use Rattle.files.specs.Fits.{beginsTable, indexFit, tableFit, fitOf, allowed};
+ghost use Rattle.files.specs.Fits.{beginsTable, indexFit, tableFit, fitOf, allowedBy};
 
 // What a command writes.
 pub enum Kind {
@@ -86,7 +86,7 @@ pub fn fit_of(kind: Kind, size: u64, head: &[u8]) -> Fit
 //
 // Ruled out: a file that could not be one, without --replace; one that could, kept.
 pub fn allowed_by(is_replacing: bool, fit: Fit) -> Fit
-    ensures { λ r. ⌜ r ≡ allowed «is_replacing» fit ⌝ }
+    ensures { λ r. ⌜ r ≡ allowedBy «is_replacing» fit ⌝ }
 {
     if is_replacing {
         return Fit::Yes;

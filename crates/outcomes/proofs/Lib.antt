@@ -1,3 +1,4 @@
 pub mod Counted
 pub mod Answers
 pub mod Parts
+pub mod Room

@@ -3,3 +3,4 @@ pub mod Told
 pub mod CodeRoots
 pub mod Cued
 pub mod Framed
+pub mod Tried

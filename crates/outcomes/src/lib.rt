@@ -3,6 +3,7 @@
 mod roots; // roots.rt: how many packets a table holds
 mod cued; // cued.rt: a recording and its cue index
 mod framed; // framed.rt: a frame of a recording
+mod tried; // tried.rt: a decoding in a room that may be too small
 
 use commands::Options;
 use commands::Writing;
@@ -20,6 +21,8 @@ use results::Encoded;
 use roots::root_count;
 use telling::tell_decoded;
 use telling::tell_encoded;
+pub use tried::Tried;
+pub use tried::decode_tried;
 ghost use mathlib.Core.Path.{_≡_};
 ghost use Prim.Native.Nat.{_*_, _≤_, min};
 ghost use lib.ListN.{length};
@@ -99,7 +102,7 @@ pub fn decode_told(
     table: &mut [u8],
     line: &mut [u8],
 ) -> Told
-    requires { ⌜ recordSize * mostRecords ≤ length (now table) ⌝ }
+    requires { ⌜ recordSize * min (options .records) mostRecords ≤ length (now table) ⌝ }
     ensures { λ r. ⌜ DecodeTold framing options (now (msg .entry)) (now (table .exit)) (now (line .exit)) r ⌝ }
 {
     let records = least(options.records, MOST_RECORDS);

@@ -10,7 +10,6 @@ use outcomes::frame_told;
 use results::CueAt;
 use tool_files::named;
 use tool_files::say;
-use tool_files::space;
 use tool_recordings::Judged;
 use tool_recordings::judge;
 use troubles::Trouble;
@@ -23,8 +22,8 @@ ghost use Rattle.cues.specs.Cues.{entrySize};
 // Decodes a packet, whose frame begins at an offset of the recording, to the file that word 5 names, and writes it to the one that word 6
 // names.
 fn decode_packet(packet: &[u8], at: u64, is_replacing: bool) {
-    let mut table = space::table();
-    let mut line = io::large_buffer();
+    let mut table = io::large_buffer();
+    let mut line = io::buffer();
     let told = frame_told(packet, at, &mut table, &mut line);
     named::keep_both(5, 6, is_replacing, told, &table, packet, &line);
 }
@@ -85,7 +84,7 @@ fn decode_cue(fd: i32, name: &[u8], index: i32, index_name: &[u8], k: u32, is_re
 // Checks an open index, and then decodes cue `k`.
 fn cue_open(fd: i32, name: &[u8], index: i32, index_name: &[u8], k: u32, is_replacing: bool) {
     if let Judged::As(checked, _, _) = judge(fd, name, index, index_name) {
-        let mut line = io::large_buffer();
+        let mut line = io::buffer();
         match cue_told(checked, k, &mut line) {
             Jump::To(k) => decode_cue(fd, name, index, index_name, k, is_replacing),
             Jump::Not(told) => named::keep_both(5, 6, is_replacing, told, b"", b"", &line),

@@ -14,7 +14,7 @@ ghost use mathlib.Core.Path.{_≡_};
 ghost use Prim.Native.Nat.{_%_, _≤_, _<_};
 ghost use lib.ListN.{length};
 ghost use Rattle.io.specs.Counts.{Counts};
-ghost use Rattle.node.specs.Records.{recordSize};
+ghost use Rattle.tool_files.specs.CodeRecords.{WholeRecords, InRoom};
 
 // A file that was begun: the descriptor of the file beside it, and how long its name is.
 pub struct Draft {
@@ -96,20 +96,86 @@ pub fn read_whole(i: usize, output: usize, buf: &mut [u8]) -> Got
     unread()
 }
 
-// Reads a table: whole records.
-//
-// Ruled out: a count past the buffer's end; bytes counted of a file that is no table.
-pub fn read_table(i: usize, output: usize, buf: &mut [u8]) -> Got
-    ensures { λ r. ⌜ Counts (r .count) (now (buf .exit)) × (r .count % recordSize ≡ 0) ⌝ }
+// How the reading of a table into a room went.
+pub enum Records {
+    // It is read whole: so many bytes.
+    Whole(usize),
+    // The room is full, and the file, which is open yet, may have more.
+    More(i32),
+    // It was said what went wrong.
+    Failed,
+}
+
+// A file of so many bytes as a table: whole records.
+fn records_of(count: usize, i: usize) -> Records
+    ensures { λ r. ⌜ WholeRecords count r ⌝ }
 {
-    let got = read_whole(i, output, buf);
-    if got.count % RECORD_SIZE == 0 {
-        return got;
+    if count % RECORD_SIZE == 0 {
+        return Records::Whole(count);
     }
+    say::trouble(Trouble::NoTable, i, count);
+    Records::Failed
+}
+
+// Reads on an open table, of which `kept` bytes are in the room.
+fn read_records(fd: i32, i: usize, name: &[u8], room: &mut [u8], kept: usize) -> Records
+    requires { ⌜ kept ≤ length (now room) ⌝ }
+    ensures { λ r. ⌜ InRoom (now (room .exit)) r ⌝ }
+{
+    let got = files::read_on(fd, name, room, kept);
+    let count = got.count;
+    if count == room.len() {
+        return Records::More(fd);
+    }
+    files::close(fd);
     if got.is_read {
-        say::trouble(Trouble::NoTable, i, got.count);
+        return records_of(count, i);
     }
-    unread()
+    Records::Failed
+}
+
+// Opens the table that word `i` names, and answers its descriptor; -1 where it cannot, or where word `output` names the same file, and then
+// says why.
+pub fn open_table(i: usize, output: usize) -> i32 {
+    let mut name = io::buffer();
+    let n = name_word(i, &mut name);
+    if n == 0 {
+        return -1;
+    }
+    open_word(i, output, &name[..n])
+}
+
+// Reads an open table, which word `i` names, into a room that may be too small for it.
+//
+// Ruled out: a count past the room's end; bytes counted of a file that is no table.
+pub fn read_table(fd: i32, i: usize, room: &mut [u8]) -> Records
+    ensures { λ r. ⌜ InRoom (now (room .exit)) r ⌝ }
+{
+    let mut name = io::buffer();
+    let n = name_word(i, &mut name);
+    read_records(fd, i, &name[..n], room, 0)
+}
+
+// Reads the rest of that table, after its first bytes, into a room that holds any table.
+//
+// Ruled out: a count past the room's end; bytes counted of a file that is too large.
+pub fn read_rest(fd: i32, i: usize, first: &[u8], room: &mut [u8]) -> Records
+    requires { ⌜ length (now first) ≤ length (now room) ⌝ }
+    ensures { λ r. ⌜ InRoom (now (room .exit)) r ⌝ }
+{
+    wire::copy(first, room);
+    let mut name = io::buffer();
+    let n = name_word(i, &mut name);
+    let kept = first.len();
+    match read_records(fd, i, &name[..n], room, kept) {
+        Records::Whole(count) => Records::Whole(count),
+        Records::More(fd) => {
+            files::close(fd);
+            say::trouble(Trouble::TooLarge, i, room.len());
+            Records::Failed
+        }
+        Records::Failed => Records::Failed,
+    }
 }
 
 // Whether an open file, which word `i` names, is not the one that word `output` names; where it is, or cannot be told from it, says so.

@@ -1,17 +1,55 @@
 // The command decode: the bytes of a file to a table.
+use crate::rooms;
+use crate::rooms::Work;
 use commands::DecodeAsked;
 use commands::Options;
 use commands::decode_asked;
 use commands::options_of;
 use edition::Framing;
 use files::Kind;
+use outcomes::Tried;
 use outcomes::decode_told;
+use outcomes::decode_tried;
 use tool_files::named;
 use tool_files::say;
-use tool_files::space;
+ghost use Prim.Native.Nat.{_*_, _≤_};
+ghost use lib.ListN.{length};
+ghost use Rattle.node.specs.Records.{recordSize, mostRecords};
 
-// Decodes the file that word 3 names to the one that word 4 names. Of a file that is too large the library sees a byte too many, and
-// refuses it.
+// Decodes bytes to the file that word 4 names, in a room for any table.
+pub fn go_on(
+    framing: Framing,
+    options: Options,
+    is_replacing: bool,
+    input: &[u8],
+    room: &mut [u8],
+)
+    requires { ⌜ recordSize * mostRecords ≤ length (now room) ⌝ }
+{
+    let mut line = io::buffer();
+    let told = decode_told(framing, options, input, room, &mut line);
+    named::keep(4, Kind::Table, is_replacing, told, room, &line);
+}
+
+// The same in a room that may be too small; whether it does.
+pub fn begin(
+    framing: Framing,
+    options: Options,
+    is_replacing: bool,
+    input: &[u8],
+    room: &mut [u8],
+) -> bool {
+    let mut line = io::buffer();
+    match decode_tried(framing, options, input, room, &mut line) {
+        Tried::With(told) => {
+            named::keep(4, Kind::Table, is_replacing, told, room, &line);
+            true
+        }
+        Tried::Full => false,
+    }
+}
+
+// Decodes the file that word 3 names. Of a file that is too large the library sees a byte too many, and refuses it.
 fn decode_file(framing: Framing, options: Options, is_replacing: bool) {
     let mut input = io::large_buffer();
     let got = named::read_word(3, 4, &mut input);
@@ -19,10 +57,17 @@ fn decode_file(framing: Framing, options: Options, is_replacing: bool) {
         return;
     }
     let n = got.count;
-    let mut table = space::table();
-    let mut line = io::large_buffer();
-    let told = decode_told(framing, options, &input[..n], &mut table, &mut line);
-    named::keep(4, Kind::Table, is_replacing, told, &table, &line);
+    if !rooms::begin(
+        Work::Decode(framing, options, is_replacing),
+        -1,
+        &input[..n],
+    ) {
+        rooms::go_on(
+            Work::Decode(framing, options, is_replacing),
+            -1,
+            &input[..n],
+        );
+    }
 }
 
 // Of its words there are `count`, --replace not counted.

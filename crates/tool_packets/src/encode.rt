@@ -1,12 +1,17 @@
 // The command encode: a table and its source to the bytes of a packet.
+use crate::rooms;
+use crate::rooms::Work;
 use commands::EncodeAsked;
 use commands::Writing;
 use commands::encode_asked;
 use files::Kind;
 use outcomes::encode_told;
 use tool_files::named;
+use tool_files::named::Records;
 use tool_files::say;
-use tool_files::space;
+use words::line::front;
+ghost use Prim.Native.Nat.{_≤_};
+ghost use lib.ListN.{length};
 
 // Encodes with the texts of the file that word 4 names to the one that word 5 names.
 fn encode_with_source(writing: Writing, is_replacing: bool, table: &[u8]) {
@@ -17,20 +22,27 @@ fn encode_with_source(writing: Writing, is_replacing: bool, table: &[u8]) {
     }
     let n = got.count;
     let mut out = io::large_buffer();
-    let mut line = io::large_buffer();
+    let mut line = io::buffer();
     let told = encode_told(writing, table, &source[..n], &mut out, &mut line);
     named::keep(5, Kind::Packet, is_replacing, told, &out, &line);
 }
 
-// Encodes the table of the file that word 3 names.
-fn encode_file(writing: Writing, is_replacing: bool) {
-    let mut table = space::table();
-    let got = named::read_table(3, 5, &mut table);
-    if !got.is_read {
-        return;
+// Encodes an open table, whose first bytes were read, in a room for any.
+pub fn go_on(writing: Writing, is_replacing: bool, fd: i32, first: &[u8], room: &mut [u8])
+    requires { ⌜ length (now first) ≤ length (now room) ⌝ }
+{
+    if let Records::Whole(n) = named::read_rest(fd, 3, first, room) {
+        encode_with_source(writing, is_replacing, front(room, n));
     }
-    let n = got.count;
-    encode_with_source(writing, is_replacing, &table[..n]);
+}
+
+// Encodes an open table in a room that may be too small for it.
+pub fn begin(writing: Writing, is_replacing: bool, fd: i32, room: &mut [u8]) {
+    match named::read_table(fd, 3, room) {
+        Records::Whole(n) => encode_with_source(writing, is_replacing, front(room, n)),
+        Records::More(fd) => rooms::go_on(Work::Encode(writing, is_replacing), fd, room),
+        Records::Failed => {}
+    }
 }
 
 // Of its words there are `count`, --replace not counted.
@@ -38,7 +50,10 @@ pub fn run(count: usize, is_replacing: bool) {
     let mut word = io::buffer();
     let n = os::arg(2, &mut word);
     match encode_asked(count, &word[..n]) {
-        EncodeAsked::As(writing) => encode_file(writing, is_replacing),
+        EncodeAsked::As(writing) => rooms::run(
+            Work::Encode(writing, is_replacing),
+            named::open_table(3, 5),
+        ),
         EncodeAsked::Wrong(trouble, i) => say::trouble(trouble, i, 0),
     }
 }
