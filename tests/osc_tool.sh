@@ -856,25 +856,76 @@ expect 2 '' 'osc: not udp, tcp, tcp-vec, tcp2 or tcp2-vec: a?b?[31mc?d' decode "
 rm -f "$odd"
 expect 2 '' 'osc: Märchen: No such file or directory' decode udp Märchen new.table
 
-# ---- A stack of 1 MiB: the script raises the limit, where it may; where it may not, it says so and changes nothing.
+# ---- The stack: 1 MiB is enough for tables of up to 26,000 records, half of that for what needs no such table, and 2 MiB for every table.
+# The script raises the limit where it may: root may, unless it gives that right up.
+fixed=
+[ "$(id -u)" -ne 0 ] || fixed='setpriv --bounding-set=-sys_resource'
+# within KIB STATUS LINE WORDS..: what `osc WORDS..` should end with and say where the stack may have no more.
+within() {
+    kib=$1 status=$2 line=$3
+    shift 3
+    said=$(
+        ulimit -s "$kib"
+        $fixed "$root/osc" "$@" 2>&1
+    )
+    ended=$?
+    [ "$ended" -eq "$status" ] && [ "$said" = "$line" ]
+    count $? "osc $* with a stack of $kib KiB: status $ended, said '$said'"
+}
+# a message with as many arguments as the word says, and so many bytes after its tags
+tags() {
+    printf '/a\0\0,'
+    head -c "$1" /dev/zero | tr '\0' T
+    head -c "$2" /dev/zero
+}
+tags 25999 4 >most.osc
+tags 60000 3 >large.osc
+needs='osc: this table needs 2 MiB of stack, and the program may have 1024 KiB (ulimit -s); nothing was changed'
+
+within 1024 0 'packets: 1, records: 5, bytes left: 0' decode udp m.osc stack.table
+same stack.table m.table
+within 1024 0 "written: $(wc -c <m.osc) bytes" encode udp stack.table m.osc stack.osc
+same stack.osc m.osc
+within 1024 0 'packets: 1, records: 26000, bytes left: 0' decode udp most.osc most.table
+within 1024 0 'written: 26008 bytes' encode udp most.table most.osc stack.osc --replace
+same stack.osc most.osc
+within 1024 0 'record 25999: T, end 26000
+start 26008' look most.table 25999
+within 1024 1 'refused 10: the result has more records than the capacity' decode udp large.osc few.table --records 26000
+gone few.table
+within 1024 2 "$needs" decode udp large.osc large.table
+within 1024 2 "$needs" decode udp large.osc large.table --records 26001
+gone large.table
+within 2048 0 'packets: 1, records: 60001, bytes left: 0' decode udp large.osc large.table
+within 1024 2 "$needs" encode udp large.table large.osc stack.osc --replace
+same stack.osc most.osc
+within 2048 0 'written: 60008 bytes' encode udp large.table large.osc stack.osc --replace
+same stack.osc large.osc
+within 1024 2 "$needs" look large.table 0
+within 2048 0 'record 60000: T, end 60001
+start 60008' look large.table 60000
+within 512 0 'index: 2 records, whole' index "$examples/frames.osc" stack.idx
+within 512 0 'index fits: 2 records, whole' check "$examples/frames.osc" stack.idx
+within 512 0 'packets: 1, records: 2, bytes left: 0, frame at byte 112, packet of 16 bytes' \
+    cue "$examples/frames.osc" stack.idx 1 stack2.table stack2.osc
+within 512 0 "$("$root/osc" help)" help
+# a soft limit is raised, and a pipe, whose length nobody knows, is read to its end
 said=$(
     ulimit -S -s 1024
-    "$root/osc" decode udp m.osc stack.table 2>&1
+    "$root/osc" decode udp large.osc raised.table 2>&1
 )
-[ "$said" = 'packets: 1, records: 5, bytes left: 0' ]
-count $? "with a stack of 1 MiB: said '$said'"
-said=$(
-    ulimit -s 1024
-    "$root/osc" decode udp m.osc stack2.table 2>&1
-)
-case $said in
-    'packets: 1, records: 5, bytes left: 0') same stack2.table m.table ;;
-    *)
-        [ "$said" = 'osc: the program needs 2 MiB of stack, and may have 1024 KiB (ulimit -s); nothing was changed' ]
-        count $? "with no more than a stack of 1 MiB: said '$said'"
-        gone stack2.table
-        ;;
-esac
+[ "$said" = 'packets: 1, records: 60001, bytes left: 0' ]
+count $? "with a soft limit of 1 MiB: said '$said'"
+same raised.table large.table
+said=$("$root/osc" look /dev/stdin 60000 <large.table | cat)
+[ "$said" = 'record 60000: T, end 60001
+start 60008' ]
+count $? "a table as standard input: said '$said'"
+# shellcheck disable=SC2002
+said=$(cat large.table | "$root/osc" look /dev/stdin 60000)
+[ "$said" = 'record 60000: T, end 60001
+start 60008' ]
+count $? "a table from a pipe: said '$said'"
 
 # ---- The program alone: what the script's own tests hide.
 tool() {

@@ -29,8 +29,8 @@ abbrev pub packetWords : List ℕ → List ℕ
 packetWords packet =
     withoutEnd (take 4096 (decodedLine (rootsOf (treesWith Udp asIndexed packet)) (length packet) (decodedWith Udp asIndexed packet)))
 
--- the table is that of the packet as decode udp --records 3276 reads it, so that its offsets count from the packet's first byte; the line is the same
--- with the frame's offset and the packet's length
+-- the table is that of the packet as decode udp --records 3276 reads it, so that its offsets count from the packet's first byte; the line
+-- is the same with the frame's offset and the packet's length
 pub record FrameTold (packet : List ℕ) (at : ℕ) (table line : List ℕ) (told : Told) : Type 0 where
   pub kept : told .«is_kept» ≡ hasTable (decodedWith Udp asIndexed packet)
   pub counts : Counts (told .bytes) table

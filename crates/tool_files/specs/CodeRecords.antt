@@ -8,10 +8,10 @@ use Rattle.tool_files.specs.declared.named.Records.{Records}
 use Rattle.tool_files.specs.declared.named.Records.the-variants.{Whole, More, Failed}
 
 -- a file of so many bytes is a table where they are whole records
-abbrev pub WholeRecords : ℕ → Records → Type 0
-WholeRecords count (Whole n) = (n ≡ count) × (n % recordSize ≡ 0)
-WholeRecords count (More fd) = ⊥
-WholeRecords count Failed = Unit {0}
+abbrev pub WholeTable : ℕ → Records → Type 0
+WholeTable count (Whole n) = (n ≡ count) × (n % recordSize ≡ 0)
+WholeTable count (More fd) = ⊥
+WholeTable count Failed = Unit {0}
 
 -- the bytes of a table are whole records that lie in the room
 abbrev pub InRoom : List ℕ → Records → Type 0

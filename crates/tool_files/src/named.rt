@@ -14,7 +14,7 @@ ghost use mathlib.Core.Path.{_≡_};
 ghost use Prim.Native.Nat.{_%_, _≤_, _<_};
 ghost use lib.ListN.{length};
 ghost use Rattle.io.specs.Counts.{Counts};
-ghost use Rattle.tool_files.specs.CodeRecords.{WholeRecords, InRoom};
+ghost use Rattle.tool_files.specs.CodeRecords.{WholeTable, InRoom};
 
 // A file that was begun: the descriptor of the file beside it, and how long its name is.
 pub struct Draft {
@@ -108,7 +108,7 @@ pub enum Records {
 
 // A file of so many bytes as a table: whole records.
 fn records_of(count: usize, i: usize) -> Records
-    ensures { λ r. ⌜ WholeRecords count r ⌝ }
+    ensures { λ r. ⌜ WholeTable count r ⌝ }
 {
     if count % RECORD_SIZE == 0 {
         return Records::Whole(count);
@@ -134,8 +134,8 @@ fn read_records(fd: i32, i: usize, name: &[u8], room: &mut [u8], kept: usize) ->
     Records::Failed
 }
 
-// Opens the table that word `i` names, and answers its descriptor; -1 where it cannot, or where word `output` names the same file, and then
-// says why.
+// Opens the table that word `i` names, and answers its descriptor; -1 where it cannot, or where word `output` names the same file, and
+// then says why.
 pub fn open_table(i: usize, output: usize) -> i32 {
     let mut name = io::buffer();
     let n = name_word(i, &mut name);

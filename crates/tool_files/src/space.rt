@@ -2,7 +2,7 @@
 use node::record::MOST_RECORDS;
 use node::record::RECORD_SIZE;
 ghost use mathlib.Core.Path.{_≡_};
-ghost use Prim.Native.Nat.{_+_, _*_};
+ghost use Prim.Native.Nat.{_+_, _*_, _≤_};
 ghost use lib.ListN.{length};
 ghost use Rattle.node.specs.Records.{recordSize, mostRecords};
 
@@ -15,7 +15,9 @@ pub fn is_small(size: u64) -> bool {
 }
 
 // Room for the records of a small table, and a byte more, by which a larger one is seen.
-pub fn small_table() -> [u8; RECORD_SIZE * FEW_RECORDS + 1] {
+pub fn small_table() -> [u8; RECORD_SIZE * FEW_RECORDS + 1]
+    ensures { λ r. ⌜ length r ≤ recordSize * mostRecords ⌝ }
+{
     [0; RECORD_SIZE * FEW_RECORDS + 1]
 }
 

@@ -17,13 +17,7 @@ ghost use lib.ListN.{length};
 ghost use Rattle.node.specs.Records.{recordSize, mostRecords};
 
 // Decodes bytes to the file that word 4 names, in a room for any table.
-pub fn go_on(
-    framing: Framing,
-    options: Options,
-    is_replacing: bool,
-    input: &[u8],
-    room: &mut [u8],
-)
+pub fn go_on(framing: Framing, options: Options, is_replacing: bool, input: &[u8], room: &mut [u8])
     requires { ⌜ recordSize * mostRecords ≤ length (now room) ⌝ }
 {
     let mut line = io::buffer();
@@ -31,7 +25,7 @@ pub fn go_on(
     named::keep(4, Kind::Table, is_replacing, told, room, &line);
 }
 
-// The same in a room that may be too small; whether it does.
+// The same in a room that may be too small; whether it was enough.
 pub fn begin(
     framing: Framing,
     options: Options,

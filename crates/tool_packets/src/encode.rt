@@ -10,8 +10,9 @@ use tool_files::named;
 use tool_files::named::Records;
 use tool_files::say;
 use words::line::front;
-ghost use Prim.Native.Nat.{_≤_};
+ghost use Prim.Native.Nat.{_*_, _≤_};
 ghost use lib.ListN.{length};
+ghost use Rattle.node.specs.Records.{recordSize, mostRecords};
 
 // Encodes with the texts of the file that word 4 names to the one that word 5 names.
 fn encode_with_source(writing: Writing, is_replacing: bool, table: &[u8]) {
@@ -37,7 +38,9 @@ pub fn go_on(writing: Writing, is_replacing: bool, fd: i32, first: &[u8], room: 
 }
 
 // Encodes an open table in a room that may be too small for it.
-pub fn begin(writing: Writing, is_replacing: bool, fd: i32, room: &mut [u8]) {
+pub fn begin(writing: Writing, is_replacing: bool, fd: i32, room: &mut [u8])
+    requires { ⌜ length (now room) ≤ recordSize * mostRecords ⌝ }
+{
     match named::read_table(fd, 3, room) {
         Records::Whole(n) => encode_with_source(writing, is_replacing, front(room, n)),
         Records::More(fd) => rooms::go_on(Work::Encode(writing, is_replacing), fd, room),

@@ -9,8 +9,9 @@ use tool_files::named;
 use tool_files::named::Records;
 use tool_files::say;
 use words::line::front;
-ghost use Prim.Native.Nat.{_≤_};
+ghost use Prim.Native.Nat.{_*_, _≤_};
 ghost use lib.ListN.{length};
+ghost use Rattle.node.specs.Records.{recordSize, mostRecords};
 
 // Says what a record of a table holds, and where its data begins.
 fn look_in(index: usize, table: &[u8]) {
@@ -31,7 +32,9 @@ pub fn go_on(index: usize, fd: i32, first: &[u8], room: &mut [u8])
 }
 
 // Looks at a record of an open table in a room that may be too small for it.
-pub fn begin(index: usize, fd: i32, room: &mut [u8]) {
+pub fn begin(index: usize, fd: i32, room: &mut [u8])
+    requires { ⌜ length (now room) ≤ recordSize * mostRecords ⌝ }
+{
     match named::read_table(fd, 2, room) {
         Records::Whole(n) => look_in(index, front(room, n)),
         Records::More(fd) => rooms::go_on(Work::Look(index), fd, room),

@@ -1,6 +1,6 @@
-// Room for the records of a table, on the stack. Most tables have room in the small one, and the large one is for those that have not: so
-// the others need little stack. Each room is lent by one function that all commands call: one with a single caller the compiler would make
-// a part of it, and the caller's stack as large.
+// Room for the records of a table. All of it is on the stack, so a command begins in a small room and takes the large one only where that
+// is too small. Each room is lent by a function that three commands call: the compiler would make one with a single caller a part of it, and
+// then every command would need the stack of the large room. tests/osc_tool.sh sees that it does not.
 use crate::decode;
 use crate::encode;
 use crate::look;
@@ -8,16 +8,19 @@ use commands::Options;
 use commands::Writing;
 use edition::Framing;
 use tool_files::space;
+ghost use Prim.Native.Nat.{_*_, _≤_};
+ghost use lib.ListN.{length};
+ghost use Rattle.node.specs.Records.{recordSize, mostRecords};
 
-// A command, and what its words ask; the last of two or three is whether it replaces any file.
+// What the words of a command ask. The `bool` says whether any file may be replaced.
 pub enum Work {
     Decode(Framing, Options, bool),
     Encode(Writing, bool),
     Look(usize),
 }
 
-// Runs a command in the small room: decode with the bytes that it read, the others with a table that is open. Whether that room does for
-// decode; the others then go on by themselves.
+// Runs a command in the small room: decode with the bytes that it read, the others with an open table. Whether decode has room; the
+// others go on by themselves.
 pub fn begin(work: Work, fd: i32, bytes: &[u8]) -> bool {
     let mut room = space::small_table();
     match work {
@@ -30,18 +33,32 @@ pub fn begin(work: Work, fd: i32, bytes: &[u8]) -> bool {
     true
 }
 
-// Runs a command in the large room: decode with the bytes that it read, the others with an open table and the first bytes of it, which were
+// Runs a command in the large room: decode with the bytes that it read, the others with an open table and those first bytes of it that were
 // read before.
-pub fn go_on(work: Work, fd: i32, bytes: &[u8]) {
+pub fn go_on(work: Work, fd: i32, bytes: &[u8])
+    requires { ⌜ length (now bytes) ≤ recordSize * mostRecords ⌝ }
+{
     let mut room = space::table();
     match work {
-        Work::Decode(framing, options, is_replacing) => decode::go_on(framing, options, is_replacing, bytes, &mut room),
-        Work::Encode(writing, is_replacing) => encode::go_on(writing, is_replacing, fd, bytes, &mut room),
+        Work::Decode(framing, options, is_replacing) => decode::go_on(
+            framing,
+            options,
+            is_replacing,
+            bytes,
+            &mut room,
+        ),
+        Work::Encode(writing, is_replacing) => encode::go_on(
+            writing,
+            is_replacing,
+            fd,
+            bytes,
+            &mut room,
+        ),
         Work::Look(index) => look::go_on(index, fd, bytes, &mut room),
     }
 }
 
-// Runs a command on an open table, in the room that its length needs. A table from a pipe has no length, and begins in the small one.
+// Runs a command on an open table, in the room that its length needs. A pipe has no length, so its table begins in the small one.
 pub fn run(work: Work, fd: i32) {
     if fd < 0 {
         return;

@@ -17,9 +17,10 @@ full c =
     let p5 = p3 .before .before in
     let a = p5 .before .before .before .before .before .args in
     let room = p5 .capacity-of .ensures in
-    let same = ap (λ (n : ℕ). isFull (decoded (ruleOf (a .framing) (a .options .depth)) n (a .options .depth) (a .msg .now))) room in
-    (omega (arith, p3 .if1 .left, p3 .before .least .ensures, room),
-    sym same ∙ full-seen (p2 .answer .ensures) (c .before .is-full .ensures) (c .if2 .taken))
+    let same = ap (λ (n : ℕ). isFull (decoded (ruleOf (a .framing) (a .options .depth)) n (a .options .depth) (a .msg .now))) room in (
+      omega (arith, p3 .if1 .left, p3 .before .least .ensures, room),
+      sym same ∙ full-seen (p2 .answer .ensures) (c .before .is-full .ensures) (c .if2 .taken),
+    )
 
 fewer : tie.Need-returns-3
 fewer c =
