@@ -7,9 +7,10 @@ use native.Mathlib.Omega.{arith}
 use lib.IntN.{ℤ, pos}
 use borrow.Author.Tests.{lt-ltb}
 use Rattle.clock.specs.Clock.{epoch, since1900, roundedOf, secondsOf, tagFor, unixFor}
-use Rattle.clock.specs.Shift.{signedOf}
+use Rattle.clock.specs.Shift.{signedOf, bitsOf}
 use Rattle.clock.specs.Promises.{TagCase}
 use Rattle.clock.specs.declared.Rule.{Rule}
+use Rattle.clock.specs.declared.Rule.the-variants.{A, B}
 use Rattle.clock.specs.declared.OutOfRange.the-variants.{Nanoseconds, TooLate, TooEarly}
 use Rattle.clock.specs.declared.Tagged.{Tagged}
 use Rattle.clock.specs.declared.Unix.{Unix}
@@ -18,9 +19,8 @@ use Rattle.clock.proofs.Times.{seconds-below}
 use Rattle.clock.proofs.Shifts.{bits-back}
 use Rattle.clock.proofs.Domains.{case-of, TimeCase, time-of}
 use Rattle.told.specs.Times.{taggedNumber, taggedBeside, unixNumber, unixBeside}
-use Rattle.clock.specs.Shift.{bitsOf}
 use Rattle.apart.specs.Contracts.{CEnds, told-answer, told-refusal, CDemand}
-use Rattle.apart.specs.Boundary.{osc-tag, osc-unix, osc-shift, osc-difference, cContractOf}
+use Rattle.apart.specs.Boundary.{osc-tag, osc-unix, osc-shift, osc-difference, cContractOf, CMeets}
 use Rattle.apart.specs.ReadBack.{TagBack, tag-there, no-tag, TagTold, UnixBack, time-there, no-time, UnixTold, DifferenceTold}
 use Rattle.apart.proofs.Contracts.{ends-as, alone, some-number, numbers-settled}
 
@@ -112,3 +112,27 @@ difference-demand tag old =
 pub difference-told : DifferenceTold
 difference-told tag old told more after t =
     ap signedOf (t .0 ∙ bits-back ((tag + (2 ^ 64 - old)) % 2 ^ 64) (omega arith))
+
+-- ---- examples, computed
+
+-- the immediate tag (0, 1): 28 by rule A, and by rule B the first second after the wrap
+immediate-a : CMeets (osc-unix A 1 (omega arith)) 0x1C00_0000_0000_0000 0 []
+unfolding unixFor
+immediate-a = (refl, refl, refl)
+
+immediate-b : CMeets (osc-unix B 1 (omega arith)) 0 2_085_978_496 []
+unfolding unixFor
+immediate-b = (refl, refl, refl)
+
+-- the second after rule A's last: 27, and a tag by rule B
+after-a : CMeets (osc-tag A (pos 2_085_978_496) 1) 0x1B00_0000_0000_0000 0 []
+unfolding tagFor
+after-a = (refl, refl, refl)
+
+after-b : CMeets (osc-tag B (pos 2_085_978_496) 1) 0 4 []
+unfolding tagFor
+after-b = (refl, refl, refl)
+
+-- tags 2^63 apart differ by the lowest number, whose 64 bits are 2^63
+opposite : CMeets (osc-difference 0 (2 ^ 63)) (2 ^ 63) 0 []
+opposite = (refl, refl, refl)
