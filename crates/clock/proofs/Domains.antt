@@ -20,7 +20,7 @@ use Rattle.clock.proofs.Tags.{refused-nanoseconds, refused-late, refuse
 use Rattle.clock.proofs.Times.{field-wrapped, field-plain, refused-before-1970, timed}
 
 case-seconds : (rule : Rule) (s n : ℕ) → n < 1_000_000_000 → Dec (lastOf rule < s) → TagCase rule (pos s) n (tagFor rule (pos s) n)
-case-seconds rule s n h (yes l) = rw (refused-late rule s n h l) (late h l)
+case-seconds rule s n h (yes l) = rw (refused-late rule s n h l) (late {n = n} (omega arith) l)
 case-seconds rule s n h (no l) = let e : s ≤ lastOf rule = omega arith in rw (tagged rule s n h e) (has-tag h e)
 
 case-below : (rule : Rule) (z : ℤ) (n : ℕ) → n < 1_000_000_000 → TagCase rule z n (tagFor rule z n)
@@ -40,7 +40,7 @@ case-of rule z n = case-either rule z n (decLt n 1_000_000_000)
 -- and an answer of a case is that of `tagFor`
 pub case-answers : {rule : Rule} {z : ℤ} {n : ℕ} {r : Tagged} → TagCase rule z n r → tagFor rule z n ≡ r
 case-answers {rule} (nanoseconds {z} {n} h) = refused-nanoseconds rule z n h
-case-answers {rule} (late {s} {n} h l) = refused-late rule s n h l
+case-answers {rule} (late {s} {n} h l) = refused-late rule s n (omega arith) l
 case-answers {rule} (early {s} {n} h) = refused-early rule s n h
 case-answers {rule} (has-tag {s} {n} h l) = tagged rule s n h l
 
