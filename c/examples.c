@@ -861,6 +861,72 @@ static void versions(void) {
     fits("an earlier major", numbered(2, 0, 0), numbered(1, 65535, 65535), 0);
 }
 
+/* ---- clock conversion (Ticket 7) */
+
+enum rule { A, B };
+
+/* The answer of a Unix time's tag, and the tag; what stood there before is written over. */
+static void tags(const char *name, enum rule rule, int64_t seconds, uint64_t nanos, unsigned refusal, uint64_t due) {
+    uint64_t tag = 0xAAAAAAAAAAAAAAAAu;
+    uint64_t answer = rule == A ? osc_tag_a(seconds, nanos, &tag) : osc_tag_b(seconds, nanos, &tag);
+    same(name, answer, (uint64_t)refusal << 56);
+    same(name, tag, due);
+}
+
+/* The answer of a tag's Unix time, and the seconds. */
+static void times(const char *name, enum rule rule, uint64_t tag, unsigned refusal, int64_t due, uint32_t nanos) {
+    int64_t seconds = -0x5555555555555555;
+    uint64_t answer = rule == A ? osc_unix_a(tag, &seconds) : osc_unix_b(tag, &seconds);
+    same(name, osc_refusal(answer), refusal);
+    same(name, answer & 0xFFFFFFFFFFFFFFu, nanos);
+    same(name, osc_nanos(answer), nanos);
+    same(name, (uint64_t)seconds, (uint64_t)due);
+}
+
+static void clocks(void) {
+    const uint64_t high = (uint64_t)1 << 63, epoch = 2208988800u, top = 0xFFFFFFFFu;
+    const int64_t last_a = 2085978495, last_b = 4233462143;
+    int rule;
+    for (rule = A; rule <= B; rule++) {
+        enum rule r = (enum rule)rule;
+        tags("1970", r, 0, 0, 0, epoch << 32);
+        tags("the highest nanoseconds do not carry", r, 0, 999999999, 0, (epoch << 32) + 4294967292u);
+        tags("just below a half", r, 1, 500355614, 0, ((epoch + 1) << 32) + 2149010998u);
+        tags("rule A's last second", r, last_a, 0, 0, top << 32);
+        tags("before 1970", r, -1, 999999999, OSC_TOO_EARLY, 0);
+        tags("the lowest seconds", r, INT64_MIN, 0, OSC_TOO_EARLY, 0);
+        tags("the highest seconds", r, INT64_MAX, 0, OSC_TOO_LATE, 0);
+        tags("10^9 nanoseconds", r, 0, 1000000000, OSC_NANOSECONDS, 0);
+        tags("2^32 nanoseconds", r, 0, (uint64_t)1 << 32, OSC_NANOSECONDS, 0);
+        tags("26 before 27", r, INT64_MAX, UINT64_MAX, OSC_NANOSECONDS, 0);
+        tags("26 before 28", r, -1, UINT64_MAX, OSC_NANOSECONDS, 0);
+        times("1970", r, epoch << 32, 0, 0, 0);
+        times("a half goes up", r, (epoch << 32) + 4194304, 0, 0, 976563);
+        times("a carry into 1970", r, ((epoch - 1) << 32) + top, 0, 0, 0);
+        times("the lowest carry into 1970", r, ((epoch - 1) << 32) + top - 1, 0, 0, 0);
+        times("no carry into 1970", r, ((epoch - 1) << 32) + top - 2, OSC_TOO_EARLY, 0, 0);
+        times("before 1970", r, high, OSC_TOO_EARLY, 0, 0);
+        times("the highest tag", r, UINT64_MAX, 0, last_a + 1, 0);
+    }
+    tags("the second after rule A's last", A, last_a + 1, 0, OSC_TOO_LATE, 0);
+    tags("the second after rule A's last", B, last_a + 1, 0, 0, 0);
+    tags("rule B's last second", B, last_b, 0, 0, (uint64_t)0x7FFFFFFF << 32);
+    tags("the second after rule B's last", B, last_b + 1, 0, OSC_TOO_LATE, 0);
+    times("the immediate tag", A, 1, OSC_TOO_EARLY, 0, 0);
+    times("the immediate tag", B, 1, 0, 2085978496, 0);
+    times("a carry past rule B's last second", B, high - 1, 0, last_b + 1, 0);
+    times("a tag with its top bit clear", A, high - 1, OSC_TOO_EARLY, 0, 0);
+    same("a shift", osc_shift(epoch << 32, 5), (epoch << 32) + 5);
+    same("a shift around the wrap", osc_shift(UINT64_MAX, 2), 1);
+    same("a shift back", osc_shift(1, 0 - (uint64_t)2), UINT64_MAX);
+    same("a difference", (uint64_t)osc_difference(7, 5), 2);
+    same("a difference around the wrap", (uint64_t)osc_difference(1, UINT64_MAX), 2);
+    same("a difference back", (uint64_t)osc_difference(5, 7), 0 - (uint64_t)2);
+    same("the highest difference", (uint64_t)osc_difference(high - 1, 0), high - 1);
+    same("2^63 apart", (uint64_t)(osc_difference(high, 0) == INT64_MIN), 1);
+    same("2^63 apart, turned round", (uint64_t)(osc_difference(0, high) == INT64_MIN), 1);
+}
+
 /* NULL with the length 0 is a slice of no bytes, in every function. */
 static void no_bytes(void) {
     const uint8_t five[12] = {'/', 'a', 0, 0, ',', 'i', 0, 0, 0, 0, 0, 5};
@@ -904,6 +970,7 @@ int main(void) {
     many_numbers();
     far_records();
     versions();
+    clocks();
     no_bytes();
     printf("%d passed, %d failed\n", passed, failed);
     return failed != 0;

@@ -21,17 +21,19 @@ static const uint8_t source[] = "/\303\251";
 /* ---- a call, on a stack of its own */
 
 enum call {
-    UDP, TCP, TCP_VEC, TCP2, TCP_VEC2, PORTION, INDEX, ENCODE, ENCODE_TCP, ENCODE_TCP2, STRING, CHECK, LOOK, START, CUE, PAD, VERSION
+    UDP, TCP, TCP_VEC, TCP2, TCP_VEC2, PORTION, INDEX, ENCODE, ENCODE_TCP, ENCODE_TCP2, STRING, CHECK, LOOK, START, CUE,
+    TAG_A, TAG_B, UNIX_A, UNIX_B, SHIFT, DIFFERENCE, PAD, VERSION
 };
 
-static const char *const names[] = {"udp",        "tcp",         "tcp_vec", "tcp2",  "tcp_vec2", "portion", "index", "encode",
-                                    "encode_tcp", "encode_tcp2", "string",  "check", "look",     "start",   "cue",   "pad",
-                                    "version"};
+static const char *const names[] = {"udp",        "tcp",         "tcp_vec", "tcp2",  "tcp_vec2",   "portion", "index", "encode",
+                                    "encode_tcp", "encode_tcp2", "string",  "check", "look",       "start",   "cue",   "tag_a",
+                                    "tag_b",      "unix_a",      "unix_b",  "shift", "difference", "pad",     "version"};
 
 /* The call that the thread makes: n is the length of its input, or its number. */
 static struct {
     enum call call;
     uint64_t n, answer, more;
+    int64_t seconds;
     double us;
 } asked;
 
@@ -66,6 +68,12 @@ static uint64_t once(enum call call, uint64_t n) {
     case START: return osc_start(table, sizeof table, n);
     case CUE: return osc_cue(table, sizeof table, n, more);
     case VERSION: return osc_version();
+    case TAG_A: return osc_tag_a((int64_t)n, 999999999, more);
+    case TAG_B: return osc_tag_b((int64_t)n, 999999999, more);
+    case UNIX_A: return osc_unix_a(n, &asked.seconds);
+    case UNIX_B: return osc_unix_b(n, &asked.seconds);
+    case SHIFT: return osc_shift(n, n);
+    case DIFFERENCE: return (uint64_t)osc_difference(n, 1);
     default: return osc_pad(n);
     }
 }
@@ -92,7 +100,7 @@ static void run(const char *name, enum call call, uint64_t n, unsigned due) {
         most[sort_of(call)] = size - left;
         most_name[sort_of(call)] = name;
     }
-    unsigned refusal = call == PAD ? 0 : osc_refusal(asked.answer);
+    unsigned refusal = call >= SHIFT ? 0 : osc_refusal(asked.answer);
     if ((call == PORTION || call == INDEX) && !refusal) refusal = osc_ended(asked.more);
     printf("%-34s %-11s %5llu: refusal %2u, count %5u, left, used or written %5u, stack %6zu, %8.0f us%s\n", name, names[call],
            (unsigned long long)n, refusal, osc_count(asked.answer), osc_left(asked.answer), size - left, asked.us,
@@ -274,6 +282,15 @@ static void others(void) {
     run("a record past the last", START, 65536, OSC_BAD_TABLE);
     run("a position", PAD, 65533, 0);
     run("the version", VERSION, 0, 0);
+    run("rule A's last second", TAG_A, 2085978495, 0);
+    run("the second after it", TAG_A, 2085978496, OSC_TOO_LATE);
+    run("rule B's last second", TAG_B, 4233462143, 0);
+    run("the lowest seconds", TAG_B, (uint64_t)1 << 63, OSC_TOO_EARLY);
+    run("the highest tag", UNIX_A, UINT64_MAX, 0);
+    run("the immediate tag", UNIX_A, 1, OSC_TOO_EARLY);
+    run("the immediate tag", UNIX_B, 1, 0);
+    run("the highest tag", SHIFT, UINT64_MAX, 0);
+    run("the highest tag", DIFFERENCE, UINT64_MAX, 0);
     memset(table, 0, sizeof table);
     run("the last cue", CUE, sizeof table / OSC_ENTRY - 1, 0);
     run("a cue past the last", CUE, sizeof table / OSC_ENTRY, OSC_BAD_TABLE);

@@ -1,9 +1,10 @@
 /* Sennorbai: Open Sound Control packets and node tables. C99 and C++17. Link with dist/x86_64/libosc.a.
  *
  * No function allocates, keeps a pointer or has a state. Every pointer may be to any bytes, and a length may be 0, with a NULL pointer
- * too; slices that a call may write must not overlap the others. A `uint64_t *` is to one number, aligned as C has it. A call that is
- * refused changes no byte of a slice. Each call ends within 35,680 bytes of stack, an encoder of packets within 17,408, and a call on
- * one record, cue, text, number or part of an index within 4,960, whatever it is given (measured by c/stack.c on x86-64).
+ * too; slices that a call may write must not overlap the others. A `uint64_t *` or an `int64_t *` is to one number, aligned as C has
+ * it. A call that is refused changes no byte of a slice. Each call ends within 35,680 bytes of stack, an encoder of packets within 17,408,
+ * and a call on one record, cue, text, number, time or part of an index within 4,960, whatever it is given (measured by c/stack.c on
+ * x86-64).
  *
  * A node table has records of OSC_RECORD bytes, big-endian: kind (1), three zero bytes, end (4), a (4), b (4), start (4).
  * The start is the offset, from the decoder's first input byte, where the item's data begins: a message's address, a bundle's
@@ -54,7 +55,10 @@ enum {
     OSC_SHORT_DATA = 19,    /* the data of an argument: a text's NUL and a blob's size included, its padding not */
     OSC_SHORT_PADDING = 20, /* the padding after a text or a blob */
     OSC_SHORT_HEAD = 21,    /* the prefix of a frame, or a bundle's time tag */
-    OSC_INDEX_DIFFERS = 25  /* a cue index is not that of its recording; osc_record says at which record */
+    OSC_INDEX_DIFFERS = 25, /* a cue index is not that of its recording; osc_record says at which record */
+    OSC_NANOSECONDS = 26,   /* nanoseconds of 10^9 or more */
+    OSC_TOO_LATE = 27,      /* a Unix time later than the rule allows */
+    OSC_TOO_EARLY = 28      /* a Unix time before 1970, after any carry */
 };
 
 /* Decoders. They read `len` bytes at `msg` and write records to the `table_len` bytes at `table`.
@@ -210,6 +214,30 @@ uint64_t osc_look(const uint8_t *table, size_t table_len, uint64_t index);
  * Nothing else of the record is looked at. */
 uint64_t osc_start(const uint8_t *table, size_t table_len, uint64_t index);
 
+/* Time tags. A tag is a number of 64 bits: seconds since 1900 in its upper half, and fractions of a second, 2^32 of them, in its lower
+ * half. In a table it is the `a` and `b` of a record of kind 't' or '#': ((uint64_t)a << 32) + b. A Unix time is signed seconds since 1970
+ * and nanoseconds. The rule says what a seconds field stands for: by rule A, which is rosc's, the seconds since 1900, up to the Unix second
+ * 2,085,978,495 in 2036; by rule B, which is RFC 4330's, a field with its top bit clear is after the wrap of 2036, up to 4,233,462,143.
+ * Nanoseconds become the nearest fraction, and a fraction the nearest nanoseconds, halves up; a nanosecond value comes back unchanged. The
+ * tag (0, 1), "immediately", is a plain number here. */
+
+/* The tag of a Unix time, by rule A and by rule B. 0, or the refusal's number in bits 56 to 63: OSC_NANOSECONDS, then OSC_TOO_LATE, then
+ * OSC_TOO_EARLY. `*tag` is written by every call, and is 0 where it is refused. `tag` must not be NULL. */
+uint64_t osc_tag_a(int64_t seconds, uint64_t nanos, uint64_t *tag);
+uint64_t osc_tag_b(int64_t seconds, uint64_t nanos, uint64_t *tag);
+
+/* The Unix time of a tag, by rule A and by rule B. The nanoseconds in bits 0 to 31, or OSC_TOO_EARLY in bits 56 to 63, and no other
+ * refusal. The two highest fractions carry into the next second, also past the rule's last. `*seconds` is written by every call, and is 0
+ * where it is refused. `seconds` must not be NULL. */
+uint64_t osc_unix_a(uint64_t tag, int64_t *seconds);
+uint64_t osc_unix_b(uint64_t tag, int64_t *seconds);
+
+/* A tag moved on by an amount, modulo 2^64. The opposite of an amount, 0 - by, moves it back. */
+uint64_t osc_shift(uint64_t tag, uint64_t by);
+
+/* The difference of a tag from an old one, around the wrap, in fractions. Tags exactly 2^63 apart give INT64_MIN. */
+int64_t osc_difference(uint64_t tag, uint64_t old);
+
 /* The version of the library, as a number that is made as OSC_VERSION is. It is never refused. */
 uint64_t osc_version(void);
 
@@ -277,6 +305,9 @@ static inline uint8_t osc_kind(uint64_t answer) { return (uint8_t)answer; }
 
 /* The offset that osc_start found: where the item's data began. */
 static inline uint32_t osc_began(uint64_t answer) { return (uint32_t)answer; }
+
+/* The nanoseconds that osc_unix_a or osc_unix_b found. */
+static inline uint32_t osc_nanos(uint64_t answer) { return (uint32_t)answer; }
 
 #ifdef __cplusplus
 }

@@ -74,6 +74,8 @@ use Rattle.apart.proofs.Contracts.{ends-as, alone, in-high-bits, number
 use Rattle.apart.proofs.Contracts.{some-number, writes-demand, encodes-demand}
 use Rattle.apart.proofs.Ended.{encodes-ended, string-ended}
 use Rattle.apart.proofs.Once.{answerable}
+use Rattle.apart.specs.Boundary.{osc-tag, osc-unix, osc-shift, osc-difference}
+use Rattle.apart.proofs.ClockTold.{tag-demand, unix-demand, shift-demand, difference-demand}
 
 -- ---- stops are told apart
 
@@ -440,6 +442,10 @@ every (osc-look table i) = tells-demand (lookedTold (lookAt table i)) (11 ∷ []
 every (osc-start table bytes i) =
     tells-demand (startedTold (startedAt table i)) (11 ∷ []) 0x1_0000_0000 (omega arith) refl (start-plain table bytes i)
 every (osc-version version bits) = version-demand version bits
+every (osc-tag rule seconds nanos) = tag-demand rule seconds nanos
+every (osc-unix rule tag fits) = unix-demand rule tag fits
+every (osc-shift tag by) = shift-demand tag by
+every (osc-difference tag old) = difference-demand tag old
 
 -- no second number, nothing else beside it and no other lent bytes meet its contract
 pub c-settled : CSettled

@@ -1,10 +1,14 @@
--- Demand 1 at the C boundary: the seventeen functions of include/osc.h, each as one contract.
+-- Demand 1 at the C boundary: the functions of include/osc.h, each as one contract.
 use mathlib.Core.Path.{_≡_}
 use mathlib.Core.Bool.{true, cond}
 use mathlib.Core.List.{List, [], _∷_}
 use Prim.Native.Nat.{ℕ, _+_, _*_, _%_, _^_, _≤_, _<_}
 use lib.Dec.{ltb}
 use lib.ListN.{length, getD}
+use lib.IntN.{ℤ}
+use Rattle.clock.specs.Clock.{tagFor, unixFor}
+use Rattle.clock.specs.Shift.{shifted, differenceOf, bitsOf}
+use Rattle.clock.specs.declared.Rule.{Rule}
 use Rattle.refusal.specs.declared.Refusal.the-variants.{TooLong}
 use Rattle.wire.specs.Limits.{longest}
 use Rattle.wire.specs.Pad.{padOf}
@@ -24,6 +28,7 @@ use Rattle.results.specs.declared.Encoded.{Encoded}
 use Rattle.told.specs.Told.{answerOf, refusalIn, lowIn, offsetIn, frameIn}
 use Rattle.told.specs.Answers.{toldNumber, decodedTold, portionTold, indexedTold, encodedTold, startedTold, lookedTold, cueToldAs, cueTold}
 use Rattle.told.specs.Answers.{cueBeside, differsNumber, checkedNumber, paddedNumber}
+use Rattle.told.specs.Times.{taggedNumber, taggedBeside, unixNumber, unixBeside}
 use Rattle.apart.specs.Contracts.{CContract, inHighBits, below56, nothing, never, numbers, tells, lends, HasOffset, CEnds, CDemand}
 
 -- ---- how a call stops
@@ -90,8 +95,9 @@ abbrev pub usedWithin : List ℕ → ℕ → Type 0
 usedWithin bytes told = below56 told × (lowIn told ≤ length bytes)
 
 -- a call from C and what it is handed: the five decoders by their framing, the step over a stream of edition 2, the two steps and the
--- lookup of a cue index, the three encoders of packets by their frame; `osc_start` and `osc_cue` tell bytes as they stand, so that they are
--- bytes is said; `osc_version` is handed nothing, and stands here for a library of any version, whose number has 48 bits
+-- lookup of a cue index, the three encoders of packets by their frame, the conversions by their rule; `osc_start` and `osc_cue` tell bytes
+-- as they stand, so that they are bytes is said; and so that a tag has 64 bits. `osc_version` is handed nothing, and stands here for a
+-- library of any version, whose number has 48 bits
 pub data CCall : Type 0 where
   osc-decode : (framing : Framing) (msg table : List ℕ) (depth : ℕ) → CCall
   osc-read-portion : (bytes table : List ℕ) (depth : ℕ) → CCall
@@ -104,9 +110,14 @@ pub data CCall : Type 0 where
   osc-look : (table : List ℕ) (index : ℕ) → CCall
   osc-start : (table : List ℕ) (bytes : (i : ℕ) → getD table i 0 < 256) (index : ℕ) → CCall
   osc-version : (version : ℕ) (bits : version < 0x1_0000_0000_0000) → CCall
+  osc-tag : (rule : Rule) (seconds : ℤ) (nanos : ℕ) → CCall
+  osc-unix : (rule : Rule) (tag : ℕ) (fits : tag < 2 ^ 64) → CCall
+  osc-shift : (tag by : ℕ) → CCall
+  osc-difference : (tag old : ℕ) → CCall
 
 -- its contract. Beside an answer stands dirty padding, 1 where a frame of an index waits, or all of a cue's offset; `osc_pad`
--- tells a multiple of 4, or 14 as it is, since a position may have bits 56 to 63
+-- tells a multiple of 4, or 14 as it is, since a position may have bits 56 to 63. What a conversion writes through its pointer stands
+-- beside its number; a signed number is told by its 64 bits
 abbrev pub cContractOf : CCall → CContract
 cContractOf (osc-decode framing msg table depth) =
     lends (decodedTold (length msg)) (Decodes (ruleOf framing depth) msg table depth) table (orderOf framing) below56
@@ -127,12 +138,20 @@ cContractOf (osc-pad pos) = numbers (paddedNumber (padOf pos)) 0 (14 ∷ []) (λ
 cContractOf (osc-look table index) = tells (lookedTold (lookAt table index)) (11 ∷ []) 256
 cContractOf (osc-start table bytes index) = tells (startedTold (startedAt table index)) (11 ∷ []) 0x1_0000_0000
 cContractOf (osc-version version bits) = numbers version 0 [] inHighBits (λ told. told < 0x1_0000_0000_0000) nothing never
+cContractOf (osc-tag rule seconds nanos) =
+    numbers (taggedNumber (tagFor rule seconds nanos)) (taggedBeside (tagFor rule seconds nanos)) (26 ∷ 27 ∷ 28 ∷ []) inHighBits
+    (λ told. told ≡ 0) (λ more. more < 2 ^ 64) never
+cContractOf (osc-unix rule tag fits) =
+    numbers (unixNumber (unixFor rule tag)) (bitsOf (unixBeside (unixFor rule tag))) (28 ∷ []) inHighBits (λ told. told < 1_000_000_000)
+    (λ more. more < 2 ^ 63) never
+cContractOf (osc-shift tag by) = numbers (shifted tag by) 0 [] inHighBits (λ told. told < 2 ^ 64) nothing never
+cContractOf (osc-difference tag old) = numbers (bitsOf (differenceOf tag old)) 0 [] inHighBits (λ told. told < 2 ^ 64) nothing never
 
 -- what its number, `more` and the lent bytes afterwards are held to
 abbrev pub CMeets : CCall → ℕ → ℕ → List ℕ → Type 0
 CMeets c = cContractOf c .Meets
 
--- ---- demand 1 for the seventeen functions
+-- ---- demand 1 for all of them
 
 -- every one meets it
 abbrev pub EveryFunction : Type 0

@@ -2,8 +2,18 @@
 use mathlib.Core.Path.{_≡_}
 use mathlib.Core.Bool.{true}
 use mathlib.Core.List.{List}
-use Prim.Native.Nat.{ℕ, _+_, _≤_, _<_}
+use Prim.Native.Nat.{ℕ, _+_, _^_, _≤_, _<_}
 use lib.ListN.{length, getD}
+use lib.IntN.{ℤ}
+use Rattle.clock.specs.Clock.{clockNumber, tagFor, unixFor}
+use Rattle.clock.specs.Shift.{signedOf, differenceOf}
+use Rattle.clock.specs.declared.Rule.{Rule}
+use Rattle.clock.specs.declared.OutOfRange.{OutOfRange}
+use Rattle.clock.specs.declared.OutOfRange.the-variants.{TooEarly}
+use Rattle.clock.specs.declared.Tagged.{Tagged}
+use Rattle.clock.specs.declared.Tagged.the-variants as tagged
+use Rattle.clock.specs.declared.Unix.{Unix}
+use Rattle.clock.specs.declared.Unix.the-variants as unix
 use Rattle.refusal.specs.Refusal.{numberOf, offsetOf, movedRefusal}
 use Rattle.refusal.specs.declared.Refusal.{Refusal}
 use Rattle.refusal.specs.declared.Refusal.the-variants.{BadTable}
@@ -31,6 +41,7 @@ use Rattle.told.specs.Told.{unpack, refusalIn, countIn, lowIn, offsetIn, frameI
 use Rattle.told.specs.Answers.{decodedTold, portionTold, encodedTold, paddedNumber, cueToldAs}
 use Rattle.apart.specs.Contracts.{HasOffset}
 use Rattle.apart.specs.Boundary.{osc-decode, osc-read-portion, osc-index-step, osc-cue, osc-encode, osc-encode-string, CMeets}
+use Rattle.apart.specs.Boundary.{osc-tag, osc-unix, osc-difference}
 
 -- ---- the parts of an answer's numbers are what was answered
 
@@ -187,6 +198,35 @@ abbrev pub CueTold : Type 0
 CueTold =
     (index : List ℕ) (bytes : (i : ℕ) → getD index i 0 < 256) (k told offset : ℕ) (after : List ℕ)
     → CMeets (osc-cue index bytes k) told offset after → CueBack (cueToldAs (cueIn index k)) told offset
+
+-- ---- clock conversion (Ticket 7)
+
+-- a tag, read back from the number and what was written: `osc_refusal` is not 0 exactly if there is none
+pub data TagBack (answer : Tagged) (told tag : ℕ) : Type 0 where
+  tag-there : refusalIn told ≡ 0 → answer ≡ tagged.Tag tag → TagBack answer told tag
+  no-tag : (r : OutOfRange) → refusalIn told ≡ clockNumber r → tag ≡ 0 → answer ≡ tagged.Refused r → TagBack answer told tag
+
+-- so is every tag
+abbrev pub TagTold : Type 0
+TagTold =
+    (rule : Rule) (seconds : ℤ) (nanos told tag : ℕ) (after : List ℕ) → CMeets (osc-tag rule seconds nanos) told tag after
+    → TagBack (tagFor rule seconds nanos) told tag
+
+-- a Unix time, read back from the number and the 64 bits that were written
+pub data UnixBack (answer : Unix) (told seconds : ℕ) : Type 0 where
+  time-there : refusalIn told ≡ 0 → answer ≡ unix.At (signedOf seconds) (lowIn told) → UnixBack answer told seconds
+  no-time : refusalIn told ≡ 28 → seconds ≡ 0 → answer ≡ unix.Refused TooEarly → UnixBack answer told seconds
+
+-- so is every time of a tag
+abbrev pub UnixTold : Type 0
+UnixTold =
+    (rule : Rule) (tag : ℕ) (fits : tag < 2 ^ 64) (told seconds : ℕ) (after : List ℕ) → CMeets (osc-unix rule tag fits) told seconds after
+    → UnixBack (unixFor rule tag) told seconds
+
+-- a difference is its 64 bits, read as signed
+abbrev pub DifferenceTold : Type 0
+DifferenceTold =
+    (tag old told more : ℕ) (after : List ℕ) → CMeets (osc-difference tag old) told more after → signedOf told ≡ differenceOf tag old
 
 -- ---- an encoder, and `osc_pad`
 

@@ -3,6 +3,12 @@
 use mathlib.Core.Bool.{false}
 use mathlib.Core.List.{List, [], _∷_}
 use Prim.Native.Nat.{ℕ}
+use lib.IntN.{ℤ}
+use Rattle.clock.specs.Clock.{tagFor, unixFor}
+use Rattle.clock.specs.Shift.{shifted, differenceOf}
+use Rattle.clock.specs.declared.Rule.{Rule}
+use Rattle.clock.specs.declared.Tagged.{Tagged}
+use Rattle.clock.specs.declared.Unix.{Unix}
 use Rattle.edition.specs.declared.Edition.{Edition}
 use Rattle.edition.specs.declared.Edition.the-variants.{Standard}
 use Rattle.edition.specs.declared.Framing.{Framing}
@@ -31,6 +37,7 @@ use Rattle.cues.specs.Checks.{compared}
 use Rattle.cues.specs.Refusals.{cueOrder}
 use Rattle.encoder.specs.Outcome.{encodeOrder, stringOrder, Encodes, unframed, framedBy, EncodesString}
 use Rattle.contract.specs.Endings.{Ending, result, refuses, byDecoded, byPortion, byIndexed, byChecked, byCueAt, byEncoded}
+use Rattle.contract.specs.Endings.{byTagged, byUnix}
 use Rattle.contract.specs.Contract.{Contract, answers, reads, writes}
 
 -- how the answer of `pad` ends it
@@ -82,6 +89,11 @@ pub data Call : Contract → Type 1 where
   look : (table : List ℕ) (index : ℕ) → Call (answers Looked (lookAt table index) byLooked (11 ∷ []))
   start-of : (table : List ℕ) (index : ℕ) → Call (answers Started (startedAt table index) byStarted (11 ∷ []))
   text-of : (value : OscType) (packet label : List ℕ) → Call (answers (List ℕ) (textNamed value packet label) (λ r. result) [])
+  -- clock conversion, and shifts and differences of tags, which are never refused: Ticket 7
+  tag-of : (rule : Rule) (seconds : ℤ) (nanos : ℕ) → Call (answers Tagged (tagFor rule seconds nanos) byTagged (26 ∷ 27 ∷ 28 ∷ []))
+  unix-of : (rule : Rule) (tag : ℕ) → Call (answers Unix (unixFor rule tag) byUnix (28 ∷ []))
+  shift : (tag by : ℕ) → Call (answers ℕ (shifted tag by) (λ r. result) [])
+  difference : (tag old : ℕ) → Call (answers ℤ (differenceOf tag old) (λ r. result) [])
 
 -- the contract of a call
 abbrev pub contractOf : {c : Contract} → Call c → Contract

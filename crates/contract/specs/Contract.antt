@@ -6,7 +6,8 @@ use Prim.Native.Nat.{ℕ}
 use Rattle.refusal.specs.Refusal.{numberOf}
 use Rattle.results.specs.Differs.{indexDiffers}
 use Rattle.node.specs.Tags.{among}
-use Rattle.contract.specs.Endings.{Ending, result, waits, refuses, stops, differs}
+use Rattle.clock.specs.Clock.{clockNumber}
+use Rattle.contract.specs.Endings.{Ending, result, waits, refuses, stops, differs, outside}
 
 -- a public call, with what it is handed: what it answers, is lent and promises, and the refusals that are listed for it
 pub record Contract : Type 1 where
@@ -62,21 +63,24 @@ writes A out Meets ending numbers = reads A out Meets ending numbers false []
 
 -- ---- demand 1
 
--- an ending that is listed for a call: a result; Waiting where it may wait; one of its numbers, 25 too; or a frame's where it may stop
+-- an ending that is listed for a call: a result; Waiting where it may wait; one of its numbers, also 25 to 28; or a frame's where it may
+-- stop
 abbrev pub Listed : Contract → Ending → Type 0
 Listed c result = Unit {0}
 Listed c waits = c .mayWait ≡ true
 Listed c (refuses r) = among (numberOf r) (c .numbers) ≡ true
 Listed c (stops r) = among (numberOf r) (c .mayStop) ≡ true
 Listed c (differs first) = among indexDiffers (c .numbers) ≡ true
+Listed c (outside r) = among (clockNumber r) (c .numbers) ≡ true
 
--- an ending without packets or bytes: Waiting, or a refusal, 25 too
+-- an ending without a result: Waiting, or a refusal, also 25 to 28
 abbrev pub Fruitless : Ending → Type 0
 Fruitless result = ⊥
 Fruitless waits = Unit {0}
 Fruitless (refuses r) = Unit {0}
 Fruitless (stops r) = ⊥
 Fruitless (differs first) = Unit {0}
+Fruitless (outside r) = Unit {0}
 
 -- the documents list this answer for the call
 abbrev pub Lists : (c : Contract) → c .Answer → Type 0

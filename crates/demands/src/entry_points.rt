@@ -1,6 +1,7 @@
 // Each public call once more, with what demand 1's theorems speak of as its contract: `Meets` (crates/calls/specs/Calls.antt). So the
 // theorems are about the calls and not about a copy of their contracts: where a call's own contract no longer gives `Meets`, the function
 // over it is refused.
+use clock::Rule;
 use edition::Edition;
 use values::value::OscType;
 ghost use Rattle.edition.specs.declared.Framing.the-variants.{Udp, Tcp, TcpVec};
@@ -96,4 +97,28 @@ fn text_of<'a>(value: OscType, packet: &'a [u8], label: &'a [u8]) -> &'a [u8]
     ensures { λ r. ⌜ Meets (call.text-of value (now (packet .entry)) (now (label .entry))) (now r) tt ⌝ }
 {
     values::look::text_of(value, packet, label)
+}
+
+fn tag_of(rule: Rule, seconds: i64, nanos: u64) -> clock::Tagged
+    ensures { λ r. ⌜ Meets (call.tag-of rule seconds nanos) r tt ⌝ }
+{
+    clock::tag_of(rule, seconds, nanos)
+}
+
+fn unix_of(rule: Rule, tag: u64) -> clock::Unix
+    ensures { λ r. ⌜ Meets (call.unix-of rule tag) r tt ⌝ }
+{
+    clock::unix_of(rule, tag)
+}
+
+fn shift(tag: u64, by: u64) -> u64
+    ensures { λ r. ⌜ Meets (call.shift tag by) r tt ⌝ }
+{
+    clock::shift(tag, by)
+}
+
+fn difference(tag: u64, old: u64) -> i64
+    ensures { λ r. ⌜ Meets (call.difference tag old) r tt ⌝ }
+{
+    clock::difference(tag, old)
 }

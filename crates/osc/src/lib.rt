@@ -1,8 +1,10 @@
 // The C boundary: the public calls, each with its answer as one number of 64 bits. include/osc.h declares them for C and C++.
+use clock::Rule;
 use edition::Edition;
 use edition::Framing;
 use node::record;
 use refusal::Refusal;
+use told::times;
 use values::look::Looked;
 use values::look::Started;
 use wire::Padded;
@@ -13,7 +15,11 @@ ghost use Rattle.wire.specs.Pad.{padOf};
 ghost use Rattle.values.specs.Look.{lookAt, startedAt};
 ghost use Rattle.encoder.specs.Outcome.{unframed, prefixed, framedBy};
 ghost use Rattle.cues.specs.Cues.{cueIn};
+ghost use Rattle.clock.specs.Clock.{tagFor, unixFor};
+ghost use Rattle.clock.specs.Shift.{shifted, differenceOf};
+ghost use Rattle.clock.specs.declared.Rule.the-variants as rule;
 ghost use Rattle.told.specs.Told.{answerOf};
+ghost use Rattle.told.specs.Times.{taggedNumber, taggedBeside, unixNumber, unixBeside};
 ghost use Rattle.told.specs.Answers.{paddedNumber, lookedTold, startedTold, cueToldAs, cueTold, cueBeside};
 ghost use Rattle.version.specs.Version.{versionNumber};
 ghost use Rattle.apart.specs.Boundary.{osc-decode, osc-read-portion, osc-index-step, osc-encode, osc-encode-string, CMeets, checkNumber};
@@ -256,4 +262,64 @@ pub extern "C" fn osc_version() -> u64
     ensures { λ r. ⌜ r ≡ versionNumber ⌝ }
 {
     version::number()
+}
+
+// `tag_of` by rule A: 0, and the tag in `tag`; or the refusal's number in bits 56 to 63, and the tag 0.
+//
+// Ruled out: a refusal that leaves `tag` as it was; the tag of a second that rule B alone allows.
+#[no_mangle]
+pub extern "C" fn osc_tag_a(seconds: i64, nanos: u64, tag: &mut u64) -> u64
+    ensures { λ r. ⌜ (r ≡ taggedNumber (tagFor rule.A seconds nanos)) × (now (tag .exit) ≡ taggedBeside (tagFor rule.A seconds nanos)) ⌝ }
+{
+    times::tagged(clock::tag_of(Rule::A, seconds, nanos), tag)
+}
+
+// `tag_of` by rule B, told in the same way.
+//
+// Ruled out: 27 for the first second after the wrap of 2036; nanoseconds cut to 32 bits, so that 2^32 passes for 0.
+#[no_mangle]
+pub extern "C" fn osc_tag_b(seconds: i64, nanos: u64, tag: &mut u64) -> u64
+    ensures { λ r. ⌜ (r ≡ taggedNumber (tagFor rule.B seconds nanos)) × (now (tag .exit) ≡ taggedBeside (tagFor rule.B seconds nanos)) ⌝ }
+{
+    times::tagged(clock::tag_of(Rule::B, seconds, nanos), tag)
+}
+
+// `unix_of` by rule A: the nanoseconds in bits 0 to 31, and the seconds in `seconds`; or 28 in bits 56 to 63, and 0 seconds.
+//
+// Ruled out: 28 told as 28 nanoseconds; seconds left where 28 is told.
+#[no_mangle]
+pub extern "C" fn osc_unix_a(tag: u64, seconds: &mut i64) -> u64
+    ensures { λ r. ⌜ (r ≡ unixNumber (unixFor rule.A tag)) × (now (seconds .exit) ≡ unixBeside (unixFor rule.A tag)) ⌝ }
+{
+    times::unix(clock::unix_of(Rule::A, tag), seconds)
+}
+
+// `unix_of` by rule B, told in the same way.
+//
+// Ruled out: 28 for the tag 0, which is in 2036; a time of 2036 for a tag with its top bit set.
+#[no_mangle]
+pub extern "C" fn osc_unix_b(tag: u64, seconds: &mut i64) -> u64
+    ensures { λ r. ⌜ (r ≡ unixNumber (unixFor rule.B tag)) × (now (seconds .exit) ≡ unixBeside (unixFor rule.B tag)) ⌝ }
+{
+    times::unix(clock::unix_of(Rule::B, tag), seconds)
+}
+
+// `shift`: the tag moved on, modulo 2^64.
+//
+// Ruled out: the highest tag where the sum would pass it; the amount cut to 32 bits.
+#[no_mangle]
+pub extern "C" fn osc_shift(tag: u64, by: u64) -> u64
+    ensures { λ r. ⌜ r ≡ shifted tag by ⌝ }
+{
+    clock::shift(tag, by)
+}
+
+// `difference`: of a tag from an old one, around the wrap, as a signed number.
+//
+// Ruled out: the highest number for tags 2^63 apart; the difference of the old tag from the new one.
+#[no_mangle]
+pub extern "C" fn osc_difference(tag: u64, old: u64) -> i64
+    ensures { λ r. ⌜ r ≡ differenceOf tag old ⌝ }
+{
+    clock::difference(tag, old)
 }

@@ -1,6 +1,6 @@
 -- The theorem of each row of specs/Tickets.antt.
 use mathlib.Core.Path.{refl, sym, subst, ap, _∙_}
-use Rattle.theorems.specs.Tickets.{Ticket1, Ticket2, Ticket4, Ticket5, Ticket6, Ticket8, Ticket10, Ticket14}
+use Rattle.theorems.specs.Tickets.{Ticket1, Ticket2, Ticket4, Ticket5, Ticket6, Ticket7, Ticket8, Ticket10, Ticket14}
 
 pub ticket1 : Ticket1
 ticket1 =
@@ -69,6 +69,31 @@ ticket5 =
 
 pub ticket6 : Ticket6
 ticket6 = record { run-passes = Rattle.utf8.proofs.Plain.run-passes; same-promise = Rattle.utf8.proofs.Only.is-utf8-only }
+
+pub ticket7 : Ticket7
+ticket7 =
+    record {
+      fraction-nearest = Rattle.clock.proofs.Nearest.fraction-nearest;
+      nanos-nearest = Rattle.clock.proofs.Nearest.nanos-nearest;
+      returns-unchanged = Rattle.clock.proofs.Returns.returns-unchanged;
+      moved-little = Rattle.clock.proofs.Moved.moved-at-most-two;
+      two-reached = Rattle.clock.proofs.Moved.two-reached;
+      no-carry = Rattle.clock.proofs.Nearest.no-carry;
+      carries = Rattle.clock.proofs.Moved.carries;
+      stays = Rattle.clock.proofs.Moved.stays;
+      carries-past = Rattle.clock.proofs.Moved.carries-past;
+      tag-domains = Rattle.clock.proofs.Domains.tag-domains;
+      unix-domains = Rattle.clock.proofs.Domains.unix-domains;
+      never-late = Rattle.clock.proofs.Domains.never-27;
+      times-normal = Rattle.clock.proofs.Domains.times-normal;
+      clock-number-tells = Rattle.clock.proofs.Only.number-tells;
+      tags-agree = Rattle.clock.proofs.Agree.tags-agree;
+      times-agree = Rattle.clock.proofs.Agree.times-agree;
+      order-kept = Rattle.clock.proofs.Order.order-kept;
+      later-higher = Rattle.clock.proofs.Order.later-higher;
+      difference-shifts = Rattle.clock.proofs.Shifts.difference-shifts;
+      opposite-lowest = Rattle.clock.proofs.Shifts.opposite-lowest;
+    }
 
 pub ticket8 : Ticket8
 ticket8 =

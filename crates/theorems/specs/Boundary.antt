@@ -1,12 +1,13 @@
--- The C boundary: what the seventeen functions of include/osc.h answer in numbers.
+-- The C boundary: what the functions of include/osc.h answer in numbers.
 use Rattle.told.specs.Told.{Unpacks, KindsApart}
 use Rattle.apart.specs.Boundary.{CSettled, EndsListed, ToldApart, StopsApart, EndsApart, IndexEndsApart, DiffersApart}
 use Rattle.apart.specs.ReadBack.{DecodedApart, PortionApart, EncodedApart, StringApart, ToldOnce, ToldAlone, NoneWaits, RefusalTold}
 use Rattle.apart.specs.ReadBack.{StepTold, StepOnce, IndexTold, IndexOnce, CueTold, EncodedOnce, PadOnce}
+use Rattle.apart.specs.ReadBack.{TagTold, UnixTold, DifferenceTold}
 
 -- The C boundary
 pub record CBoundary : Type 1 where
-  -- Demand 1: each of the seventeen functions ends in an answer; or in a refusal that is listed for it and leaves every lent byte; or it
+  -- Demand 1: each function ends in an answer; or in a refusal that is listed for it and leaves every lent byte; or it
   -- stops at a refused frame that is listed; or, for an index that differs, at a record. These four can be told apart.
   -- definitions: apart/CCall, apart/CMeets
   -- edits: apart/positions_are_even, osc/refused_record_told_as_0, osc/start_refused_by_0
@@ -44,6 +45,13 @@ pub record CBoundary : Type 1 where
   pub index-told : IndexTold
   pub index-once : IndexOnce
   pub cue-told : CueTold
+  -- Of a clock conversion the tag, or the seconds and nanoseconds, are read back from the number and what is written through the pointer,
+  -- and so is the refusal, beside which 0 is written; of a difference, its 64 bits read as signed (Ticket 7).
+  -- definitions: apart/TagBack, apart/UnixBack
+  -- edits: told/tag_beside_a_refusal, told/seconds_beside_a_refusal, told/refused_time_in_the_low_bits
+  pub tag-told : TagTold
+  pub unix-told : UnixTold
+  pub difference-told : DifferenceTold
   -- The parts of an answer's number are what was answered. The number of an encoder and of `osc_pad` stands for one answer.
   -- edits: told/count_with_the_refusal, told/count_in_the_low_bits, told/refusal_in_the_low_bits, told/half_of_the_bytes_told
   pub decoded-apart : DecodedApart

@@ -11,6 +11,13 @@ use Rattle.refusal.specs.declared.Refusal.{Refusal}
 use Rattle.wire.specs.Limits.{longest, deepest}
 use Rattle.utf8.specs.Utf8.{Octets, Decides}
 use Rattle.utf8.specs.Automaton.{RunPasses}
+use Rattle.clock.specs.Nearest.{FractionNearest, NanosNearest}
+use Rattle.clock.specs.Clock.{clockNumber}
+use Rattle.clock.specs.Shift.{OppositeLowest, DifferenceShifts}
+use Rattle.clock.specs.Promises.{ReturnsUnchanged, MovedLittle, TwoReached, NoCarry, Carries, Stays, CarriesPast, TagDomains, UnixDomains}
+use Rattle.clock.specs.Promises.{NeverLate, TimesNormal, TagsAgree, TimesAgree, OrderKept, LaterHigher}
+use Rattle.clock.specs.declared.Rule.{Rule}
+use Rattle.clock.specs.declared.OutOfRange.{OutOfRange}
 use Rattle.node.specs.Forest.{Forest, nil, node}
 use Rattle.node.specs.Tags.{among}
 use Rattle.node.specs.declared.record.Item.{Item}
@@ -205,6 +212,62 @@ pub record Ticket6 : Type 0 where
   -- code: utf8/is_utf8
   -- edits: utf8/cut_accepted, utf8/passed_while_open
   pub same-promise : (s : List ℕ) (a b : Bool) → Decides a (Octets s) → Decides b (Octets s) → a ≡ b
+
+-- Ticket 7: Clock conversion, and the year 2036
+pub record Ticket7 : Type 0 where
+  -- Nanoseconds become the nearest of the 2^32 fractions of a second, and a fraction the nearest of 0 to 10^9 nanoseconds. None is nearer,
+  -- of two that are equally near the upper is taken, and no other number is meant by that; nor where the range goes on. No nanoseconds lie
+  -- halfway between two fractions, so that halves go up on the way back alone.
+  -- laws: clock/no-half
+  -- definitions: clock/Nearest, clock/fractionOf, clock/nanosOf
+  -- edits: clock/halves_down, clock/half_goes_down
+  pub fraction-nearest : FractionNearest
+  pub nanos-nearest : NanosNearest
+  -- Every time that has a tag comes back from it unchanged: by both rules, for every second that is allowed and every nanosecond value.
+  -- code: clock/there_and_back
+  -- edits: clock/wrap_one_second_late
+  pub returns-unchanged : ReturnsUnchanged
+  -- A tag that goes to Unix time and back is moved by at most 2 fractions, around the wrap, and 2 are reached on both sides. The rule's two
+  -- last tags alone do not come back: their time is carried past the last second, which is 27 on the way back.
+  -- definitions: clock/Again
+  -- edits: clock/moved_by_one
+  pub moved-little : MovedLittle
+  pub two-reached : (rule : Rule) → TwoReached rule
+  -- A fraction that rounds to a full second carries. On the way to a tag none does; on the way to Unix time exactly the two highest do, also
+  -- past the rule's last second.
+  -- edits: clock/carry_lost
+  pub no-carry : NoCarry
+  pub carries : Carries
+  pub stays : Stays
+  pub carries-past : CarriesPast
+  -- `tag_of` refuses nanoseconds of 10^9 or more with 26, then seconds after the rule's last (2,085,978,495 and 4,233,462,143) with 27, then
+  -- seconds before 1970 with 28, and gives a tag otherwise. `unix_of` refuses with 28 exactly the tags that stay before 1970 after the
+  -- carry, and never with 27 or 26; a time that it gives is of 1970 or later, with fewer than 10^9 nanoseconds. Each number is one refusal.
+  -- definitions: clock/TagCase, clock/Before1970, clock/tagFor, clock/unixFor
+  -- code: clock/tag_of, clock/unix_of
+  -- edits: clock/late_before_nanoseconds, clock/carry_does_not_reach_1970, clock/refused_before_the_carry, clock/last_second_too_late
+  pub tag-domains : TagDomains
+  pub unix-domains : UnixDomains
+  pub never-late : NeverLate
+  pub times-normal : TimesNormal
+  pub clock-number-tells : (r s : OutOfRange) → clockNumber r ≡ clockNumber s → r ≡ s
+  -- The rules agree where both speak: a tag or a time that rule A gives, rule B gives too.
+  -- edits: clock/rule_b_taken_for_a
+  pub tags-agree : TagsAgree
+  pub times-agree : TimesAgree
+  -- Order is kept within an era, which by rule B is that of the tag's top bit: a higher tag never has an earlier time, and a later time has
+  -- a higher tag.
+  -- definitions: clock/eraOf
+  -- edits: clock/order_across_the_wrap
+  pub order-kept : OrderKept
+  pub later-higher : LaterHigher
+  -- A tag is shifted modulo 2^64, and a difference is taken around the wrap as a signed number: it is what the old tag is to be shifted by
+  -- to give the new one. Tags exactly 2^63 apart give the lowest number.
+  -- definitions: clock/shifted, clock/differenceOf
+  -- code: clock/shift, clock/difference
+  -- edits: clock/opposite_is_the_highest, clock/difference_turned_round, clock/shift_turned_round
+  pub difference-shifts : DifferenceShifts
+  pub opposite-lowest : OppositeLowest
 
 -- Ticket 8: Dirty padding is to be seen
 pub record Ticket8 : Type 0 where

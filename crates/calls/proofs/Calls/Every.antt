@@ -8,6 +8,7 @@ use Rattle.calls.proofs.Calls.Decoders.{decode-demand, portion-demand}
 use Rattle.calls.proofs.Calls.Cues.{index-demand, compare-demand, cue-demand}
 use Rattle.calls.proofs.Calls.Encoders.{encoder-demand, string-demand}
 use Rattle.calls.proofs.Calls.Lookups.{pad-demand, look-listed, start-listed}
+use Rattle.calls.proofs.Calls.Clock.{tag-listed, unix-listed}
 
 pub every-call : Every Demand1
 every-call c (call.decode framing msg table depth) = decode-demand framing msg table depth
@@ -22,6 +23,10 @@ every-call c (call.pad pos) = pad-demand pos
 every-call c (call.look table index) = answers-demand (look-listed table index)
 every-call c (call.start-of table index) = answers-demand (start-listed table index)
 every-call c (call.text-of value packet label) = answers-demand tt
+every-call c (call.tag-of rule seconds nanos) = answers-demand (tag-listed rule seconds nanos)
+every-call c (call.unix-of rule tag) = answers-demand (unix-listed rule tag)
+every-call c (call.shift tag by) = answers-demand tt
+every-call c (call.difference tag old) = answers-demand tt
 
 -- no two endings of a call meet its contract
 pub settled : Every Settled

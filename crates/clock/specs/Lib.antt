@@ -1,0 +1,5 @@
+pub mod Nearest
+pub mod Clock
+pub mod CodeStart
+pub mod Shift
+pub mod Promises
