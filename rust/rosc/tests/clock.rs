@@ -8,7 +8,7 @@ use std::time::{Duration, SystemTime, UNIX_EPOCH};
 
 /// types.rs, `OscTime`.
 #[test]
-#[cfg_attr(rustfmt, rustfmt_skip)]
+#[rustfmt::skip]
 fn osc_time() {
     assert_eq!(
         OscTime::try_from(UNIX_EPOCH).unwrap(),

@@ -48,15 +48,12 @@ pub enum Rule {
 ///
 /// ```
 /// use sennorbai::{Refusal, Rule, Time};
-/// use std::time::{Duration, SystemTime, UNIX_EPOCH};
 ///
-/// let cue = UNIX_EPOCH + Duration::new(1_700_000_000, 500_355_614);
-/// let tag = Time::from_system_time(Rule::B, cue)?;
+/// let tag = Time::from_unix(Rule::B, 1_700_000_000, 500_355_614)?;
 /// assert_eq!(tag, Time { seconds: 3_908_988_800, fractional: 2_149_010_998 });
-/// assert_eq!(tag.to_system_time(Rule::B)?, cue);
+/// assert_eq!(tag.to_unix(Rule::B), Ok((1_700_000_000, 500_355_614)));
 ///
-/// let before = UNIX_EPOCH - Duration::from_nanos(1);
-/// assert_eq!(Time::from_system_time(Rule::B, before), Err(Refusal::TooEarly));
+/// assert_eq!(Time::from_unix(Rule::B, -1, 999_999_999), Err(Refusal::TooEarly));
 /// assert_eq!(Refusal::TooEarly.to_string(), "28: before 1970");
 /// # Ok::<(), Refusal>(())
 /// ```
@@ -88,6 +85,16 @@ impl Time {
     }
 
     /// The tag of the time so long after the beginning of 1970. Refused where that is later than the rule allows (27).
+    ///
+    /// ```
+    /// use core::time::Duration;
+    /// use sennorbai::{Refusal, Rule, Time};
+    ///
+    /// let since_1970 = Duration::new(4_233_462_143, 999_999_999);
+    /// assert_eq!(Time::from_duration(Rule::B, since_1970)?.to_duration(Rule::B), Ok(since_1970));
+    /// assert_eq!(Time::from_duration(Rule::A, since_1970), Err(Refusal::TooLate));
+    /// # Ok::<(), Refusal>(())
+    /// ```
     pub fn from_duration(rule: Rule, since_1970: Duration) -> Result<Time, Refusal> {
         Time::from_unix(rule, signed(since_1970.as_secs()), since_1970.subsec_nanos().into())
     }
@@ -100,6 +107,17 @@ impl Time {
     }
 
     /// The tag of a time of the system's clock. Refused where it is later than the rule allows (27) or before 1970 (28).
+    ///
+    /// ```
+    /// use sennorbai::{Refusal, Rule, Time};
+    /// use std::time::{Duration, UNIX_EPOCH};
+    ///
+    /// let cue = UNIX_EPOCH + Duration::new(1_700_000_000, 1);
+    /// assert_eq!(Time::from_system_time(Rule::B, cue)?.to_system_time(Rule::B), Ok(cue));
+    /// let before = UNIX_EPOCH - Duration::from_nanos(1);
+    /// assert_eq!(Time::from_system_time(Rule::B, before), Err(Refusal::TooEarly));
+    /// # Ok::<(), Refusal>(())
+    /// ```
     #[cfg(feature = "std")]
     pub fn from_system_time(rule: Rule, time: SystemTime) -> Result<Time, Refusal> {
         let before = match time.duration_since(UNIX_EPOCH) {
