@@ -152,8 +152,12 @@ fn around(edges: &[u64]) -> impl Iterator<Item = u64> + '_ {
     edges.iter().flat_map(|edge| (-AROUND..=AROUND).map(move |off| edge.wrapping_add_signed(off)))
 }
 
+fn off(r: &mut Random) -> i64 {
+    r.below(2 * AROUND as usize + 1) as i64 - AROUND
+}
+
 fn near(r: &mut Random, edges: &[u64]) -> u64 {
-    r.pick(edges).wrapping_add_signed(r.below(2 * AROUND as usize + 1) as i64 - AROUND)
+    r.pick(edges).wrapping_add_signed(off(r))
 }
 
 /// A random time; now and then the first or the last that a rule allows, or the one before 1970.
@@ -170,7 +174,7 @@ fn seconds(r: &mut Random) -> i64 {
     match r.below(8) {
         0 => r.next() as i64,
         1 => -((r.next() >> 31) as i64),
-        2..=4 => r.pick(SECONDS) + r.below(2 * AROUND as usize + 1) as i64 - AROUND,
+        2..=4 => r.pick(SECONDS) + off(r),
         _ => (r.next() % (By::B.last() as u64 + 1)) as i64,
     }
 }
