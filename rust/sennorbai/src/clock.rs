@@ -20,7 +20,7 @@ const NANOS: u32 = 1_000_000_000;
 /// | | `A` | `B` |
 /// |---|---|---|
 /// | a seconds field below 2^31 | is before 1970 (28) | is after the wrap |
-/// | one from 2^31 to 2,208,988,799 | is before 1970 (28) | is before 1970 (28) |
+/// | one from 2^31 to 2,208,988,799, if no fraction is carried into 1970 | is before 1970 (28) | is before 1970 (28) |
 /// | the last Unix second that has a tag | 2,085,978,495 | 4,233,462,143 |
 /// | which is | 7 February 2036, 06:28:15 UTC | 26 February 2104, 09:42:23 UTC |
 ///
@@ -43,8 +43,8 @@ pub enum Rule {
 /// # Unix time
 ///
 /// Nanoseconds become the nearest of 2^32 fractions and fractions the nearest nanosecond, halves up, in whole numbers. Every nanosecond
-/// comes back unchanged. A tag comes back at most 2 fractions off, since there are more fractions than nanoseconds. In conversions
-/// [`IMMEDIATELY`](Time::IMMEDIATELY) is a number like any other.
+/// comes back unchanged. A tag comes back at most 2 fractions off, since there are more fractions than nanoseconds; one that is carried past
+/// the rule's last second is too late to come back. In conversions [`IMMEDIATELY`](Time::IMMEDIATELY) is a number like any other.
 ///
 /// ```
 /// use sennorbai::{Refusal, Rule, Time};
