@@ -43,8 +43,8 @@ pub enum Rule {
 /// # Unix time
 ///
 /// Nanoseconds become the nearest of 2^32 fractions and fractions the nearest nanosecond, halves up, in whole numbers. Every nanosecond
-/// comes back unchanged. A tag comes back at most 2 fractions off, since there are more fractions than nanoseconds; one that is carried past
-/// the rule's last second is too late to come back. In conversions [`IMMEDIATELY`](Time::IMMEDIATELY) is a number like any other.
+/// comes back unchanged. A tag comes back at most 2 fractions off, since there are more fractions than nanoseconds; one that is carried
+/// past the rule's last second is too late to come back. In conversions [`IMMEDIATELY`](Time::IMMEDIATELY) is a number like any other.
 ///
 /// ```
 /// use sennorbai::{Refusal, Rule, Time};
