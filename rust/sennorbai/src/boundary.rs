@@ -19,6 +19,9 @@
 //! the next record, or that of the first that differs with 25 in bits 56 to 63. A cue has its records in bits 32 to 55 and its length in
 //! bits 0 to 31, and its offset beside it.
 //!
+//! A time tag is one number here, with its seconds in bits 32 to 63 and its fractions in bits 0 to 31. What a conversion writes beside its
+//! answer it writes in every case, and 0 where it is refused.
+//!
 //! The functions of the crate's root take these answers apart and are what a program should call.
 #![allow(unsafe_code)]
 
@@ -122,6 +125,12 @@ mod c {
         pub fn osc_pad(pos: u64) -> u64;
         pub fn osc_look(table: *const u8, table_len: usize, index: u64) -> u64;
         pub fn osc_start(table: *const u8, table_len: usize, index: u64) -> u64;
+        pub fn osc_tag_a(seconds: i64, nanos: u64, tag: *mut u64) -> u64;
+        pub fn osc_tag_b(seconds: i64, nanos: u64, tag: *mut u64) -> u64;
+        pub fn osc_unix_a(tag: u64, seconds: *mut i64) -> u64;
+        pub fn osc_unix_b(tag: u64, seconds: *mut i64) -> u64;
+        pub fn osc_shift(tag: u64, by: u64) -> u64;
+        pub fn osc_difference(tag: u64, old: u64) -> i64;
         pub fn osc_version() -> u64;
     }
 }
@@ -227,6 +236,42 @@ pub fn look(table: &[u8], index: u64) -> u64 {
 pub fn start(table: &[u8], index: u64) -> u64 {
     // SAFETY: `table` is read within its length.
     unsafe { c::osc_start(table.as_ptr(), table.len(), index) }
+}
+
+/// `osc_tag_a`: the time tag of a Unix time by rule A, as one number, in `tag`; bits 56 to 63 of the answer are the refusal's number.
+pub fn tag_a(seconds: i64, nanos: u64, tag: &mut u64) -> u64 {
+    // SAFETY: `tag` is one number, lent alone.
+    unsafe { c::osc_tag_a(seconds, nanos, tag) }
+}
+
+/// `osc_tag_b`: the same by rule B.
+pub fn tag_b(seconds: i64, nanos: u64, tag: &mut u64) -> u64 {
+    // SAFETY: `tag` is one number, lent alone.
+    unsafe { c::osc_tag_b(seconds, nanos, tag) }
+}
+
+/// `osc_unix_a`: the Unix time of a time tag by rule A: its nanoseconds in bits 0 to 31, or the refusal's number in bits 56 to 63.
+pub fn unix_a(tag: u64, seconds: &mut i64) -> u64 {
+    // SAFETY: `seconds` is one number, lent alone.
+    unsafe { c::osc_unix_a(tag, seconds) }
+}
+
+/// `osc_unix_b`: the same by rule B.
+pub fn unix_b(tag: u64, seconds: &mut i64) -> u64 {
+    // SAFETY: `seconds` is one number, lent alone.
+    unsafe { c::osc_unix_b(tag, seconds) }
+}
+
+/// `osc_shift`: a time tag moved on by so many fractions, modulo 2^64.
+pub fn shift(tag: u64, by: u64) -> u64 {
+    // SAFETY: no pointer is given, and every number has an answer.
+    unsafe { c::osc_shift(tag, by) }
+}
+
+/// `osc_difference`: how many fractions a time tag is after an old one, around the wrap.
+pub fn difference(tag: u64, old: u64) -> i64 {
+    // SAFETY: no pointer is given, and every number has an answer.
+    unsafe { c::osc_difference(tag, old) }
 }
 
 /// `osc_version`: the major in bits 32 to 47, the minor in bits 16 to 31 and the patch in bits 0 to 15.

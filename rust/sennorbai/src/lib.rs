@@ -11,6 +11,7 @@
 //!   or the program itself is one over rosc.
 //! - [`StreamReader`] reads a TCP stream that comes in portions, cut anywhere: it gives the packets of the whole frames, and keeps the
 //!   rest until more has come.
+//! - [`Time`] is a time tag. It is converted from and to Unix time by a named [`Rule`], without floats, and shifted around its wrap.
 //! - [`Builder`] makes a [`Table`] from values. [`Table::check`] reads a table from anywhere.
 //! - [`encode`], [`encode_tcp`] and [`encode_string`] write.
 //! - `index` (feature `std`, which is on by default) writes and checks a cue index of a recording, and looks cues up in one that was
@@ -45,6 +46,7 @@
 
 pub mod boundary;
 mod builder;
+mod clock;
 mod decode;
 mod edition;
 mod encode;
@@ -60,6 +62,7 @@ mod value;
 mod version;
 
 pub use builder::{BuildError, Builder};
+pub use clock::Rule;
 pub use decode::{decode_tcp, decode_tcp_vec, decode_udp, Decoded, DecodedList};
 pub use edition::Edition;
 pub use encode::{encode, encode_string, encode_tcp, pad};
@@ -75,7 +78,7 @@ pub use version::{version, Version};
 /// ```compile_fail,E0005
 /// use sennorbai::Refusal::*;
 /// let (TooLong | Empty | NotUtf8 | BadStart | NotOpen | UnknownTag | NotScalar | TooDeep | TableFull | BadTable | OutputShort
-///     | DepthLimit | PadOverflow | BytesLeft | OddLength | Short { .. }) = Empty;
+///     | DepthLimit | PadOverflow | BytesLeft | OddLength | Short { .. } | Nanoseconds | TooLate | TooEarly) = Empty;
 /// ```
 /// ```compile_fail,E0005
 /// use sennorbai::Field::*;

@@ -60,6 +60,12 @@ pub enum Refusal {
         /// Where it began, counted from the first byte of the call's input.
         at: u32,
     },
+    /// Nanoseconds of 10^9 or more, of a time that is converted into a tag.
+    Nanoseconds,
+    /// A time later than the rule allows by which it is converted into a tag.
+    TooLate,
+    /// A time or a tag before 1970, also after a fraction has been carried into the next second.
+    TooEarly,
 }
 
 /// What was short, of a [`Refusal::Short`].
@@ -104,7 +110,7 @@ impl Field {
 
 impl Refusal {
     /// Every refusal, in the order of the numbers; of a field that was short, the one that began at byte 0.
-    pub const ALL: [Refusal; 20] = [
+    pub const ALL: [Refusal; 23] = [
         Refusal::TooLong,
         Refusal::Empty,
         Refusal::NotUtf8,
@@ -125,9 +131,12 @@ impl Refusal {
         Refusal::Short { field: Field::Data, at: 0 },
         Refusal::Short { field: Field::Padding, at: 0 },
         Refusal::Short { field: Field::Head, at: 0 },
+        Refusal::Nanoseconds,
+        Refusal::TooLate,
+        Refusal::TooEarly,
     ];
 
-    /// Its number: 1, 2 and 4 to 14 are document 01's, 15 and 16 Ticket 1's, and 17 to 21 Ticket 2's.
+    /// Its number: 1, 2 and 4 to 14 are document 01's, 15 and 16 Ticket 1's, 17 to 21 Ticket 2's, and 26 to 28 Ticket 7's.
     pub const fn number(self) -> u8 {
         match self {
             Refusal::TooLong => 1,
@@ -146,6 +155,9 @@ impl Refusal {
             Refusal::BytesLeft => 15,
             Refusal::OddLength => 16,
             Refusal::Short { field, .. } => field.number(),
+            Refusal::Nanoseconds => 26,
+            Refusal::TooLate => 27,
+            Refusal::TooEarly => 28,
         }
     }
 
@@ -178,6 +190,9 @@ impl Refusal {
             Refusal::BytesLeft => "bytes left in the frame",
             Refusal::OddLength => "frame length not a multiple of 4",
             Refusal::Short { field, .. } => field.words(),
+            Refusal::Nanoseconds => "nanoseconds of 10^9 or more",
+            Refusal::TooLate => "later than the rule allows",
+            Refusal::TooEarly => "before 1970",
         }
     }
 

@@ -257,14 +257,15 @@ fn values_of_every_kind() {
 
 #[test]
 fn refusals_print_number_and_words() {
-    let numbers = [1, 2, 4, 5, 6, 7, 8, 9, 10, 11, 12, 13, 14, 15, 16, 17, 18, 19, 20, 21];
+    let numbers = [1, 2, 4, 5, 6, 7, 8, 9, 10, 11, 12, 13, 14, 15, 16, 17, 18, 19, 20, 21, 26, 27, 28];
     assert_eq!(Refusal::ALL.map(Refusal::number), numbers);
     assert!(Refusal::ALL.is_sorted());
     for refusal in Refusal::ALL {
         let (number, words) = (refusal.number(), refusal.words());
-        let short = if number > 16 { " at offset 0 is not all there" } else { "" };
+        let is_short = matches!(refusal, Refusal::Short { .. });
+        let short = if is_short { " at offset 0 is not all there" } else { "" };
         assert_eq!(refusal.to_string(), format!("{number}: {words}{short}"));
-        assert_eq!(refusal.offset(), if number > 16 { Some(0) } else { None });
+        assert_eq!((refusal.offset(), is_short), (is_short.then_some(0), (17..=21).contains(&number)));
         let error: &dyn std::error::Error = &refusal;
         assert!(error.source().is_none());
     }

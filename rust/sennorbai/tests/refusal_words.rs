@@ -42,6 +42,7 @@ fn the_words_are_those_of_the_program() {
     let differs = Error::Differs { record: 7 };
     assert_eq!(format!("refused {differs}"), filled(table[INDEX_DIFFERS as usize], &[INDEX_DIFFERS as u64, 7]));
     numbers.push(INDEX_DIFFERS);
+    numbers.sort();
 
     // No refusal of the program's is left out.
     let listed: Vec<u8> = (0..table.len()).filter(|&i| !table[i].is_empty()).map(|i| i as u8).collect();

@@ -24,8 +24,8 @@ pub enum Call {
     Cue = 15,
 }
 
-// Each call has a name in the counts.
-const _: () = assert!(Call::Cue as usize + 1 == CALLS.len());
+// Each call has a name in the counts. After these come the six of the clock, which lend no slice: times.rs has them.
+const _: () = assert!(Call::Cue as usize + 1 + 6 == CALLS.len());
 
 /// The decoders that the crate has too.
 pub const DECODERS: [Call; 3] = [Call::Udp, Call::Tcp, Call::TcpVec];

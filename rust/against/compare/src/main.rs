@@ -2,7 +2,7 @@
 //! left, bytes written and bytes not written. Which field was short, where it began and how many bytes of padding are not zero is
 //! judged by a reader of its own; the padding is counted over rosc's packets too. Edition 2 of TCP framing, which rosc does not have, is
 //! judged by a model of its own that hands rosc each frame alone; streams in portions by what that model makes of the whole stream, and a
-//! cue index by what it makes of the recording's frames.
+//! cue index by what it makes of the recording's frames. The clock is judged by a model in whole numbers, and so are rosc's floats.
 //!
 //!     cargo run --release --offline -p compare -- --cases N --seed S
 //!
@@ -12,13 +12,19 @@
 //!     cargo run --release --offline -p compare -- record
 //!
 //! writes the sample of the oracle's answers that the gate replays.
+//!
+//!     cargo run --release --offline -p compare -- clock
+//!
+//! goes through every nanosecond and every fraction of a second, for which the crate uses floats.
 
 mod ask;
 mod cases;
+mod clock;
 mod compat;
 mod cues;
 mod edges;
 mod fields;
+mod floats;
 mod inputs;
 mod judge;
 mod met;
@@ -39,6 +45,7 @@ mod spoil;
 mod standard;
 mod streams;
 mod table;
+mod times;
 mod walk;
 mod words;
 
@@ -49,6 +56,7 @@ fn main() {
     let done = match words::wanted(&words) {
         Some(Wanted::Compare { cases, seed }) => run::run(cases, seed),
         Some(Wanted::Record { seed }) => run::alone(move || record::record(seed)),
+        Some(Wanted::Clock) => Ok(floats::every()),
         None => Err(words::USAGE.to_string()),
     };
     match done {

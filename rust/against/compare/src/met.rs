@@ -278,6 +278,34 @@ rules! {
     CueFar 1 "cue: a number whose place would be over 2^64",
     CueMost 1 "cue: 2^24 - 1 records",
     CueOver 1 "cue: 2^24 records",
+    ClockMultiple 1 "clock, to a tag: a multiple of 1,000 nanoseconds",
+    ClockFirst 1 "clock, to a tag: the beginning of 1970",
+    ClockLast 1 "clock, to a tag: the last nanosecond that the rule allows",
+    ClockWrapped 1 "clock, to a tag: rule B, after the wrap of 2036",
+    ClockBelow 1 "clock, to a tag: just below a half, before half a second",
+    ClockFloatHigh 1 "clock, to a tag: just below a half, the crate's float is one too high",
+    ClockAbove 1 "clock, to a tag: just above a half",
+    ClockMost 1 "clock, to a tag: 10^9 nanoseconds",
+    ClockOver32 1 "clock, to a tag: nanoseconds over 32 bits",
+    ClockNanosLate 1 "clock, to a tag: 26 where 27 holds too",
+    ClockNanosEarly 1 "clock, to a tag: 26 where 28 holds too",
+    ClockLate 1 "clock, to a tag: 27 for the first second after the last",
+    ClockEarly 1 "clock, to a tag: 28 for the last nanosecond before 1970",
+    ClockUncarried 1 "clock, from a tag: the highest fraction that does not carry",
+    ClockCarried 1 "clock, from a tag: a fraction that carries",
+    ClockCarriedLast 1 "clock, from a tag: a carry past the rule's last second",
+    ClockCarriedFirst 1 "clock, from a tag: a carry into 1970",
+    ClockCarriedEarly 1 "clock, from a tag: 28 in spite of a carry",
+    ClockHalf 1 "clock, from a tag: halfway between two nanoseconds",
+    ClockTopClear 1 "clock, from a tag: rule B, the highest second with its top bit clear",
+    ClockTopSet 1 "clock, from a tag: rule B, the lowest second with its top bit set",
+    ClockImmediate 1 "clock, from a tag: the immediate tag",
+    ShiftWraps 1 "clock, shift: around the wrap",
+    ShiftNothing 1 "clock, shift: by 0",
+    DifferenceLowest 1 "clock, difference: 2^63 apart",
+    DifferenceHighest 1 "clock, difference: 2^63 - 1",
+    DifferenceAhead 1 "clock, difference: ahead, around the wrap",
+    DifferenceBehind 1 "clock, difference: behind, around the wrap",
     LibloWhole 1 "liblo: as written",
     LibloRead 1 "liblo: as written, all of it read",
     LibloDamaged 1 "liblo: damaged",
@@ -324,7 +352,7 @@ impl Seen {
 pub const KINDS: &[u8] = b"/#sbifhdtcrmTFNI[";
 
 /// The calls by name, in the order of their numbers.
-pub const CALLS: [&str; 16] = [
+pub const CALLS: [&str; 22] = [
     "udp",
     "tcp",
     "tcp_vec",
@@ -341,14 +369,23 @@ pub const CALLS: [&str; 16] = [
     "index_step",
     "index_check_step",
     "cue",
+    "tag_a",
+    "tag_b",
+    "unix_a",
+    "unix_b",
+    "shift",
+    "difference",
 ];
 
 /// How many of the calls `rosc_compat` has: the first.
 const SHARED: usize = 7;
 
 /// Numbers of refusals, 0 for an answer; the crate's 3, and those of Ticket 3, are met by no call of the boundary.
-const REFUSALS: usize = 26;
+const REFUSALS: usize = 29;
 const NONE_GIVES: &[usize] = &[3, 22, 23, 24];
+
+/// The calls that refuse nothing: shift and difference.
+const NEVER_REFUSE: &[usize] = &[20, 21];
 
 /// What the decoders of edition 2 may give, each of which is to be met: those of one frame, and of a list those of the call and of the
 /// frame that ended it. There is no 20: a frame ends at a multiple of 4, so that no padding in it is short.
@@ -360,6 +397,11 @@ const STOPS: &[usize] = &[1, 2, 4, 5, 6, 7, 8, 9, 15, 16, 17, 18, 19, 21];
 const INDEX_STEP: (usize, &[usize]) = (13, &[1, 12]);
 const INDEX_CHECK: (usize, &[usize]) = (14, &[1, 25]);
 const CUE: (usize, &[usize]) = (15, &[11]);
+/// The same of the conversions of the clock.
+const TAG_A: (usize, &[usize]) = (16, &[26, 27, 28]);
+const TAG_B: (usize, &[usize]) = (17, &[26, 27, 28]);
+const UNIX_A: (usize, &[usize]) = (18, &[28]);
+const UNIX_B: (usize, &[usize]) = (19, &[28]);
 const INDEX_STOPS: &[usize] = &[1, 2, 4, 5, 6, 7, 8, 9, 10, 15, 16, 17, 18, 19, 21];
 
 /// How often each call gave each number.
@@ -422,7 +464,9 @@ impl Met {
         }
         for (call, answers) in self.answers.iter().enumerate() {
             lines.push((format!("{}: answered", CALLS[call]), 1, answers[0]));
-            lines.push((format!("{}: refused", CALLS[call]), 1, answers[1..].iter().sum()));
+            if !NEVER_REFUSE.contains(&call) {
+                lines.push((format!("{}: refused", CALLS[call]), 1, answers[1..].iter().sum()));
+            }
         }
         for kind in KINDS {
             lines.push((format!("kind {} decoded", *kind as char), 1, self.decoded[*kind as usize]));
@@ -434,9 +478,9 @@ impl Met {
         lines
     }
 
-    /// The refusals of the decoders of edition 2 and of a cue index, each by itself.
+    /// The refusals of the decoders of edition 2, of a cue index and of the clock, each by itself.
     fn standard_lines(&self) -> Vec<(String, u64, u64)> {
-        let calls = [TCP2, TCP_VEC2, READ_PORTION, INDEX_STEP, INDEX_CHECK, CUE];
+        let calls = [TCP2, TCP_VEC2, READ_PORTION, INDEX_STEP, INDEX_CHECK, CUE, TAG_A, TAG_B, UNIX_A, UNIX_B];
         let refused = calls.into_iter().flat_map(|(call, numbers)| {
             // An input that is too long is rare among the steps.
             let seldom = move |number: usize| if (call, number) == (READ_PORTION.0, 1) { 10 } else { 1 };

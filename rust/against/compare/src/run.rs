@@ -7,6 +7,7 @@ use crate::peers::Peers;
 use crate::port::Bench;
 use crate::random::Random;
 use crate::short;
+use crate::times;
 use std::ops::Range;
 use std::sync::atomic::{AtomicU64, Ordering};
 use std::thread;
@@ -162,12 +163,17 @@ pub fn run(cases: u64, seed: u64) -> Result<bool, String> {
         }
     });
     all.differences.sort();
+    let clock = times::sweep(cases, seed);
+    all.met.add(&clock.met);
     let enough = all.met.report(cases, &plan.peers.missing());
     short::report(short::STAGES, all.short);
     short::report(short::STANDARD_STAGES, all.short_standard);
     for (case, words) in all.differences.iter().take(SHOWN) {
         println!("case {case}: {words}");
     }
-    println!("{cases} cases, {} differences", all.differences.len());
-    Ok(enough && all.differences.is_empty())
+    clock.differences.iter().take(SHOWN).for_each(|words| println!("{words}"));
+    println!("{} calls of the clock beside the cases", clock.asked);
+    let differences = all.differences.len() + clock.differences.len();
+    println!("{cases} cases, {differences} differences");
+    Ok(enough && differences == 0)
 }

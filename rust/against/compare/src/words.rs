@@ -1,17 +1,21 @@
 //! The words of the command.
 
 /// How the program is called.
-pub const USAGE: &str = "usage: compare [--cases N] [--seed S], or compare record [--seed S]";
+pub const USAGE: &str = "usage: compare [--cases N] [--seed S], compare record [--seed S], or compare clock";
 
 /// What is asked for.
 #[derive(Clone, Copy, Debug, PartialEq, Eq)]
 pub enum Wanted {
     Compare { cases: u64, seed: u64 },
     Record { seed: u64 },
+    Clock,
 }
 
 /// What the words ask for; none where one is not known, is there twice or is no number.
 pub fn wanted(words: &[String]) -> Option<Wanted> {
+    if words == ["clock"] {
+        return Some(Wanted::Clock);
+    }
     let (record, mut left) = match words.split_first() {
         Some((first, rest)) if first == "record" => (true, rest.iter()),
         _ => (false, words.iter()),
@@ -45,6 +49,7 @@ mod tests {
         assert_eq!(of(""), Some(Wanted::Compare { cases: 100_000, seed: 1 }));
         assert_eq!(of("--seed 7 --cases 5"), Some(Wanted::Compare { cases: 5, seed: 7 }));
         assert_eq!(of("record --seed 3"), Some(Wanted::Record { seed: 3 }));
+        assert_eq!(of("clock"), Some(Wanted::Clock));
     }
 
     #[test]
@@ -58,6 +63,8 @@ mod tests {
             "5",
             "record --cases 5",
             "--seed 1 record",
+            "clock --seed 1",
+            "clock clock",
         ] {
             assert_eq!(of(words), None, "{words}");
         }

@@ -35,6 +35,8 @@
 //! - It needs the standard library. rosc is `no_std` without its feature `std`; here that feature is always on.
 //! - No call panics, memory apart. Where rosc does: a time tag before 1970 is printed, and converted into the `SystemTime`
 //!   before that year; [`encoder::pad`] of a position over 2^64 − 4 is 0, as in a release build of rosc.
+//! - A `SystemTime` becomes the nearest time tag, in whole numbers. rosc goes by floats and is one fraction too high for 256 of the 10^9
+//!   nanosecond values, of which 500,355,614 is the first; no whole microsecond is one of them. The other way both give the same.
 //! - [`encoder::encode_into`] writes a packet to its output in one piece.
 //!
 //! As in rosc, a tree is dropped, cloned, compared and printed by functions that call themselves for what an array or a bundle

@@ -3,6 +3,7 @@
 //! OSC data types, see [OSC 1.0 specification](https://opensoundcontrol.stanford.edu/spec-1_0.html) for details.
 
 use super::errors;
+use crate::{Refusal, Rule, Time};
 use std::{
     fmt::{self, Display},
     result,
@@ -44,8 +45,8 @@ use std::{
 /// the conversion traits are used this case because not every `SystemTime` can be represented as
 /// an `OscTime`.
 ///
-/// **These conversions are lossy**, but are tested to have a deviation within
-/// 5 nanoseconds when converted back and forth in either direction.
+/// **These conversions are lossy** from an `OscTime` and back, by at most 2 of its fractions, which is less than half a nanosecond.
+/// A `SystemTime` comes back unchanged. (rosc promises a deviation within 5 nanoseconds either way.)
 ///
 /// Although any time since the OSC epoch (`1900-01-01 00:00:00 UTC`) can be represented using the
 /// OSC timestamp format, this crate only allows conversions between times greater than or equal to
@@ -60,46 +61,51 @@ pub struct OscTime {
 }
 
 impl OscTime {
-    const UNIX_OFFSET: u64 = 2_208_988_800; // From RFC 5905
-    const TWO_POW_32: f64 = (u32::MAX as f64) + 1.0; // Number of bits in a `u32`
-    const ONE_OVER_TWO_POW_32: f64 = 1.0 / OscTime::TWO_POW_32;
-    const NANOS_PER_SECOND: f64 = 1.0e9;
-    const SECONDS_PER_NANO: f64 = 1.0 / OscTime::NANOS_PER_SECOND;
+    const UNIX_OFFSET: u32 = 2_208_988_800; // From RFC 5905
+
+    fn tag(self) -> Time {
+        Time { seconds: self.seconds, fractional: self.fractional }
+    }
+
+    /// The time since 1900, to the nearest nanosecond.
+    fn since_1900(self) -> Duration {
+        // The fraction is rounded, and carried where it makes a full second, by the library: it converts every tag from 1970 on.
+        let of_1970 = Time { seconds: OscTime::UNIX_OFFSET, fractional: self.fractional };
+        let rounded = of_1970.to_duration(Rule::A).expect("a tag of 1970 has a Unix time");
+        Duration::new(self.seconds.into(), 0) + rounded
+    }
 }
 
 impl TryFrom<SystemTime> for OscTime {
     type Error = OscTimeError;
 
+    /// The nearest fraction, exactly. rosc goes by floats and gives one fraction more for 256 of the 10^9 nanosecond values: for
+    /// 355,614 + 1,953,125 k with k from 256 to 511, of which the first is 500,355,614. No whole microsecond is one of them.
     fn try_from(time: SystemTime) -> core::result::Result<OscTime, OscTimeError> {
-        let duration_since_epoch =
-            time.duration_since(UNIX_EPOCH).map_err(|_| OscTimeError(OscTimeErrorKind::BeforeEpoch))?
-                + Duration::new(OscTime::UNIX_OFFSET, 0);
-        let seconds = u32::try_from(duration_since_epoch.as_secs()).map_err(|_| OscTimeError(OscTimeErrorKind::Overflow))?;
-        let nanos = duration_since_epoch.subsec_nanos() as f64;
-        let fractional = (nanos * OscTime::SECONDS_PER_NANO * OscTime::TWO_POW_32).round() as u32;
-        Ok(OscTime { seconds, fractional })
+        match Time::from_system_time(Rule::A, time) {
+            Ok(Time { seconds, fractional }) => Ok(OscTime { seconds, fractional }),
+            Err(Refusal::TooEarly) => Err(OscTimeError(OscTimeErrorKind::BeforeEpoch)),
+            Err(_) => Err(OscTimeError(OscTimeErrorKind::Overflow)),
+        }
     }
 }
 
 impl From<OscTime> for SystemTime {
-    /// A time before the unix epoch, where rosc panics, is given too; if the system has none so early, it is that epoch.
+    /// The nearest nanosecond, halves up, as rosc gives it for all 2^32 fractions. A time before the unix epoch, where rosc panics, is
+    /// given too; if the system has none so early, it is that epoch.
     fn from(time: OscTime) -> SystemTime {
-        let nanos = (time.fractional as f64) * OscTime::ONE_OVER_TWO_POW_32 * OscTime::NANOS_PER_SECOND;
-        let duration_since_osc_epoch = Duration::new(time.seconds as u64, nanos.round() as u32);
-        let unix_epoch = Duration::new(OscTime::UNIX_OFFSET, 0);
-        match duration_since_osc_epoch.checked_sub(unix_epoch) {
-            Some(duration_since_unix_epoch) => UNIX_EPOCH + duration_since_unix_epoch,
-            None => UNIX_EPOCH.checked_sub(unix_epoch - duration_since_osc_epoch).unwrap_or(UNIX_EPOCH),
-        }
+        let before = || {
+            let epoch = Duration::new(OscTime::UNIX_OFFSET.into(), 0);
+            UNIX_EPOCH.checked_sub(epoch - time.since_1900()).unwrap_or(UNIX_EPOCH)
+        };
+        time.tag().to_system_time(Rule::A).unwrap_or_else(|_| before())
     }
 }
 
 impl Display for OscTime {
     /// The time by ISO 8601 with nanoseconds, as `1970-01-01T00:00:00.000000000Z`.
     fn fmt(&self, f: &mut fmt::Formatter<'_>) -> fmt::Result {
-        let nanos = (self.fractional as f64) * OscTime::ONE_OVER_TWO_POW_32 * OscTime::NANOS_PER_SECOND;
-        // A fraction that rounds to a whole second is carried.
-        let time = Duration::new(self.seconds as u64, nanos.round() as u32);
+        let time = self.since_1900();
         let (year, month, day) = date(time.as_secs() / 86_400);
         let second = time.as_secs() % 86_400;
         write!(f, "{year:04}-{month:02}-{day:02}T")?;

@@ -4,7 +4,6 @@ use super::convert::{to_compat, to_rosc};
 use super::same::same_values;
 use rosc::{OscMessage, OscPacket, OscTime, OscType};
 use sennorbai::rosc_compat as compat;
-use std::time::SystemTime;
 
 /// Whether what a helper takes out of a value is the same on both sides, and becomes the same value again.
 macro_rules! same_helpers {
@@ -49,18 +48,8 @@ fn time(theirs: OscTime) -> Option<&'static str> {
     if pair != ours.into() || to_rosc::time(pair.into()) != theirs || !same_values(&OscType::from(pair), &value) {
         return Some("OscTime as a pair");
     }
-    // The crate panics before 1970.
-    if theirs.seconds < 2_208_988_800 {
-        return None;
-    }
-    let (clock, our_clock) = (SystemTime::from(theirs), SystemTime::from(ours));
-    let (back, our_back) = (OscTime::try_from(clock), compat::OscTime::try_from(our_clock));
-    let same = match (back, our_back) {
-        (Ok(back), Ok(our_back)) => back == to_rosc::time(our_back),
-        (Err(error), Err(our_error)) => error.to_string() == our_error.to_string(),
-        _ => false,
-    };
-    (clock != our_clock || !same).then_some("OscTime as SystemTime")
+    // The conversions are compared in times.rs.
+    None
 }
 
 /// Messages and values from a text.
