@@ -282,8 +282,8 @@ expect 0 "osc $(sed -n 's/^#define SENNORBAI_VERSION "\(.*\)"$/\1/p' "$root/incl
 # Wrong words.
 decode_takes='osc: decode takes udp|tcp|tcp-vec|tcp2|tcp2-vec INPUT TABLE [--depth N] [--records N] [--replace]'
 not_number='osc: not a number of at most nine digits: '
-expect 2 '' 'osc: the first word is not decode, encode, look, index, check, cue, help or --version: '
-expect 2 '' 'osc: the first word is not decode, encode, look, index, check, cue, help or --version: decoded' decoded
+expect 2 '' 'osc: the first word is not decode, encode, look, index, check, cue, time, help or --version: '
+expect 2 '' 'osc: the first word is not decode, encode, look, index, check, cue, time, help or --version: decoded' decoded
 expect 2 '' "$decode_takes" decode udp input
 expect 2 '' "$decode_takes" decode udp input table.bin --depth
 expect 2 '' 'osc: not udp, tcp, tcp-vec, tcp2 or tcp2-vec: tc' decode tc input table.bin
@@ -299,9 +299,109 @@ expect 2 '' 'osc: encode takes udp|tcp|tcp2 TABLE SOURCE OUTPUT [--replace]' enc
 one_packet='osc: encode writes one packet: udp, tcp or tcp2, not '
 expect 2 '' "${one_packet}tcp-vec" encode tcp-vec message.bin input table.bin
 expect 2 '' "${one_packet}tcp2-vec" encode tcp2-vec message.bin input table.bin
-expect 2 '' 'osc: look takes TABLE INDEX' look message.bin
+look_takes='osc: look takes TABLE INDEX [--rule a|b]'
+expect 2 '' "$look_takes" look message.bin
 expect 2 '' "$not_number-1" look message.bin -1
 gone table.bin
+
+# Times (Ticket 7). The lines stand here as another program computed them.
+# says_time RULE WORD LINE: what `osc time RULE WORD` should say after its first word; late, early RULE WORD: that it is refused.
+says_time() {
+    expect 0 "time: $3" '' time "$1" "$2"
+}
+late() {
+    expect 1 'refused 27: later than the rule allows' '' time "$1" "$2"
+}
+early() {
+    expect 1 'refused 28: before 1970' '' time "$1" "$2"
+}
+says_time a 0 '0.000000000 s, tag 83aa7e8000000000, 1970-01-01T00:00:00.000000000Z'
+says_time b 0.000000001 '0.000000001 s, tag 83aa7e8000000004, 1970-01-01T00:00:00.000000001Z'
+says_time a 1.5 '1.500000000 s, tag 83aa7e8180000000, 1970-01-01T00:00:01.500000000Z'
+says_time a 83AA7E8180000000 '1.500000000 s, tag 83aa7e8180000000, 1970-01-01T00:00:01.500000000Z'
+says_time a 001763424000.000 '1763424000.000000000 s, tag ecc6358000000000, 2025-11-18T00:00:00.000000000Z'
+says_time a ECC5B100ABCDEF12 '1763390080.671111051 s, tag ecc5b100abcdef12, 2025-11-17T14:34:40.671111051Z'
+says_time b ecc5b100abcdef12 '1763390080.671111051 s, tag ecc5b100abcdef12, 2025-11-17T14:34:40.671111051Z'
+# The last second of each rule, the wrap of 2036, and a carry past the last second.
+says_time a 2085978495.999999999 '2085978495.999999999 s, tag fffffffffffffffc, 2036-02-07T06:28:15.999999999Z'
+says_time a FFFFFFFFFFFFFFFF '2085978496.000000000 s, tag ffffffffffffffff, 2036-02-07T06:28:16.000000000Z'
+late a 2085978496
+says_time b 2085978496 '2085978496.000000000 s, tag 0000000000000000, 2036-02-07T06:28:16.000000000Z'
+says_time b 4233462143.999999999 '4233462143.999999999 s, tag 7ffffffffffffffc, 2104-02-26T09:42:23.999999999Z'
+says_time b 7FFFFFFFFFFFFFFF '4233462144.000000000 s, tag 7fffffffffffffff, 2104-02-26T09:42:24.000000000Z'
+late b 4233462144
+late b 9223372036854775807.999999999
+# Before 1970: a carry into it, the immediate tag, the oldest tag of rule b, and a minus, also with no whole second.
+says_time a 83AA7E7FFFFFFFFE '0.000000000 s, tag 83aa7e7ffffffffe, 1970-01-01T00:00:00.000000000Z'
+early b 83AA7E7FFFFFFFFD
+early a 0000000000000001
+says_time b 0000000000000001 '2085978496.000000000 s, tag 0000000000000001, 2036-02-07T06:28:16.000000000Z'
+early b 8000000000000000
+early a -1
+early b -0.000000001
+early a -9223372036854775807
+says_time a -0.0 '0.000000000 s, tag 83aa7e8000000000, 1970-01-01T00:00:00.000000000Z'
+# 16 digits are a tag, and 15 or 17 seconds; with a dot 16 are seconds too.
+early a 1234567890123456
+says_time b 1234567890123456 '2391398392.562777778 s, tag 1234567890123456, 2045-10-12T05:19:52.562777778Z'
+late b 123456789012345
+late b 12345678901234567
+late b 1234567890123456.0
+# Leap days, and the end of February 2100, which has none.
+says_time a 951782400 '951782400.000000000 s, tag bc658a8000000000, 2000-02-29T00:00:00.000000000Z'
+says_time b 4107542399 '4107542399.000000000 s, tag 787e9dff00000000, 2100-02-28T23:59:59.000000000Z'
+says_time b 4107542400 '4107542400.000000000 s, tag 787e9e0000000000, 2100-03-01T00:00:00.000000000Z'
+# The first and the last second of each month of a leap year and of another, against `date`.
+if [ "$(date -u -d @4107542400 +%Y-%m-%dT%H:%M:%S 2>/dev/null)" = 2100-03-01T00:00:00 ]; then
+    for month in 1 2 3 4 5 6 7 8 9 10 11 12; do
+        for year in 2024 2103; do
+            start=$(date -u -d "$year-$month-1" +%s)
+            for second in "$start" $((start - 1)); do
+                said=$("$root/osc" time b "$second")
+                [ "${said##*, }" = "$(date -u -d "@$second" +%Y-%m-%dT%H:%M:%S.000000000Z)" ]
+                count $? "osc time b $second: said '$said'"
+            done
+        done
+    done
+else
+    printf 'note: tests/osc_tool.sh: date does not tell the date of a second: the months of two years left out\n'
+fi
+# Words that are no time, or no rule.
+for word in '' . 1. .5 -.5 - -- --1 +1 1.0000000000 1.5.5 1,5 1e3 0x1 ' 1' 1.-5 ECC5B100ABCDEF1 ECC5B100ABCDEF123 ECC5B100ABCDEFG2 \
+    9223372036854775808 18446744073709551616; do
+    expect 2 '' "osc: neither a tag of 16 hexadecimal digits nor seconds, with at most 9 digits after a dot: $word" time a "$word"
+done
+for word in '' A c ab; do
+    expect 2 '' "osc: the rule is a or b, not $word" time "$word" 0
+done
+time_takes='osc: time takes a|b TAG, or a|b SECONDS'
+expect 2 '' "$time_takes" time
+expect 2 '' "$time_takes" time a
+expect 2 '' "$time_takes" time a 1 2
+expect 2 '' 'osc: only decode, encode, index and cue take --replace' time a 1 --replace
+# A record's time by a rule, after what is said of the record: of a bundle and of a t; of other records and of refused ones nothing.
+printf '#bundle\0\0\0\0\0\0\0\0\001\0\0\0\020/a\0\0,t\0\0\354\306\065\200\200\0\0\0' >input
+expect 0 'packets: 1, records: 3, bytes left: 0' '' decode udp input times.bin
+expect 0 'record 0: # seconds 0 fraction 1, end 3
+start 0
+refused 28: before 1970' '' look times.bin 0 --rule a
+expect 0 'record 0: # seconds 0 fraction 1, end 3
+start 0
+time: 2085978496.000000000 s, tag 0000000000000001, 2036-02-07T06:28:16.000000000Z' '' look times.bin 0 --rule b
+expect 0 'record 2: t seconds 3972412800 fraction 2147483648, end 3
+start 28
+time: 1763424000.500000000 s, tag ecc6358080000000, 2025-11-18T00:00:00.500000000Z' '' look times.bin 2 --rule a
+shows 20 'record 1: / offset 20 length 2, end 3' times.bin 1 --rule a
+shows 28 'record 2: t seconds 3972412800 fraction 2147483648, end 3' times.bin 2
+expect 1 'refused 11: table not well formed, or a record asked for does not exist' '' look times.bin 3 --rule a
+cp times.bin ./--rule
+shows 20 'record 1: / offset 20 length 2, end 3' --rule 1 --rule b
+rm ./--rule
+expect 2 '' "$look_takes" look times.bin 0 --rule
+expect 2 '' "$look_takes" look times.bin 0 --rules a
+expect 2 '' "$look_takes" look times.bin 0 --rule a b
+expect 2 '' "osc: the rule is a or b, not c" look times.bin 0 --rule c
+expect 2 '' "$not_number-1" look times.bin -1 --rule a
 
 # Files that cannot be read.
 head -c 1310701 /dev/zero >large.bin

@@ -27,6 +27,7 @@ commandWords =
     ∷ ("index", command.Index)
     ∷ ("check", command.Check)
     ∷ ("cue", command.Cue)
+    ∷ ("time", command.Time)
     ∷ ("help", command.Help)
     ∷ ("--help", command.Help)
     ∷ ("-h", command.Help)
@@ -68,6 +69,7 @@ mayReplace command.Look = false
 mayReplace command.Index = true
 mayReplace command.Check = false
 mayReplace command.Cue = true
+mayReplace command.Time = false
 mayReplace command.Help = false
 mayReplace command.Version = false
 mayReplace command.Unclear = true

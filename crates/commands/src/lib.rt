@@ -25,6 +25,7 @@ pub enum Command {
     Index,
     Check,
     Cue,
+    Time,
     Help,
     Version,
     Unclear,
@@ -94,7 +95,7 @@ pub fn command_of(word: &[u8]) -> Command
     ensures { λ r. ⌜ r ≡ commandOf (now (word .entry)) ⌝ }
 {
     let at = place_of(
-        b"decode encode look index check cue help --help -h --version",
+        b"decode encode look index check cue time help --help -h --version",
         word,
     );
     let named = [
@@ -104,6 +105,7 @@ pub fn command_of(word: &[u8]) -> Command
         Command::Index,
         Command::Check,
         Command::Cue,
+        Command::Time,
         Command::Help,
         Command::Help,
         Command::Help,
@@ -136,6 +138,7 @@ fn may_replace(command: Command) -> bool
         Command::Index => true,
         Command::Check => false,
         Command::Cue => true,
+        Command::Time => false,
         Command::Help => false,
         Command::Version => false,
         Command::Unclear => true,

@@ -15,7 +15,7 @@ abbrev pub unused : String
 unused = "\n"
 
 -- document 01's "Refusal numbers", each number beside its words: those of 9 are Ticket 4's, those of 15, 16 and of a frame in 1 Ticket 1's,
--- those of 17 to 21 Ticket 2's, and 25 is Ticket 5's
+-- those of 17 to 21 Ticket 2's, 25 is Ticket 5's, and 26 to 28 are Ticket 7's
 abbrev pub refusedForms : List (ℕ × String)
 refusedForms =
     (0, unused)
@@ -44,6 +44,9 @@ refusedForms =
     ∷ (23, unused)
     ∷ (24, unused)
     ∷ (indexDiffers, "refused %: index differs, record %\n")
+    ∷ (26, "refused %: nanoseconds of 10^9 or more\n")
+    ∷ (27, "refused %: later than the rule allows\n")
+    ∷ (28, "refused %: before 1970\n")
     ∷ []
 
 -- the words beside a number

@@ -9,13 +9,14 @@ use Rattle.troubles.specs.declared.Trouble.the-variants.{OnePacket, NoOption, T
 use Rattle.troubles.specs.declared.Trouble.the-variants.{LongName, NoFile, OneFile, TooLarge, NoTable}
 use Rattle.troubles.specs.declared.Trouble.the-variants.{IndexWords, CheckWords, CueWords, Shorter}
 use Rattle.troubles.specs.declared.Trouble.the-variants.{NoReplace, IndexLength, IndexFront, TableLength, TableFront, Exists, TwoNames}
+use Rattle.troubles.specs.declared.Trouble.the-variants.{TimeWords, NoRule, NoTime}
 
 -- what each trouble is, of a word or the name of a file and a number of bytes
 abbrev pub troubleForm : Trouble → String
-troubleForm NoCommand = "osc: the first word is not decode, encode, look, index, check, cue, help or --version: ~\n"
+troubleForm NoCommand = "osc: the first word is not decode, encode, look, index, check, cue, time, help or --version: ~\n"
 troubleForm DecodeWords = "osc: decode takes udp|tcp|tcp-vec|tcp2|tcp2-vec INPUT TABLE [--depth N] [--records N] [--replace]\n"
 troubleForm EncodeWords = "osc: encode takes udp|tcp|tcp2 TABLE SOURCE OUTPUT [--replace]\n"
-troubleForm LookWords = "osc: look takes TABLE INDEX\n"
+troubleForm LookWords = "osc: look takes TABLE INDEX [--rule a|b]\n"
 troubleForm NoFraming = "osc: not udp, tcp, tcp-vec, tcp2 or tcp2-vec: ~\n"
 troubleForm OnePacket = "osc: encode writes one packet: udp, tcp or tcp2, not ~\n"
 troubleForm NoOption = "osc: not --depth or --records: ~\n"
@@ -43,6 +44,9 @@ troubleForm TableFront =
     "osc: ~: this file is not a table (no / or # and three zeros at offset 0); nothing was changed. To replace it anyway, add --replace.\n"
 troubleForm Exists = "osc: ~: this file exists; nothing was changed. To replace it, add --replace.\n"
 troubleForm TwoNames = "osc: ~: the other output has the same name\n"
+troubleForm TimeWords = "osc: time takes a|b TAG, or a|b SECONDS\n"
+troubleForm NoRule = "osc: the rule is a or b, not ~\n"
+troubleForm NoTime = "osc: neither a tag of 16 hexadecimal digits nor seconds, with at most 9 digits after a dot: ~\n"
 
 -- the same with its word and its number
 abbrev pub troubleLine : Trouble → ℕ → List ℕ → List ℕ

@@ -8,10 +8,12 @@ mod shown; // shown.rt: the line for a record that is looked at
 mod indexes; // indexes.rt: the line for a cue index
 mod trouble; // trouble.rt: the line for trouble with a word or a file
 
+pub use form::fill_in;
 pub use indexes::tell_checked;
 pub use indexes::tell_differs;
 pub use indexes::tell_index;
 pub use indexes::tell_progress;
+pub use refusals::tell_numbered;
 pub use replies::tell_decoded;
 pub use replies::tell_encoded;
 pub use replies::tell_frame;

@@ -11,7 +11,7 @@ ghost use Rattle.telling.specs.Refusals.{numberedLine, refusedLine, refu
 ghost use Rattle.telling.specs.CodePut.{wordsRoom, FrontIs};
 
 // The refusals, a line to each: it stands at its number, from 0 on, and is empty where no refusal has that number.
-const REFUSALS: [u8; 1041] = *b"
+const REFUSALS: [u8; 1141] = *b"
 refused %: decode input over 65,535 bytes, or encoded result (prefix included) over it, or frame length over 65,531
 refused %: a packet of no bytes
 
@@ -37,6 +37,9 @@ refused %: the prefix or time tag at offset % is not all there
 
 
 refused %: index differs, record %
+refused %: nanoseconds of 10^9 or more
+refused %: later than the rule allows
+refused %: before 1970
 ";
 
 // Puts the line for the refusal of a number, and the number that is told beside it, at the front of `out`, and answers how long it is. What

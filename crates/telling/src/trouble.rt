@@ -7,11 +7,11 @@ ghost use Rattle.telling.specs.Forms.{Says};
 ghost use Rattle.telling.specs.Troubles.{troubleLine};
 
 // The troubles, a line to each, in the order of `Trouble`.
-const TROUBLES: [u8; 1683] = *b"\
-osc: the first word is not decode, encode, look, index, check, cue, help or --version: ~
+const TROUBLES: [u8; 1867] = *b"\
+osc: the first word is not decode, encode, look, index, check, cue, time, help or --version: ~
 osc: decode takes udp|tcp|tcp-vec|tcp2|tcp2-vec INPUT TABLE [--depth N] [--records N] [--replace]
 osc: encode takes udp|tcp|tcp2 TABLE SOURCE OUTPUT [--replace]
-osc: look takes TABLE INDEX
+osc: look takes TABLE INDEX [--rule a|b]
 osc: not udp, tcp, tcp-vec, tcp2 or tcp2-vec: ~
 osc: encode writes one packet: udp, tcp or tcp2, not ~
 osc: not --depth or --records: ~
@@ -35,6 +35,9 @@ osc: ~: this file is not a table (% bytes, not a multiple of 20); nothing was ch
 osc: ~: this file is not a table (no / or # and three zeros at offset 0); nothing was changed. To replace it anyway, add --replace.
 osc: ~: this file exists; nothing was changed. To replace it, add --replace.
 osc: ~: the other output has the same name
+osc: time takes a|b TAG, or a|b SECONDS
+osc: the rule is a or b, not ~
+osc: neither a tag of 16 hexadecimal digits nor seconds, with at most 9 digits after a dot: ~
 ";
 
 // Puts the line for a trouble with a word, or with a file and a number of its bytes, at the front of `out`, and answers how long it is.

@@ -63,13 +63,13 @@ pub fn version(major: u16, minor: u16, patch: u16) {
 }
 
 // What the commands are.
-const HELP: [u8; 1984] = *b"\
+const HELP: [u8; 2359] = *b"\
 osc decode udp|tcp|tcp-vec|tcp2|tcp2-vec INPUT TABLE [--depth N] [--records N] [--replace]
     reads INPUT and writes its records, 20 bytes each, to TABLE
 osc encode udp|tcp|tcp2 TABLE SOURCE OUTPUT [--replace]
     writes the packet of TABLE, whose texts stand in SOURCE, to OUTPUT
-osc look TABLE INDEX
-    says what record INDEX of TABLE holds; the first is 0
+osc look TABLE INDEX [--rule a|b]
+    says what record INDEX of TABLE holds; the first is 0. With --rule also what osc time says of its time tag
 osc index RECORDING INDEX [--replace]
     writes an index of RECORDING, frames of tcp2 end to end, to INDEX: 16 bytes for each frame, up to the first that is not accepted
 osc check RECORDING INDEX
@@ -77,6 +77,10 @@ osc check RECORDING INDEX
 osc cue RECORDING INDEX K TABLE PACKET [--replace]
     checks INDEX and writes frame K of RECORDING: its records to TABLE and its packet to PACKET; the first is 0
     the offsets in TABLE count from the first byte of PACKET, so that osc encode udp TABLE PACKET OUTPUT writes the packet again
+osc time a|b TAG
+osc time a|b SECONDS
+    says a Unix time, its time tag and its UTC date. TAG is exactly 16 hexadecimal digits; every other word is SECONDS since 1970, as in
+    1763424000.5 or -1, with at most 9 digits after a dot. Rule a counts tags from 1900 to 2036; rule b reads those from 1968 to 2104
 osc help, osc --help, osc -h
     says this
 osc --version

@@ -7,6 +7,7 @@ use crate::look;
 use commands::Options;
 use commands::Writing;
 use edition::Framing;
+use time_words::LookRuled;
 use tool_files::space;
 ghost use Prim.Native.Nat.{_*_, _≤_};
 ghost use lib.ListN.{length};
@@ -16,7 +17,7 @@ ghost use Rattle.node.specs.Records.{recordSize, mostRecords};
 pub enum Work {
     Decode(Framing, Options, bool),
     Encode(Writing, bool),
-    Look(usize),
+    Look(usize, LookRuled),
 }
 
 // Runs a command in the small room: decode with the bytes that it read, the others with an open table. Whether decode has room; the
@@ -28,7 +29,7 @@ pub fn begin(work: Work, fd: i32, bytes: &[u8]) -> bool {
             return decode::begin(framing, options, is_replacing, bytes, &mut room);
         }
         Work::Encode(writing, is_replacing) => encode::begin(writing, is_replacing, fd, &mut room),
-        Work::Look(index) => look::begin(index, fd, &mut room),
+        Work::Look(index, ruled) => look::begin(index, ruled, fd, &mut room),
     }
     true
 }
@@ -54,7 +55,7 @@ pub fn go_on(work: Work, fd: i32, bytes: &[u8])
             bytes,
             &mut room,
         ),
-        Work::Look(index) => look::go_on(index, fd, bytes, &mut room),
+        Work::Look(index, ruled) => look::go_on(index, ruled, fd, bytes, &mut room),
     }
 }
 

@@ -35,7 +35,10 @@ troubles =
     ∷ trouble.TableLength
     ∷ trouble.TableFront
     ∷ trouble.Exists
-    ∷ trouble.TwoNames ∷ []
+    ∷ trouble.TwoNames
+    ∷ trouble.TimeWords
+    ∷ trouble.NoRule
+    ∷ trouble.NoTime ∷ []
 
 -- a trouble stands at this place among them
 pub record PlacedAt (t : Trouble) (place : ℕ) : Type 0 where

@@ -30,6 +30,9 @@ pub enum Trouble {
     TableFront,
     Exists,
     TwoNames,
+    TimeWords,
+    NoRule,
+    NoTime,
 }
 
 // The place of a trouble among the others.
@@ -66,5 +69,8 @@ pub fn place_of(trouble: Trouble) -> usize
         Trouble::TableFront => 24,
         Trouble::Exists => 25,
         Trouble::TwoNames => 26,
+        Trouble::TimeWords => 27,
+        Trouble::NoRule => 28,
+        Trouble::NoTime => 29,
     }
 }

@@ -1,0 +1,3 @@
+pub mod Months
+pub mod Inverse
+pub mod Examples
