@@ -48,7 +48,7 @@ pub record CBoundary : Type 1 where
   -- Of a clock conversion the tag, or the seconds and nanoseconds, are read back from the number and what is written through the pointer,
   -- and so is the refusal, beside which 0 is written; of a difference, its 64 bits read as signed (Ticket 7).
   -- definitions: apart/TagBack, apart/UnixBack
-  -- edits: told/tag_beside_a_refusal, told/seconds_beside_a_refusal, told/refused_time_in_the_low_bits
+  -- edits: told/tag_beside_a_refusal, told/seconds_beside_a_refusal, told/refused_time_in_the_low_bits, osc/rule_b_read_as_a
   pub tag-told : TagTold
   pub unix-told : UnixTold
   pub difference-told : DifferenceTold

@@ -36,8 +36,8 @@ pub record FirstDemand : Type 1 where
   pub met : Every Met
   -- Each call ends in an answer of documents 01 and 02, or in one of the refusals that they list for it. A list of edition 2 and a step
   -- over a stream or a recording may also stop at a refused frame, with a number that is listed for it (Tickets 1, 14 and 5). The check of
-  -- an index may answer 25, with the number of a record beside it (Ticket 5).
-  -- edits: calls/string_never_gives_4, calls/ten_never_ends_an_index
+  -- an index may answer 25, with the number of a record beside it (Ticket 5). 26 to 28 are a conversion's (Ticket 7).
+  -- edits: calls/string_never_gives_4, calls/ten_never_ends_an_index, calls/tag_never_too_early
   pub listed : Every AnswersListed
   -- A refusal gives only its number. 17 to 21 alone have an offset beside it (Ticket 2).
   -- edits: refusal/two_of_one_number, theorems/seventeen_tells_alone

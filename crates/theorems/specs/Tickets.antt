@@ -233,16 +233,17 @@ pub record Ticket7 : Type 0 where
   -- edits: clock/moved_by_one
   pub moved-little : MovedLittle
   pub two-reached : (rule : Rule) → TwoReached rule
-  -- A fraction that rounds to a full second carries. On the way to a tag none does; on the way to Unix time exactly the two highest do, also
-  -- past the rule's last second.
+  -- A fraction that rounds to a full second carries. On the way to a tag none does; on the way to Unix time exactly the two highest do,
+  -- also past the rule's last second.
   -- edits: clock/carry_lost
   pub no-carry : NoCarry
   pub carries : Carries
   pub stays : Stays
   pub carries-past : CarriesPast
-  -- `tag_of` refuses nanoseconds of 10^9 or more with 26, then seconds after the rule's last (2,085,978,495 and 4,233,462,143) with 27, then
-  -- seconds before 1970 with 28, and gives a tag otherwise. `unix_of` refuses with 28 exactly the tags that stay before 1970 after the
-  -- carry, and never with 27 or 26; a time that it gives is of 1970 or later, with fewer than 10^9 nanoseconds. Each number is one refusal.
+  -- `tag_of` refuses nanoseconds of 10^9 or more with 26, then seconds after the rule's last (2,085,978,495 and 4,233,462,143) with 27,
+  -- then seconds before 1970 with 28, and gives a tag otherwise. `unix_of` refuses with 28 exactly the tags that stay before 1970 after
+  -- the carry, and never with 27 or 26; a time that it gives is of 1970 or later, with fewer than 10^9 nanoseconds. Each number is one
+  -- refusal.
   -- definitions: clock/TagCase, clock/Before1970, clock/tagFor, clock/unixFor
   -- code: clock/tag_of, clock/unix_of
   -- edits: clock/late_before_nanoseconds, clock/carry_does_not_reach_1970, clock/refused_before_the_carry, clock/last_second_too_late
