@@ -16,14 +16,14 @@ use Rattle.outcomes.specs.Told.{DecodeTold}
 use Rattle.outcomes.specs.declared.tried.Tried.{Tried}
 use Rattle.outcomes.specs.declared.tried.Tried.the-variants.{With, Full}
 
--- 10: "node table too small" for the records
+-- 10: "the result has more records than the capacity"
 abbrev pub isFull : Decoded → Bool
 isFull (answer.Packets count left dirty) = false
 isFull answer.Waiting = false
 isFull (answer.Refused refusal) = eqb (numberOf refusal) 10
 isFull (answer.Stopped count left dirty refusal frame) = false
 
--- demand 3, "more room never takes back an answer": what is told is what the options ask for, and only a 10 is left to more room
+-- demand 3, "More room never takes back an answer": what is told is what the options ask for, and only a 10 is left to more room
 abbrev pub TriedTold : Framing → Options → List ℕ → List ℕ → List ℕ → Tried → Type 0
 TriedTold framing options msg table line (With told) = DecodeTold framing options msg table line told
 TriedTold framing options msg table line Full =
