@@ -223,6 +223,23 @@ static void starts(const char *name, const char *table_hex, uint64_t index, unsi
     same(name, answer, (uint64_t)refusal << 56 | start);
 }
 
+/* A table with the tags of its first records shifted, and back. Where `moved` is 0 the call is refused and changes nothing, or there is no
+ * tag. */
+static void shifts(const char *name, const char *table_hex, uint64_t count, uint64_t by, unsigned refusal, uint32_t moved,
+                   const char *shifted_hex) {
+    uint8_t bytes[256], due[256];
+    size_t n = bytes_of(table_hex, bytes), m = bytes_of(shifted_hex, due);
+    uint8_t *table = copy(bytes, n);
+    uint64_t answer = osc_shift_table(table, n, count, by);
+    same(name, answer, (uint64_t)refusal << 56 | moved);
+    same(name, osc_moved(answer), moved);
+    same(name, m, n);
+    same(name, (uint64_t)memcmp(table, due, n), 0);
+    same(name, osc_shift_table(table, n, count, 0 - by), answer);
+    same(name, (uint64_t)memcmp(table, bytes, n), 0);
+    free(table);
+}
+
 /* "/a" with the integer 5, and its table; a line of a table is a record. */
 #define FIVE "2F610000 2C690000 00000005"
 #define FIVE_TABLE                                 \
@@ -927,6 +944,38 @@ static void clocks(void) {
     same("2^63 apart, turned round", (uint64_t)(osc_difference(0, high) == INT64_MIN), 1);
 }
 
+/* A bundle in a bundle, with a message that has a 't' in an array and an 'h', shifted by half a second and one fraction. */
+#define TAGS(outer, inner, t)                      \
+    "23000000 00000006 " outer " 00000000"         \
+    "23000000 00000006 " inner " 00000014"         \
+    "2F000000 00000006 00000028 00000002 00000028" \
+    "5B000000 00000005 00000000 00000000 00000034" \
+    "74000000 00000005 " t " 00000034"             \
+    "68000000 00000006 00000000 FFFFFFFF 0000003C"
+
+/* A bundle, and a record of an unknown kind. */
+#define BROKEN(fractions)                                    \
+    "23000000 00000002 00000000 " fractions " 00000000"      \
+    "58000000 00000002 00000000 00000000 00000000"
+
+static void table_tags(void) {
+    const uint64_t by = ((uint64_t)1 << 31) + 1, far = ((uint64_t)1 << 32) + 6;
+    shifts("tags are shifted", TAGS("00000000 00000001", "00000001 80000000", "FFFFFFFF FFFFFFFF"), 6, by, 0, 3,
+           TAGS("00000000 80000002", "00000002 00000001", "00000000 80000000"));
+    shifts("the first records alone", TAGS("00000000 00000001", "00000001 80000000", "FFFFFFFF FFFFFFFF"), 4, by, 0, 2,
+           TAGS("00000000 80000002", "00000002 00000001", "FFFFFFFF FFFFFFFF"));
+    shifts("by zero", TAGS("00000000 00000001", "00000001 80000000", "FFFFFFFF FFFFFFFF"), 6, 0, 0, 3,
+           TAGS("00000000 00000001", "00000001 80000000", "FFFFFFFF FFFFFFFF"));
+    shifts("no record", FIVE_TABLE, 0, by, 0, 0, FIVE_TABLE);
+    shifts("a record that does not exist", FIVE_TABLE, 3, by, OSC_BAD_TABLE, 0, FIVE_TABLE);
+    shifts("a count that has 33 bits", TAGS("00000000 00000001", "00000001 80000000", "FFFFFFFF FFFFFFFF"), far, by, OSC_BAD_TABLE, 0,
+           TAGS("00000000 00000001", "00000001 80000000", "FFFFFFFF FFFFFFFF"));
+    shifts("a later record breaks its rules", BROKEN("00000001"), 2, by, OSC_BAD_TABLE, 0, BROKEN("00000001"));
+    shifts("it is not looked at", BROKEN("00000001"), 1, by, 0, 1, BROKEN("80000002"));
+    shifts("zero bytes that are not 0", "23000001 00000001 00000000 00000001 00000000", 1, by, OSC_BAD_TABLE, 0,
+           "23000001 00000001 00000000 00000001 00000000");
+}
+
 /* NULL with the length 0 is a slice of no bytes, in every function. */
 static void no_bytes(void) {
     const uint8_t five[12] = {'/', 'a', 0, 0, ',', 'i', 0, 0, 0, 0, 0, 5};
@@ -948,6 +997,8 @@ static void no_bytes(void) {
     same("NULL is a text", osc_encode_string(NULL, 0, NULL, 0), (uint64_t)OSC_OUTPUT_SHORT << 56);
     same("NULL is looked at", osc_look(NULL, 0, 0), eleven);
     same("NULL has no start", osc_start(NULL, 0, 0), eleven);
+    same("NULL is shifted", osc_shift_table(NULL, 0, 1, 1), eleven);
+    same("no record of NULL is shifted", osc_shift_table(NULL, 0, 0, 1), 0);
 }
 
 int main(void) {
@@ -971,6 +1022,7 @@ int main(void) {
     far_records();
     versions();
     clocks();
+    table_tags();
     no_bytes();
     printf("%d passed, %d failed\n", passed, failed);
     return failed != 0;

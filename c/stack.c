@@ -22,12 +22,13 @@ static const uint8_t source[] = "/\303\251";
 
 enum call {
     UDP, TCP, TCP_VEC, TCP2, TCP_VEC2, PORTION, INDEX, ENCODE, ENCODE_TCP, ENCODE_TCP2, STRING, CHECK, LOOK, START, CUE,
-    TAG_A, TAG_B, UNIX_A, UNIX_B, SHIFT, DIFFERENCE, PAD, VERSION
+    TAG_A, TAG_B, UNIX_A, UNIX_B, SHIFT, DIFFERENCE, SHIFT_TABLE, PAD, VERSION
 };
 
 static const char *const names[] = {"udp",        "tcp",         "tcp_vec", "tcp2",  "tcp_vec2",   "portion", "index", "encode",
                                     "encode_tcp", "encode_tcp2", "string",  "check", "look",       "start",   "cue",   "tag_a",
-                                    "tag_b",      "unix_a",      "unix_b",  "shift", "difference", "pad",     "version"};
+                                    "tag_b",      "unix_a",      "unix_b",  "shift", "difference", "shift_table", "pad",
+                                    "version"};
 
 /* The call that the thread makes: n is the length of its input, or its number. */
 static struct {
@@ -74,6 +75,7 @@ static uint64_t once(enum call call, uint64_t n) {
     case UNIX_B: return osc_unix_b(n, &asked.seconds);
     case SHIFT: return osc_shift(n, n);
     case DIFFERENCE: return (uint64_t)osc_difference(n, 1);
+    case SHIFT_TABLE: return osc_shift_table(table, sizeof table, n, (uint64_t)1 << 31);
     default: return osc_pad(n);
     }
 }
@@ -280,6 +282,9 @@ static void others(void) {
     run("the last record", START, 65534, 0);
     run("a record past the last", LOOK, 65536, OSC_BAD_TABLE);
     run("a record past the last", START, 65536, OSC_BAD_TABLE);
+    nested(65532, 0);
+    run("65,532 nested bundles", SHIFT_TABLE, 65535, 0);
+    run("a record past the last", SHIFT_TABLE, 65537, OSC_BAD_TABLE);
     run("a position", PAD, 65533, 0);
     run("the version", VERSION, 0, 0);
     run("rule A's last second", TAG_A, 2085978495, 0);

@@ -238,6 +238,12 @@ uint64_t osc_shift(uint64_t tag, uint64_t by);
 /* The difference of a tag from an old one, around the wrap, in fractions. Tags exactly 2^63 apart give INT64_MIN. */
 int64_t osc_difference(uint64_t tag, uint64_t old);
 
+/* Shifts the time tags of the first `count` records of a table by `by`, modulo 2^64: that of each bundle and of each 't'. 2^32 is
+ * a second, and 0 - x goes back by x; the immediate tag (0, 1) is shifted like the rest. No other byte changes, and a well-formed table stays well formed.
+ * Bits 0 to 31 of the answer are the tags moved; bits 56 to 63 the refusal's number: OSC_BAD_TABLE, and nothing is changed, where one of
+ * these records does not exist or osc_look refuses it, and where `count` is 2^32 or more. Records after them are not looked at. */
+uint64_t osc_shift_table(uint8_t *table, size_t table_len, uint64_t count, uint64_t by);
+
 /* The version of the library, as a number that is made as OSC_VERSION is. It is never refused. */
 uint64_t osc_version(void);
 
@@ -299,6 +305,9 @@ static inline uint32_t osc_cue_length(uint64_t answer) { return (uint32_t)answer
 
 /* The bytes that an encoder wrote. */
 static inline uint32_t osc_written(uint64_t answer) { return (uint32_t)answer; }
+
+/* The tags that osc_shift_table moved. */
+static inline uint32_t osc_moved(uint64_t answer) { return (uint32_t)answer; }
 
 /* The kind that osc_look found. */
 static inline uint8_t osc_kind(uint64_t answer) { return (uint8_t)answer; }

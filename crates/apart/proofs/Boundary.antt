@@ -59,13 +59,18 @@ use Rattle.results.specs.declared.Indexed.the-variants as indexed
 use Rattle.results.specs.declared.Checked.{Checked}
 use Rattle.results.specs.declared.Checked.the-variants as checked
 use Rattle.results.specs.declared.CueAt.{CueAt}
+use Rattle.shifts.specs.Shifts.{shiftLeaves}
+use Rattle.shifts.specs.Call.{shiftedTold, ShiftsTold}
+use Rattle.shifts.specs.declared.Shifted.{Shifted}
+use Rattle.shifts.proofs.Demand.{told-only, by-told}
 use Rattle.told.specs.Told.{Bounded, answerOf, moreOf, refusalIn, lowIn, offsetIn, frameIn}
 use Rattle.told.specs.Answers.{decodedTold, portionTold, indexedTold, startedTold, kindOf, lookedTold, cueToldAs, cueTold, cueBeside}
 use Rattle.told.specs.Answers.{toldRefusal, checkedNumber, paddedNumber}
 use Rattle.told.proofs.Unpacked.{packed}
-use Rattle.apart.specs.Contracts.{below56, Beside, CEnds, told-answer, told-refusal, told-stop, CDemand}
+use Rattle.apart.specs.Contracts.{below56, nothing, never, Beside, CEnds, told-answer, told-refusal, told-stop, CDemand}
 use Rattle.apart.specs.Boundary.{StopTold, EndTold, IndexEndTold, DiffersTold, mostChecked, checkNumber, usedWithin, cContractOf}
 use Rattle.apart.specs.Boundary.{CCall, osc-decode, osc-read-portion, osc-index-step, osc-index-check-step, osc-cue, osc-encode}
+use Rattle.apart.specs.Boundary.{osc-shift-table}
 use Rattle.apart.specs.Boundary.{osc-encode-string, osc-pad, osc-look, osc-start, osc-version, EveryFunction, CSettled, EndsListed}
 use Rattle.apart.specs.Boundary.{ToldApart, StopsApart, EndsApart, IndexEndsApart, DiffersApart}
 use Rattle.apart.specs.ReadBack.{Answerable}
@@ -279,6 +284,22 @@ start-plain t b i =
     by-test (λ (r : Started). Plain (11 ∷ []) 0x1_0000_0000 (startedTold r)) (ltb i (capacity t))
     (λ _. answers (omega (arith, number-small 4 (drop n t) (drop-small n t b)))) (λ _. refuses BadTable refl refl)
 
+-- ---- `osc_shift_table`
+
+module _ (table : List ℕ) (count by : ℕ) where
+  abbrev ShiftEnds : Shifted → Type 0
+  ShiftEnds r =
+      CEnds (cContractOf (osc-shift-table table count by)) (answerOf (shiftedTold r)) (moreOf (shiftedTold r))
+      (shiftLeaves r table count by)
+
+  shift-demand : CDemand (cContractOf (osc-shift-table table count by))
+  shift-demand =
+      writes-demand shiftedTold (ShiftsTold table count by) table (11 ∷ []) (λ told. told < 0x1_0000_0000) nothing never
+      (λ a b l l′ m n. told-only table count by m n)
+      (λ a l m. ends-as refl refl (m .leaves)
+      (by-told table count by ShiftEnds (λ n h. told-answer (omega arith) refl) (told-refusal 11 refl refl (alone 11) refl) m))
+      (λ told h. omega arith) refl (λ told more s a b. s) (λ told more n s h q. s)
+
 -- ---- a cue index
 
 -- what is known of a refused frame, and of the bytes from it on
@@ -437,6 +458,7 @@ every (osc-encode frame table count source out) =
     (encodes-ended frame table count source out) refl
 every (osc-encode-string text out) =
     encodes-demand (EncodesString text out) out stringOrder (λ o p. one-outcome) (string-ended text out) refl
+every (osc-shift-table table count by) = shift-demand table count by
 every (osc-pad pos) = pad-demand pos
 every (osc-look table i) = tells-demand (lookedTold (lookAt table i)) (11 ∷ []) 256 (omega arith) refl (look-plain table i)
 every (osc-start table bytes i) =

@@ -29,6 +29,7 @@ use Rattle.told.specs.Told.{answerOf, refusalIn, lowIn, offsetIn, frameIn}
 use Rattle.told.specs.Answers.{toldNumber, decodedTold, portionTold, indexedTold, encodedTold, startedTold, lookedTold, cueToldAs, cueTold}
 use Rattle.told.specs.Answers.{cueBeside, differsNumber, checkedNumber, paddedNumber}
 use Rattle.told.specs.Times.{taggedNumber, taggedBeside, unixNumber, unixBeside}
+use Rattle.shifts.specs.Call.{shiftedTold, ShiftsTold}
 use Rattle.apart.specs.Contracts.{CContract, inHighBits, below56, nothing, never, numbers, tells, lends, HasOffset, CEnds, CDemand}
 
 -- ---- how a call stops
@@ -106,6 +107,7 @@ pub data CCall : Type 0 where
   osc-cue : (index : List ℕ) (bytes : (i : ℕ) → getD index i 0 < 256) (k : ℕ) → CCall
   osc-encode : (frame : ℕ → List ℕ → List ℕ) (table : List ℕ) (count : ℕ) (source out : List ℕ) → CCall
   osc-encode-string : (text out : List ℕ) → CCall
+  osc-shift-table : (table : List ℕ) (count by : ℕ) → CCall
   osc-pad : (pos : ℕ) → CCall
   osc-look : (table : List ℕ) (index : ℕ) → CCall
   osc-start : (table : List ℕ) (bytes : (i : ℕ) → getD table i 0 < 256) (index : ℕ) → CCall
@@ -134,6 +136,8 @@ cContractOf (osc-cue index bytes k) =
     (λ more. more < 2 ^ 64) never
 cContractOf (osc-encode frame table count source out) = encodesTo (Encodes frame table count source out) out encodeOrder
 cContractOf (osc-encode-string text out) = encodesTo (EncodesString text out) out stringOrder
+cContractOf (osc-shift-table table count by) =
+    lends shiftedTold (ShiftsTold table count by) table (11 ∷ []) (λ told. told < 0x1_0000_0000) nothing never
 cContractOf (osc-pad pos) = numbers (paddedNumber (padOf pos)) 0 (14 ∷ []) (λ n. n) (λ told. told % 4 ≡ 0) nothing never
 cContractOf (osc-look table index) = tells (lookedTold (lookAt table index)) (11 ∷ []) 256
 cContractOf (osc-start table bytes index) = tells (startedTold (startedAt table index)) (11 ∷ []) 0x1_0000_0000

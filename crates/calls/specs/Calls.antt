@@ -84,6 +84,8 @@ pub data Call : Contract → Type 1 where
       → Call (encoding (framedBy edition) table count source out)
   encode-string : (text out : List ℕ)
       → Call (writes Encoded out (λ r after. EncodesString text out (record { answer = r; out = after })) byEncoded stringOrder)
+  -- a table's tags, shifted: Ticket 13
+  shift-table : (table : List ℕ) (count by : ℕ) → Call (Rattle.shifts.specs.Call.shifting table count by)
   -- padding, and looking at a record: document 01, and Ticket 10
   pad : (pos : ℕ) → Call (answers Padded (padOf pos) byPadded (14 ∷ []))
   look : (table : List ℕ) (index : ℕ) → Call (answers Looked (lookAt table index) byLooked (11 ∷ []))

@@ -23,3 +23,4 @@ pub mod Agree
 pub mod Order
 pub mod Only
 pub mod Examples
+pub mod Adding

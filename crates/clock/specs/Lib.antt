@@ -3,3 +3,4 @@ pub mod Clock
 pub mod CodeStart
 pub mod Shift
 pub mod Promises
+pub mod Sums

@@ -75,6 +75,12 @@ fn encode_string(text: &[u8], out: &mut [u8]) -> results::Encoded
     encoder::encode_string(text, out)
 }
 
+fn shift_table(table: &mut [u8], count: usize, by: u64) -> shifts::Shifted
+    ensures { λ r. ⌜ Meets (call.shift-table (now (table .entry)) count by) r (now (table .exit)) ⌝ }
+{
+    shifts::shift_table(table, count, by)
+}
+
 fn pad(pos: u64) -> wire::Padded
     ensures { λ r. ⌜ Meets (call.pad pos) r tt ⌝ }
 {

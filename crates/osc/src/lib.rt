@@ -4,6 +4,7 @@ use edition::Edition;
 use edition::Framing;
 use node::record;
 use refusal::Refusal;
+use shifts::Shifted;
 use told::times;
 use values::look::Looked;
 use values::look::Started;
@@ -23,6 +24,7 @@ ghost use Rattle.told.specs.Times.{taggedNumber, taggedBeside, unixNumber, unix
 ghost use Rattle.told.specs.Answers.{paddedNumber, lookedTold, startedTold, cueToldAs, cueTold, cueBeside};
 ghost use Rattle.version.specs.Version.{versionNumber};
 ghost use Rattle.apart.specs.Boundary.{osc-decode, osc-read-portion, osc-index-step, osc-encode, osc-encode-string, CMeets, checkNumber};
+ghost use Rattle.apart.specs.Boundary.{osc-shift-table};
 
 // A decoder by its framing, told as a number, and what is told beside it.
 fn decode(framing: Framing, msg: &[u8], table: &mut [u8], depth: u64, more: &mut u64) -> u64
@@ -213,6 +215,22 @@ pub extern "C" fn osc_encode_string(text: &[u8], out: &mut [u8]) -> u64
     ensures { λ r. ⌜ CMeets (osc-encode-string (now (text .entry)) (now (out .entry))) r 0 (now (out .exit)) ⌝ }
 {
     told::encoded(encoder::encode_string(text, out))
+}
+
+// `shift_table`: the tags moved in bits 0 to 31, or 11 in bits 56 to 63: also of a count of 2^32 or more, whose tags have no room.
+//
+// Ruled out: the records told in place of their tags; the count cut to 32 bits, so that 2^32 + 1 passes for 1.
+#[no_mangle]
+pub extern "C" fn osc_shift_table(table: &mut [u8], count: u64, by: u64) -> u64
+    ensures { λ r. ⌜ CMeets (osc-shift-table (now (table .entry)) count by) r 0 (now (table .exit)) ⌝ }
+{
+    if 0x1_0000_0000 <= count {
+        return told::refused(Refusal::BadTable);
+    }
+    match shifts::shift_table(table, count as usize, by) {
+        Shifted::Tags(n) => told::low(n as u32),
+        Shifted::Refused(refusal) => told::refused(refusal),
+    }
 }
 
 // `pad`: the padded position, or 14, which is no multiple of 4.

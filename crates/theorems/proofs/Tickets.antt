@@ -1,6 +1,6 @@
 -- The theorem of each row of specs/Tickets.antt.
 use mathlib.Core.Path.{refl, sym, subst, ap, _∙_}
-use Rattle.theorems.specs.Tickets.{Ticket1, Ticket2, Ticket4, Ticket5, Ticket6, Ticket7, Ticket8, Ticket10, Ticket14}
+use Rattle.theorems.specs.Tickets.{Ticket1, Ticket2, Ticket4, Ticket5, Ticket6, Ticket7, Ticket8, Ticket10, Ticket13, Ticket14}
 
 pub ticket1 : Ticket1
 ticket1 =
@@ -117,6 +117,23 @@ ticket10 =
       gives-starts = Rattle.given.proofs.Starts.Tables.gives-starts;
       encode-ignores = Rattle.standards.proofs.Ignored.encode-ignores;
       encode-tcp-ignores = Rattle.standards.proofs.Ignored.encode-tcp-ignores;
+    }
+
+pub ticket13 : Ticket13
+ticket13 =
+    record {
+      by-zero = Rattle.clock.proofs.Adding.by-zero;
+      by-two = Rattle.clock.proofs.Adding.by-two;
+      and-back = Rattle.clock.proofs.Adding.and-back;
+      difference-of-shift = Rattle.clock.proofs.Adding.difference-of-shift;
+      immediate-shifted = Rattle.clock.proofs.Adding.immediate-shifted;
+      tags-shifted = Rattle.shifts.proofs.Sums.tags-shifted;
+      table-by-zero = Rattle.shifts.proofs.Sums.table-zero;
+      table-by-two = Rattle.shifts.proofs.Sums.table-by-two;
+      calls-and-back = Rattle.shifts.proofs.Sums.calls-and-back;
+      stays-formed = Rattle.shifted_packets.proofs.Trees.stays-formed;
+      encode-alike = Rattle.shifted_packets.proofs.Encoding.encode-alike;
+      encode-tcp-alike = Rattle.shifted_packets.proofs.Encoding.encode-tcp-alike;
     }
 
 pub ticket14 : Ticket14

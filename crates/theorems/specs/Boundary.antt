@@ -7,10 +7,11 @@ use Rattle.apart.specs.ReadBack.{TagTold, UnixTold, DifferenceTold}
 
 -- The C boundary
 pub record CBoundary : Type 1 where
-  -- Demand 1: each function ends in an answer; or in a refusal that is listed for it and leaves every lent byte; or it
-  -- stops at a refused frame that is listed; or, for an index that differs, at a record. These four can be told apart.
+  -- Demand 1: each function ends in an answer; or in a refusal that is listed for it and leaves every lent byte; or it stops at a refused
+  -- frame that is listed; or, for an index that differs, at a record. These four can be told apart.
   -- definitions: apart/CCall, apart/CMeets
   -- edits: apart/positions_are_even, osc/refused_record_told_as_0, osc/start_refused_by_0
+  -- edits: osc/records_told_for_tags, osc/count_of_33_bits_shifted, apart/tags_of_16_bits
   pub ends-listed : EndsListed
   pub refusals-apart : ToldApart
   pub stops-apart : StopsApart

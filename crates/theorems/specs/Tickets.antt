@@ -38,6 +38,9 @@ use Rattle.writers.specs.Osc.{longestElement}
 use Rattle.survey.specs.Surveys.{Surveys}
 use Rattle.encoder.specs.Outcome.{Outcome, Encodes, unframed, framedBy}
 use Rattle.encoder.specs.AfterNo.{AfterNo, NoOutcome}
+use Rattle.clock.specs.Sums.{ByZero, ByTwo, AndBack, DifferenceOfShift, ImmediateShifted}
+use Rattle.shifts.specs.Sums.{TagsShifted, TableByZero, TableByTwo, CallsAndBack}
+use Rattle.shifted_packets.specs.Packets.{StaysFormed, EncodesAlike}
 use Rattle.osc10.specs.Osc10.{Packet, Allowed, Spells}
 use Rattle.calls.specs.Demands.{MoreRoom, MoreBytes, DirtLow, CleanOnly}
 use Rattle.calls.specs.Fields.{PacketShort, FrameShort, CutShort, FieldsShort, ListFieldsShort, CutFieldsShort, CutFrameShort}
@@ -319,6 +322,43 @@ pub record Ticket10 : Type 0 where
   -- edits: standards/encoder_ignores_b
   pub encode-ignores : IgnoresStarts unframed
   pub encode-tcp-ignores : (edition : Edition) → IgnoresStarts (framedBy edition)
+
+-- Ticket 13: Shifts must add up
+pub record Ticket13 : Type 0 where
+  -- For the shifts of Ticket 7, on all 2^64 values: by zero changes nothing; by x then y equals by x + y modulo 2^64; by x and then its
+  -- opposite returns the tag; the difference of the shifted tag from the old one is x read as signed. The functions named here say the same
+  -- of the public calls.
+  -- definitions: clock/shifted, clock/signedOf, clock/differenceOf
+  -- code: clock/by_zero, clock/by_two, clock/and_back, clock/difference_of_shift
+  -- edits: clock/carry_between_halves_lost, clock/opposite_is_the_complement
+  pub by-zero : ByZero
+  pub by-two : ByTwo
+  pub and-back : AndBack
+  pub difference-of-shift : DifferenceOfShift
+  -- The immediate tag (0, 1) is a plain number and is shifted like the rest.
+  -- code: clock/immediate
+  -- edits: clock/carry_between_halves_lost
+  pub immediate-shifted : ImmediateShifted
+  -- Sliding a whole act: `shift_table` shifts the tag of each `#` and each `t` of a table's first records, and no other byte; 11, and
+  -- nothing changed, where one of these records does not exist or breaks its own rules, as `look` tests them. By zero a table is the same;
+  -- by x then y equals by x + y; two calls, by x and then its opposite, leave the table as it was. The functions named here say it of
+  -- the calls.
+  -- definitions: shifts/shiftedRecord, shifts/shiftedTable, shifts/timeTags, shifts/lookable, shifts/Shifts
+  -- code: shifts/shift_table, shifts/by_zero, shifts/and_back
+  -- edits: shifts/long_shifted, shifts/nested_tag_left, shifts/later_record_looked_at, shifts/shifted_halfway
+  -- edits: clock/carry_between_halves_lost
+  pub tags-shifted : TagsShifted
+  pub table-by-zero : TableByZero
+  pub table-by-two : TableByTwo
+  pub calls-and-back : CallsAndBack
+  -- A well-formed table stays well formed over the same source. `encode`, and `encode_tcp` in both editions, give a shifted table the same
+  -- answer as before and, where bytes are written, as many, which differ in the eight bytes of each of its tags alone: those hold the
+  -- shifted tag.
+  -- definitions: shifted_packets/Retagged, shifted_packets/EncodedAlike
+  -- edits: shifted_packets/tags_written_as_they_were, shifted_packets/well_formed_over_no_source
+  pub stays-formed : StaysFormed
+  pub encode-alike : EncodesAlike unframed
+  pub encode-tcp-alike : (edition : Edition) → EncodesAlike (framedBy edition)
 
 -- Ticket 14: Cutting the stream changes nothing
 pub record Ticket14 : Type 0 where

@@ -131,6 +131,7 @@ mod c {
         pub fn osc_unix_b(tag: u64, seconds: *mut i64) -> u64;
         pub fn osc_shift(tag: u64, by: u64) -> u64;
         pub fn osc_difference(tag: u64, old: u64) -> i64;
+        pub fn osc_shift_table(table: *mut u8, table_len: usize, count: u64, by: u64) -> u64;
         pub fn osc_version() -> u64;
     }
 }
@@ -236,6 +237,13 @@ pub fn look(table: &[u8], index: u64) -> u64 {
 pub fn start(table: &[u8], index: u64) -> u64 {
     // SAFETY: `table` is read within its length.
     unsafe { c::osc_start(table.as_ptr(), table.len(), index) }
+}
+
+/// `osc_shift_table`: how many time tags the first `count` records have, now shifted, in bits 0 to 31; bits 56 to 63 are the refusal's
+/// number.
+pub fn shift_table(table: &mut [u8], count: u64, by: u64) -> u64 {
+    // SAFETY: `table` is read and written within its length, lent alone.
+    unsafe { c::osc_shift_table(table.as_mut_ptr(), table.len(), count, by) }
 }
 
 /// `osc_tag_a`: the time tag of a Unix time by rule A, as one number, in `tag`; bits 56 to 63 of the answer are the refusal's number.

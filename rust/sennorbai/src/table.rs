@@ -40,6 +40,32 @@ impl<'a> Table<'a> {
         let nodes = Nodes::check(self.bytes, self.count, self.source)?;
         Ok(Packet { nodes, left: 0, dirty: 0 })
     }
+
+    /// Shifts the time tags of a table's first `count` records, modulo 2^64, and gives how many there are: the tag of each bundle and of
+    /// each time argument. An amount is a number of fractions, of which a second has 2^32; to go back by x, shift by
+    /// `0u64.wrapping_sub(x)`. No other byte changes: the table stays well formed over the same source, and what it encodes to has the
+    /// same length and differs in the tags alone. [`Time::IMMEDIATELY`](crate::Time::IMMEDIATELY) is shifted like any other.
+    ///
+    /// [`Refusal::BadTable`], and no byte is changed, where one of these records does not exist or breaks its own rules. Records after
+    /// them are not looked at. A count of 2^32 or more is refused so too.
+    ///
+    /// ```
+    /// use sennorbai::{decode_udp, encode, Refusal, Table, DEEPEST};
+    ///
+    /// let msg = *b"#bundle\0\0\0\0\x07\x80\0\0\0";
+    /// let mut table = [0; 100];
+    /// let count = decode_udp(&msg, &mut table, DEEPEST)?.count();
+    ///
+    /// let half_a_second = 1 << 31;
+    /// assert_eq!(Table::shift(&mut table, count, half_a_second), Ok(1));
+    /// let mut out = [0; 16];
+    /// encode(Table { bytes: &table, count, source: &msg }, &mut out)?;
+    /// assert_eq!(out, *b"#bundle\0\0\0\0\x08\0\0\0\0");
+    /// # Ok::<(), Refusal>(())
+    /// ```
+    pub fn shift(table: &mut [u8], count: usize, by: u64) -> Result<usize, Refusal> {
+        Ok(Refusal::settle(boundary::shift_table(table, count as u64, by), 0)? as usize)
+    }
 }
 
 /// The records of one well-formed packet, what was left of the input, and how much of its padding was not zero.

@@ -19,6 +19,7 @@ every-call c (call.cue-at index k) = cue-demand index k
 every-call c (call.encode table count source out) = encoder-demand unframed table count source out
 every-call c (call.encode-tcp edition table count source out) = encoder-demand (framedBy edition) table count source out
 every-call c (call.encode-string text out) = string-demand text out
+every-call c (call.shift-table table count by) = Rattle.shifts.proofs.Demand.shift-demand table count by
 every-call c (call.pad pos) = pad-demand pos
 every-call c (call.look table index) = answers-demand (look-listed table index)
 every-call c (call.start-of table index) = answers-demand (start-listed table index)

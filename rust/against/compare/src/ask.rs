@@ -22,10 +22,12 @@ pub enum Call {
     IndexStep = 13,
     IndexCheck = 14,
     Cue = 15,
+    /// The shift of a table's tags: the table is the first slice, and the amount the second; the room holds the table.
+    Shift = 16,
 }
 
 // Each call has a name in the counts. After these come the six of the clock, which lend no slice: times.rs has them.
-const _: () = assert!(Call::Cue as usize + 1 + 6 == CALLS.len());
+const _: () = assert!(Call::Shift as usize + 1 + 6 == CALLS.len());
 
 /// The decoders that the crate has too.
 pub const DECODERS: [Call; 3] = [Call::Udp, Call::Tcp, Call::TcpVec];

@@ -11,7 +11,7 @@ use crate::short::Stage;
 use crate::standard::Stream;
 use crate::streams::Writers;
 use crate::table::RECORD;
-use crate::{cues, edges, inputs, recordings, short, soiled, spoil, standard, streams};
+use crate::{cues, edges, inputs, recordings, shifts, short, soiled, spoil, standard, streams};
 use rosc::{OscMessage, OscPacket, OscType};
 
 /// Of the streams in portions, one in so many is long.
@@ -42,6 +42,7 @@ impl Case {
             Call::Look => judge::look(asked, due, seen),
             Call::Start => judge::start(asked, due, seen),
             Call::IndexStep | Call::IndexCheck | Call::Cue => cues::judge(asked, due, seen),
+            Call::Shift => shifts::judge(asked, due, seen),
         }
         if call.encodes() || call == Call::EncodeString {
             self.asked.room = self.due.wrote.len() + 8;
@@ -149,6 +150,24 @@ impl Case {
         steps.extend(recordings::checks(r, &index, &mut self.seen));
         steps.extend(recordings::lookups(r, &index, &mut self.seen));
         steps
+    }
+
+    /// The tags of a random table, which is spoiled half of the time, shifted; and the step back.
+    pub fn shifts(&mut self, r: &mut Random) -> Step {
+        self.seen = Seen::default();
+        self.asked.begin(Call::Shift);
+        let turn = r.below(2800);
+        let packet = tree(r, turn);
+        self.encode_tree(r, &packet);
+        if r.one_in(2) {
+            spoil::table(r, &mut self.asked);
+        }
+        let there = (self.asked.first.len() / RECORD) as u64;
+        self.asked.number = shifts::count(r, there, self.asked.number);
+        self.asked.second = shifts::amount(r).to_be_bytes().to_vec();
+        self.asked.room = self.asked.first.len();
+        shifts::judge(&self.asked, &mut self.due, &mut self.seen);
+        shifts::back(&self.asked, &self.due)
     }
 
     fn find(&mut self) -> Found {

@@ -2,7 +2,8 @@
 //! left, bytes written and bytes not written. Which field was short, where it began and how many bytes of padding are not zero is
 //! judged by a reader of its own; the padding is counted over rosc's packets too. Edition 2 of TCP framing, which rosc does not have, is
 //! judged by a model of its own that hands rosc each frame alone; streams in portions by what that model makes of the whole stream, and a
-//! cue index by what it makes of the recording's frames. The clock is judged by a model in whole numbers, and so are rosc's floats.
+//! cue index by what it makes of the recording's frames. A table with its time tags shifted is judged by a model of halves and a carry, the
+//! clock by a model in whole numbers, and so are rosc's floats.
 //!
 //!     cargo run --release --offline -p compare -- --cases N --seed S
 //!
@@ -39,6 +40,7 @@ mod record;
 mod recordings;
 mod rules;
 mod run;
+mod shifts;
 mod short;
 mod soiled;
 mod spoil;

@@ -306,6 +306,15 @@ rules! {
     DifferenceHighest 1 "clock, difference: 2^63 - 1",
     DifferenceAhead 1 "clock, difference: ahead, around the wrap",
     DifferenceBehind 1 "clock, difference: behind, around the wrap",
+    ShiftCarry 1 "shift: a carry between the halves of a tag",
+    ShiftWrap 1 "shift: around the wrap",
+    ShiftNested 1 "shift: a bundle in a bundle",
+    ShiftImmediate 1 "shift: the immediate tag",
+    ShiftLong 1 "shift: an h, which stays",
+    ShiftFew 1 "shift: records after the first, which stay",
+    ShiftBroken 1 "shift: a record that breaks its own rules",
+    ShiftAbsent 1 "shift: a record that does not exist",
+    ShiftOver 10 "shift: a count of 2^32 and more",
     LibloWhole 1 "liblo: as written",
     LibloRead 1 "liblo: as written, all of it read",
     LibloDamaged 1 "liblo: damaged",
@@ -352,7 +361,7 @@ impl Seen {
 pub const KINDS: &[u8] = b"/#sbifhdtcrmTFNI[";
 
 /// The calls by name, in the order of their numbers.
-pub const CALLS: [&str; 22] = [
+pub const CALLS: [&str; 23] = [
     "udp",
     "tcp",
     "tcp_vec",
@@ -369,6 +378,7 @@ pub const CALLS: [&str; 22] = [
     "index_step",
     "index_check_step",
     "cue",
+    "shift_table",
     "tag_a",
     "tag_b",
     "unix_a",
@@ -397,11 +407,12 @@ const STOPS: &[usize] = &[1, 2, 4, 5, 6, 7, 8, 9, 15, 16, 17, 18, 19, 21];
 const INDEX_STEP: (usize, &[usize]) = (13, &[1, 12]);
 const INDEX_CHECK: (usize, &[usize]) = (14, &[1, 25]);
 const CUE: (usize, &[usize]) = (15, &[11]);
+const SHIFT: (usize, &[usize]) = (16, &[11]);
 /// The same of the conversions of the clock.
-const TAG_A: (usize, &[usize]) = (16, &[26, 27, 28]);
-const TAG_B: (usize, &[usize]) = (17, &[26, 27, 28]);
-const UNIX_A: (usize, &[usize]) = (18, &[28]);
-const UNIX_B: (usize, &[usize]) = (19, &[28]);
+const TAG_A: (usize, &[usize]) = (17, &[26, 27, 28]);
+const TAG_B: (usize, &[usize]) = (18, &[26, 27, 28]);
+const UNIX_A: (usize, &[usize]) = (19, &[28]);
+const UNIX_B: (usize, &[usize]) = (20, &[28]);
 const INDEX_STOPS: &[usize] = &[1, 2, 4, 5, 6, 7, 8, 9, 10, 15, 16, 17, 18, 19, 21];
 
 /// How often each call gave each number.
@@ -480,7 +491,7 @@ impl Met {
 
     /// The refusals of the decoders of edition 2, of a cue index and of the clock, each by itself.
     fn standard_lines(&self) -> Vec<(String, u64, u64)> {
-        let calls = [TCP2, TCP_VEC2, READ_PORTION, INDEX_STEP, INDEX_CHECK, CUE, TAG_A, TAG_B, UNIX_A, UNIX_B];
+        let calls = [TCP2, TCP_VEC2, READ_PORTION, INDEX_STEP, INDEX_CHECK, CUE, SHIFT, TAG_A, TAG_B, UNIX_A, UNIX_B];
         let refused = calls.into_iter().flat_map(|(call, numbers)| {
             // An input that is too long is rare among the steps.
             let seldom = move |number: usize| if (call, number) == (READ_PORTION.0, 1) { 10 } else { 1 };

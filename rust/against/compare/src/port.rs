@@ -68,6 +68,11 @@ impl Bench {
             Call::IndexStep => boundary::index_step(first, asked.number, room, &mut more),
             Call::IndexCheck => boundary::index_check_step(first, second, asked.number),
             Call::Cue => boundary::cue(first, asked.number, &mut more),
+            Call::Shift => {
+                room.copy_from_slice(first);
+                let (on, by) = (u64::from(word(second, 0)), u64::from(word(second, 4)));
+                boundary::shift_table(room, asked.number, on << 32 | by)
+            }
         };
         (answer, more)
     }

@@ -17,13 +17,15 @@ use std::time::{Duration, Instant};
 const BATCH: u64 = 1000;
 const WORKERS: usize = 2;
 /// Of every twenty batches, nine are of short inputs and one of those for edition 2, as long as there are any; three more are of random
-/// inputs for edition 2, one of streams in portions, one of cue indexes, and the others of random inputs for the other calls.
+/// inputs for edition 2, one of streams in portions, one of cue indexes, one of shifted tables, and the others of random inputs for the
+/// other calls.
 const ROUND: u64 = 20;
 const SHORT: Range<u64> = 0..9;
 const SHORT_STANDARD: Range<u64> = 9..10;
 const STANDARD: Range<u64> = 10..13;
 const PORTIONS: Range<u64> = 13..14;
 const CUES: Range<u64> = 14..15;
+const SHIFTS: Range<u64> = 15..16;
 /// Of the random cases, one in so many is for `rosc_compat` and not for the boundary.
 const COMPAT: usize = 8;
 /// The crate recurses over nested input: its threads have room for that.
@@ -110,6 +112,10 @@ impl Plan {
             steps.iter().for_each(|step| step.count(&mut found.met));
             let whole = bench.differs(&case.asked, &case.due);
             return whole.or_else(|| steps.iter().find_map(|step| step.differs(bench)));
+        } else if nth(SHIFTS, batch, n).is_some() {
+            let back = case.shifts(r);
+            case.count(&mut found.met);
+            return bench.differs(&case.asked, &case.due).or_else(|| back.differs(bench));
         } else {
             case.random(r, &self.peers);
             // What `rosc_compat` has no place for is a case of the boundary still.

@@ -1,0 +1,3 @@
+pub mod Shifts
+pub mod Call
+pub mod Sums
