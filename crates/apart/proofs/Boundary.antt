@@ -287,17 +287,17 @@ start-plain t b i =
 -- ---- `osc_shift_table`
 
 module _ (table : List ℕ) (count by : ℕ) where
-  abbrev ShiftEnds : Shifted → Type 0
-  ShiftEnds r =
+  abbrev ShiftTableEnds : Shifted → Type 0
+  ShiftTableEnds r =
       CEnds (cContractOf (osc-shift-table table count by)) (answerOf (shiftedTold r)) (moreOf (shiftedTold r))
       (shiftLeaves r table count by)
 
-  shift-demand : CDemand (cContractOf (osc-shift-table table count by))
-  shift-demand =
+  shift-table-demand : CDemand (cContractOf (osc-shift-table table count by))
+  shift-table-demand =
       writes-demand shiftedTold (ShiftsTold table count by) table (11 ∷ []) (λ told. told < 0x1_0000_0000) nothing never
       (λ a b l l′ m n. told-only table count by m n)
       (λ a l m. ends-as refl refl (m .leaves)
-      (by-told table count by ShiftEnds (λ n h. told-answer (omega arith) refl) (told-refusal 11 refl refl (alone 11) refl) m))
+      (by-told table count by ShiftTableEnds (λ n h. told-answer (omega arith) refl) (told-refusal 11 refl refl (alone 11) refl) m))
       (λ told h. omega arith) refl (λ told more s a b. s) (λ told more n s h q. s)
 
 -- ---- a cue index
@@ -458,7 +458,7 @@ every (osc-encode frame table count source out) =
     (encodes-ended frame table count source out) refl
 every (osc-encode-string text out) =
     encodes-demand (EncodesString text out) out stringOrder (λ o p. one-outcome) (string-ended text out) refl
-every (osc-shift-table table count by) = shift-demand table count by
+every (osc-shift-table table count by) = shift-table-demand table count by
 every (osc-pad pos) = pad-demand pos
 every (osc-look table i) = tells-demand (lookedTold (lookAt table i)) (11 ∷ []) 256 (omega arith) refl (look-plain table i)
 every (osc-start table bytes i) =

@@ -1,6 +1,7 @@
 //! The clock in every run: the port, its types `Time` and `OscTime` and the crate's `OscTime` against the model. Every multiple of 1,000
 //! nanoseconds, every pair of edges, and random times, tags and shifts.
 
+use crate::ask::Call;
 use crate::clock::{self, float_is_high, Rule as By, EPOCH, FRACTIONS, NANOS, RULES};
 use crate::met::{Met, Rule, Seen};
 use crate::random::Random;
@@ -18,11 +19,12 @@ const BATCHES: u64 = 1_000;
 /// A long run has a batch for so many of its cases.
 const CASES: u64 = 20_000;
 const WORKERS: usize = 2;
-/// The numbers of the calls in the counts.
-const TAG: [usize; 2] = [16, 17];
-const UNIX: [usize; 2] = [18, 19];
-const SHIFT: usize = 20;
-const DIFFERENCE: usize = 21;
+/// The numbers of the calls in the counts, after those that lend a slice.
+const FIRST: usize = Call::Shift as usize + 1;
+const TAG: [usize; 2] = [FIRST, FIRST + 1];
+const UNIX: [usize; 2] = [FIRST + 2, FIRST + 3];
+const SHIFT: usize = FIRST + 4;
+const DIFFERENCE: usize = FIRST + 5;
 
 /// Seconds around which something changes: 1970, the last of each rule, and what 32, 63 and 64 bits hold.
 const SECONDS: &[i64] =
