@@ -1,0 +1,4 @@
+pub mod Puts
+pub mod Fronts
+pub mod Times
+pub mod ArgTimes
