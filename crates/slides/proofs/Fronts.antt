@@ -44,7 +44,7 @@ unfolding number
 number-front n u l l' h s = ap (from 0) (sym (take-take n u l' h) ∙ ap (take n) s ∙ take-take n u l h)
 
 -- bytes that are the same, from a place on
-number-later : (l l' : List ℕ) → take 8 l' ≡ take 8 l → number 4 (drop 4 l') ≡ number 4 (drop 4 l)
+pub number-later : (l l' : List ℕ) → take 8 l' ≡ take 8 l → number 4 (drop 4 l') ≡ number 4 (drop 4 l)
 unfolding number
 number-later l l' s =
     ap (from 0) (sym (drop-take 4 4 l') ∙ ap (drop 4) s ∙ drop-take 4 4 l)

@@ -2,3 +2,4 @@ pub mod Puts
 pub mod Fronts
 pub mod Times
 pub mod ArgTimes
+pub mod PacketTimes
