@@ -42,7 +42,7 @@ use Rattle.slides.proofs.ArgTimes.{args-retimed}
 
 -- ---- what a result is made of
 
-after-is : (n : ℕ) (o : Out) (item : Item) (f : Forest) (u : ℕ) → after n o ≡ one item f u
+pub after-is : (n : ℕ) (o : Out) (item : Item) (f : Forest) (u : ℕ) → after n o ≡ one item f u
     → (m : ℕ) × (o ≡ one item f m) × (u ≡ n + m)
 after-is n (fault k) item f u e = let z : _≡_ {A = ℕ} 0 1 = cc in absurd (omega arith)
 after-is n (one i g m) item f u e = (m, (cc), cc)
