@@ -5,3 +5,5 @@ pub mod ArgTimes
 pub mod PacketTimes
 pub mod FrameTimes
 pub mod Marks
+pub mod Slid
+pub mod Back

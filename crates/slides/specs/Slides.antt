@@ -1,7 +1,9 @@
 -- A recording that is slid: document 02, Ticket 13, over the frames that Ticket 5 accepts. Every place counts from the prefix of its frame.
-use mathlib.Core.Bool.{Bool, cond, _||_}
+use mathlib.Core.Path.{_≡_}
+use mathlib.Core.Bool.{Bool, true, cond, _||_}
+use mathlib.Core.Logic.{_⊎_}
 use mathlib.Core.List.{List, [], _++_}
-use Prim.Native.Nat.{ℕ, _+_, _*_, _/_, _%_, _^_}
+use Prim.Native.Nat.{ℕ, _+_, _*_, _/_, _%_, _^_, _<_, _≤_}
 use lib.Dec.{eqb}
 use lib.ListN.{take, drop}
 use Rattle.clock.specs.Shift.{shifted}
@@ -51,6 +53,12 @@ slideOne by item l = cond (hasTime (item .kind)) (putTime (timePlace item) (shif
 unfoldable pub slidBytes : ℕ → Forest → List ℕ → List ℕ
 slidBytes by nil l = l
 slidBytes by (node item inside rest) l = slidBytes by rest (slidBytes by inside (slideOne by item l))
+
+-- byte i of a frame lies in a time tag of its trees
+abbrev pub InTime : ℕ → Forest → Type 0
+InTime i nil = ⊥
+InTime i (node item inside rest) =
+    ((hasTime (item .kind) ≡ true) × (timePlace item ≤ i) × (i < timePlace item + 8)) ⊎ (InTime i inside ⊎ InTime i rest)
 
 -- what an accepted frame adds: its own bytes, slid
 abbrev pub slideAdds : ℕ → FrameAdds (List ℕ)
