@@ -115,7 +115,7 @@ module _ (by : ℕ) where
 
 module _ (by : ℕ) (l : List ℕ) where
   -- what is written at each time tag of these trees is what stands there in l
-  abbrev Restores : Forest → Type 0
+  abbrev pub Restores : Forest → Type 0
   Restores nil = Unit {0}
   Restores (node item inside rest) =
       (hasTime (item .kind) ≡ true → bytes 8 (shifted (timeIn item) by) ≡ take 8 (drop (timePlace item) l)) × Restores inside × Restores rest

@@ -7,3 +7,5 @@ pub mod FrameTimes
 pub mod Marks
 pub mod Slid
 pub mod Back
+pub mod Frames
+pub mod Files

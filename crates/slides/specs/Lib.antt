@@ -1,1 +1,2 @@
 pub mod Slides
+pub mod Laws
