@@ -67,7 +67,7 @@ abbrev pub FitsIn : ℕ → Forest → Type 0
 FitsIn n g = (q : ℕ) → TimeAt q g → q + 8 ≤ n
 
 module _ (by : ℕ) where
-  one-long : (item : Item) (m : List ℕ) → (hasTime (item .kind) ≡ true → timePlace item + 8 ≤ length m)
+  pub one-long : (item : Item) (m : List ℕ) → (hasTime (item .kind) ≡ true → timePlace item + 8 ≤ length m)
       → length (slideOne by item m) ≡ length m
   one-long item m h = by-kind (hasTime (item .kind)) refl
     where

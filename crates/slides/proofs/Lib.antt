@@ -7,5 +7,6 @@ pub mod FrameTimes
 pub mod Marks
 pub mod Slid
 pub mod Back
+pub mod Written
 pub mod Frames
 pub mod Files

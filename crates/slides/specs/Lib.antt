@@ -1,2 +1,3 @@
 pub mod Slides
 pub mod Laws
+pub mod CodeSlides
