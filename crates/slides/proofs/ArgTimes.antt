@@ -175,7 +175,8 @@ module _ (q v : ℕ) (small : v < 2 ^ 64) where
   -- how the later tags are read once the place is passed: as they were
   abbrev Passes : (List ℕ → ℕ → Forest → List Open → Args) → Type 0
   Passes go =
-      (m : List ℕ) (r : ℕ) (f : Forest) (b : List Open) → q + 8 ≤ r → go m r (retimedForest q v f) (retimedOpens b) ≡ retimedArgs (go m r f b)
+      (m : List ℕ) (r : ℕ) (f : Forest) (b : List Open) → q + 8 ≤ r
+      → go m r (retimedForest q v f) (retimedOpens b) ≡ retimedArgs (go m r f b)
 
   -- and where they reach it: the number there is read
   abbrev Reads : (List ℕ → ℕ → Forest → List Open → Args) → (List ℕ → ℕ → Type 0) → Type 0
@@ -248,7 +249,8 @@ module _ (q v : ℕ) (small : v < 2 ^ 64) where
     abbrev Goal : Type 0
     Goal =
         Placed q l p
-        × (act (Leaf class) go 0 tag (putTime (q - p) v l) p (retimedForest q v frame) (retimedOpens below) ≡ args (retimedForest q v kept) used)
+        × (act (Leaf class) go 0 tag (putTime (q - p) v l) p (retimedForest q v frame) (retimedOpens below) ≡ args
+        (retimedForest q v kept) used)
 
     here : AtPlace q item → Goal
     unfolding retimedForest
@@ -257,16 +259,18 @@ module _ (q v : ℕ) (small : v < 2 ^ 64) where
         let at : q ≡ p = w .place-is in
         let eight : u ≡ 8 = w .used-is in
         let fits : 8 ≤ length l = w .fits in
-        let same : drop u (putTime (q - p) v l) ≡ drop u l = put-drop-after (q - p) v l (omega arith) u (omega arith) in
-        (record { low = omega arith; high = omega arith },
-        ap (argTaken (λ m r g. go m r g (retimedOpens below)) (putTime (q - p) v l) p (retimedForest q v frame))
-        (time-read tag class l p item u w)
-        ∙ ap (λ (m : List ℕ). later u (go m (p + u) (snoc (retimedForest q v frame) (withTime v item) nil) (retimedOpens below))) same
-        ∙ ap (λ (g : Forest). later u (go (drop u l) (p + u) g (retimedOpens below)))
-        (ap (λ (i : Item). snoc (retimedForest q v frame) i nil) (sym (retimed-at q v item a)) ∙ snoc-retimed q v frame item nil)
-        ∙ ap (later u) (passes (drop u l) (p + u) (snoc frame item nil) below (omega arith))
-        ∙ later-retimed u (go (drop u l) (p + u) (snoc frame item nil) below)
-        ∙ ap retimedArgs f)
+        let same : drop u (putTime (q - p) v l) ≡ drop u l = put-drop-after (q - p) v l (omega arith) u (omega arith) in (
+          record { low = omega arith; high = omega arith },
+          ap (argTaken (λ m r g. go m r g (retimedOpens below)) (putTime (q - p) v l) p (retimedForest q v frame))
+              (time-read tag class l p item u w)
+              ∙ ap (λ (m : List ℕ). later u (go m (p + u) (snoc (retimedForest q v frame) (withTime v item) nil)
+              (retimedOpens below))) same
+              ∙ ap (λ (g : Forest). later u (go (drop u l) (p + u) g (retimedOpens below)))
+              (ap (λ (i : Item). snoc (retimedForest q v frame) i nil) (sym (retimed-at q v item a)) ∙ snoc-retimed q v frame item nil)
+              ∙ ap (later u) (passes (drop u l) (p + u) (snoc frame item nil) below (omega arith))
+              ∙ later-retimed u (go (drop u l) (p + u) (snoc frame item nil) below)
+              ∙ ap retimedArgs f,
+        )
 
     after-it : R (drop u l) (p + u) → Goal
     after-it r =
@@ -278,16 +282,18 @@ module _ (q v : ℕ) (small : v < 2 ^ 64) where
         let fits : q - p + 8 ≤ length l = omega (arith, length-drop u l) in
         let less : q - p - u ≡ q - (p + u) = omega arith in
         let bytes : drop u (putTime (q - p) v l) ≡ putTime (q - (p + u)) v (drop u l)
-        = put-drop-before (q - p) v l fits u (omega arith) ∙ ap (λ (k : ℕ). putTime k v (drop u l)) less in
-        (record { low = omega arith; high = omega (arith, length-drop u l) },
-        ap (argTaken (λ m r g. go m r g (retimedOpens below)) (putTime (q - p) v l) p (retimedForest q v frame))
-        (arg-front l (putTime (q - p) v l) p (put-length (q - p) v l fits) tag class item u e (put-take-before (q - p) v l fits u (omega arith)))
-        ∙ ap (λ (m : List ℕ). later u (go m (p + u) (snoc (retimedForest q v frame) item nil) (retimedOpens below))) bytes
-        ∙ ap (later u) (taken-same go (putTime (q - (p + u)) v (drop u l)) (p + u) u frame item below
-        (λ a. let t = arg-time q tag class l p item u e s a in
-        let at : q ≡ p = t .place-is in let eight : u ≡ 8 = t .used-is in omega arith))
-        ∙ ap (later u) (v' .1)
-        ∙ ap (λ (k : ℕ). args (retimedForest q v kept) k) (sym (w .2)))
+        = put-drop-before (q - p) v l fits u (omega arith) ∙ ap (λ (k : ℕ). putTime k v (drop u l)) less in (
+          record { low = omega arith; high = omega (arith, length-drop u l) },
+          ap (argTaken (λ m r g. go m r g (retimedOpens below)) (putTime (q - p) v l) p (retimedForest q v frame))
+              (arg-front l (putTime (q - p) v l) p (put-length (q - p) v l fits) tag class item u e
+              (put-take-before (q - p) v l fits u (omega arith)))
+              ∙ ap (λ (m : List ℕ). later u (go m (p + u) (snoc (retimedForest q v frame) item nil) (retimedOpens below))) bytes
+              ∙ ap (later u) (taken-same go (putTime (q - (p + u)) v (drop u l)) (p + u) u frame item below
+              (λ a. let t = arg-time q tag class l p item u e s a in
+              let at : q ≡ p = t .place-is in let eight : u ≡ 8 = t .used-is in omega arith))
+              ∙ ap (later u) (v' .1)
+              ∙ ap (λ (k : ℕ). args (retimedForest q v kept) k) (sym (w .2)),
+        )
 
   reached-act : (sort : Sort) (tag : ℕ) → sort ≡ sortOf tag → (go : List ℕ → ℕ → Forest → List Open → Args) (R : List ℕ → ℕ → Type 0)
       → Passes go → Reads go R → Reads (λ l p frame below. act sort go 0 tag l p frame below) (ReachedSort q sort R tag)
@@ -303,7 +309,8 @@ module _ (q v : ℕ) (small : v < 2 ^ 64) where
       by-arg : (x : Arg) → readArg tag class 0 l p ≡ x → ReachedArg q R l p x
           → argTaken (λ m t f. go m t f below) l p frame x ≡ args kept used
           → Placed q l p
-          × (act (Leaf class) go 0 tag (putTime (q - p) v l) p (retimedForest q v frame) (retimedOpens below) ≡ args (retimedForest q v kept) used)
+          × (act (Leaf class) go 0 tag (putTime (q - p) v l) p (retimedForest q v frame) (retimedOpens below) ≡ args
+          (retimedForest q v kept) used)
       by-arg (arg.Refused k) d a f = absurd a
       by-arg (arg.Given item u) d (inl a) f = here class tag s go R passes reads l p frame below kept used item u d f a
       by-arg (arg.Given item u) d (inr a) f = after-it class tag s go R passes reads l p frame below kept used item u d f a

@@ -118,7 +118,8 @@ module _ (by : ℕ) (l : List ℕ) where
   abbrev pub Restores : Forest → Type 0
   Restores nil = Unit {0}
   Restores (node item inside rest) =
-      (hasTime (item .kind) ≡ true → bytes 8 (shifted (timeIn item) by) ≡ take 8 (drop (timePlace item) l)) × Restores inside × Restores rest
+      (hasTime (item .kind) ≡ true
+      → bytes 8 (shifted (timeIn item) by) ≡ take 8 (drop (timePlace item) l)) × Restores inside × Restores rest
 
   one-back : (item : Item) → (hasTime (item .kind) ≡ true → bytes 8 (shifted (timeIn item) by) ≡ take 8 (drop (timePlace item) l))
       → (m : List ℕ) → (hasTime (item .kind) ≡ true → timePlace item + 8 ≤ length m) → (i : ℕ)

@@ -64,9 +64,10 @@ module _ {A : Type 0} (adds : FrameAdds A) where
       by-room false g h = let z : _≡_ {A = ℕ} 0 1 = cc in absurd (omega arith)
       by-room true g h =
           let size-is : n ≡ u = cc in
-          let adds-is : adds base (take n l) item f ≡ a = cc in
-          (record { item = item; inner = f; reads = e ∙ ap (λ (k : ℕ). read (one item f k)) size-is; few = g },
-          sym adds-is ∙ ap (λ (k : ℕ). adds base (take k l) item f) size-is)
+          let adds-is : adds base (take n l) item f ≡ a = cc in (
+            record { item = item; inner = f; reads = e ∙ ap (λ (k : ℕ). read (one item f k)) size-is; few = g },
+            sym adds-is ∙ ap (λ (k : ℕ). adds base (take k l) item f) size-is,
+          )
 
   taken : (base : ℕ) (l : List ℕ) (u : ℕ) (a : A) → judgeOf recorded adds base l ≡ takes u a
       → (t : Taken l u) × (a ≡ adds base (take u l) (t .item) (t .inner))
@@ -116,11 +117,19 @@ module _ (l : List ℕ) (u : ℕ) (room : u ≤ length l) (t : Taken l u) where
       ∙ ap (takes u) (frame-back deepest own (take-small u l small) u tree own-frame x y o)
 
   -- their record is the same
-  cue-taken : AreBytes l → (by base : ℕ) → judgeOf recorded entryAdds base (slidBytes by tree own) ≡ takes u (entryAdds base own (t .item) (t .inner))
+  cue-taken : AreBytes l → (by base : ℕ)
+      → judgeOf recorded entryAdds base (slidBytes by tree own) ≡ takes u (entryAdds base own (t .item) (t .inner))
   unfolding slid-taken
   cue-taken small by base =
       takes-it entryAdds base (slidBytes by tree own) u (slid-taken small by)
       ∙ rw (slid-all by, slid-long by, size-slid by (t .inner), length-take-le u l room)
+
+-- what a frame adds is as long as the frame
+pub taken-long : (by base : ℕ) (l : List ℕ) (u : ℕ) (a : List ℕ) → sliding by .judge base l ≡ takes u a → length a ≡ u
+taken-long by base l u a e =
+    let t = taken (slideAdds by) base l u a e in
+    let w = subst (Inside (length l)) e (inside recorded (slideAdds by) base l) in
+    ap length (t .1) ∙ slid-long l u (w .1) (t .0) by
 
 -- ---- a recording
 
@@ -156,13 +165,13 @@ module _ (by : ℕ) where
   long-framed {base} (lacks some e) = omega arith
   long-framed {base} (fails some e) = omega arith
   long-framed {base} {at} {l} (frame {u = u} {a = a} {sum = sum} some e h r) =
-      let t = taken (slideAdds by) base l u a e in
-      let first : length a ≡ u = ap length (t .1) ∙ slid-long l u (h .1) (t .0) by in
+      let first : length a ≡ u = taken-long by base l u a e in
       omega (arith, length-append a sum, long-framed r, framed-in r .0)
 
   -- ---- where it stops
 
-  waits-alike : (base : ℕ) (l : List ℕ) (x : Frame) → judged recorded (slideAdds by) base l x ≡ waits → judged recorded entryAdds base l x ≡ waits
+  waits-alike : (base : ℕ) (l : List ℕ) (x : Frame) → judged recorded (slideAdds by) base l x ≡ waits
+      → judged recorded entryAdds base l x ≡ waits
   waits-alike base l wait e = refl
   waits-alike base l (read (fault k)) e = let z : _≡_ {A = ℕ} 0 1 = cc in absurd (omega arith)
   waits-alike base l (refused k) e = let z : _≡_ {A = ℕ} 0 1 = cc in absurd (omega arith)
@@ -208,14 +217,17 @@ module _ (by : ℕ) where
       let entry = entryAdds base (take u l) (t .0 .item) (t .0 .inner) in
       let judge : indexing .judge base a ≡ takes u entry
       = ap (λ (m : List ℕ). judgeOf recorded entryAdds base m) (t .1) ∙ cue-taken l u (h .1) (t .0) small by base in
-      let long : length a ≡ u = ap length (t .1) ∙ slid-long l u (h .1) (t .0) by in
-      (entry ++ w .0, frame some (takes-it entryAdds base l u (t .0)) h (w .1),
-      joined-frame indexing indexing-sound base u at a sum entry (w .0) end.Whole long (h .0) judge (w .2))
+      let long : length a ≡ u = ap length (t .1) ∙ slid-long l u (h .1) (t .0) by in (
+        entry ++ w .0,
+        frame some (takes-it entryAdds base l u (t .0)) h (w .1),
+        joined-frame indexing indexing-sound base u at a sum entry (w .0) end.Whole long (h .0) judge (w .2),
+      )
 
 module _ (x y : ℕ) (opposite : shifted x y ≡ 0) where
   back-framed : {base at : ℕ} {l w : List ℕ} {why : End} → AreBytes l → Framed (sliding x) base l (folded w at why)
       → slideOf y base w ≡ folded (take (at - base) l) at end.Whole
-  back-framed {base} small ends = none-of (sliding y) (sliding-sound y) base ∙ ap (λ (m : List ℕ). folded m base end.Whole) (none-read base [])
+  back-framed {base} small ends = none-of (sliding y) (sliding-sound y) base ∙ ap (λ (m : List ℕ). folded m base end.Whole)
+      (none-read base [])
   back-framed {base} {l = l} small (lacks some e) =
       none-of (sliding y) (sliding-sound y) base ∙ ap (λ (m : List ℕ). folded m base end.Whole) (none-read base l)
   back-framed {base} {l = l} small (fails some e) =
@@ -239,7 +251,8 @@ zero-framed {base} {at} {l} small (frame {u = u} {a = a} {sum = sum} some e h r)
     rw (first, zero-framed (drop-small u l small) r) (sym (read-split base u at l (framed-in r .0)))
 
 -- a slide frame by frame
-frames-of : (by base : ℕ) (l w : List ℕ) (at : ℕ) (why : End) → slideOf by base l ≡ folded w at why → Framed (sliding by) base l (folded w at why)
+frames-of : (by base : ℕ) (l w : List ℕ) (at : ℕ) (why : End) → slideOf by base l ≡ folded w at why
+    → Framed (sliding by) base l (folded w at why)
 frames-of by base l w at why e = subst (Framed (sliding by) base l) e (framed (sliding by) (sliding-sound by .inside) base l)
 
 pub same-long : SameLong

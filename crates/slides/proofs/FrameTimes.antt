@@ -34,7 +34,8 @@ module _ (q v : ℕ) where
   retimed-kind item = by-test (λ (i : Item). i .kind ≡ item .kind) (hasTime (item .kind) && eqb (timePlace item) q) (λ _. refl) (λ _. refl)
 
   pub retimed-start : (item : Item) → retimed q v item .start ≡ item .start
-  retimed-start item = by-test (λ (i : Item). i .start ≡ item .start) (hasTime (item .kind) && eqb (timePlace item) q) (λ _. refl) (λ _. refl)
+  retimed-start item = by-test (λ (i : Item). i .start ≡ item .start) (hasTime (item .kind) && eqb (timePlace item) q) (λ _. refl)
+      (λ _. refl)
 
   pub size-retimed : (f : Forest) → size (retimedForest q v f) ≡ size f
   unfolding size retimedForest
@@ -68,7 +69,8 @@ module _ (q v : ℕ) where
         by-left true x false y z = let w : _≡_ {A = ℕ} 0 1 = cc in absurd (omega arith)
         by-left true x true y z = ((cc), eqb-true m n x, rw (x, depth-retimed (node i g nil), y))
 
-    by-packet : (n : ℕ) → cut.Cuts n ≡ lengthOf l → wholly limit (4 + n) (after 4 (readPacket 0 (take n (drop 4 l)) 4)) ≡ read (one item f used)
+    by-packet : (n : ℕ) → cut.Cuts n ≡ lengthOf l
+        → wholly limit (4 + n) (after 4 (readPacket 0 (take n (drop 4 l)) 4)) ≡ read (one item f used)
         → Goal
     unfolding cutFrame
     by-packet n c d = by-out (readPacket 0 (take n (drop 4 l)) 4) refl d
@@ -93,15 +95,18 @@ module _ (q v : ℕ) where
             let same : lengthOf l' ≡ cut.Cuts n = length-same l l' long (put-take-before q v l room 4 low) ∙ sym c in
             let body : take n (drop 4 l') ≡ putTime (q - 4) v (take n (drop 4 l))
             = ap (take n) (put-drop-before q v l room 4 low)
-            ∙ put-take-after (q - 4) v (drop 4 l) (omega (arith, length-drop 4 l)) n (omega arith) in
-            (low, (omega (arith, t .1)), (omega (arith, t .1)),
-            ap (cutWith limit 0 l') same
-            ∙ ap (λ (y : List ℕ). wholly limit (4 + n) (after 4 (readPacket 0 y 4))) body
-            ∙ ap (λ (y : Out). wholly limit (4 + n) (after 4 y)) (w .1)
-            ∙ t .2
-            ∙ ap (λ (j : Item). read (one (retimed q v j) (retimedForest q v g) (4 + m))) item-is
-            ∙ ap (λ (h : Forest). read (one (retimed q v item) (retimedForest q v h) (4 + m))) inside-is
-            ∙ ap (λ (k : ℕ). read (one (retimed q v item) (retimedForest q v f) k)) used-is)
+            ∙ put-take-after (q - 4) v (drop 4 l) (omega (arith, length-drop 4 l)) n (omega arith) in (
+              low,
+              (omega (arith, t .1)),
+              (omega (arith, t .1)),
+              ap (cutWith limit 0 l') same
+                  ∙ ap (λ (y : List ℕ). wholly limit (4 + n) (after 4 (readPacket 0 y 4))) body
+                  ∙ ap (λ (y : Out). wholly limit (4 + n) (after 4 y)) (w .1)
+                  ∙ t .2
+                  ∙ ap (λ (j : Item). read (one (retimed q v j) (retimedForest q v g) (4 + m))) item-is
+                  ∙ ap (λ (h : Forest). read (one (retimed q v item) (retimedForest q v h) (4 + m))) inside-is
+                  ∙ ap (λ (k : ℕ). read (one (retimed q v item) (retimedForest q v f) k)) used-is,
+            )
 
     -- a time tag of a frame
     pub frame-retimed : Goal

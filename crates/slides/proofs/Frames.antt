@@ -71,19 +71,23 @@ module _ (l : List ℕ) (small : AreBytes l) where
   -- a slide by nothing writes what stands there
   none-restores : (g : Forest) → TimesAre (λ q. number 8 (drop q l)) g → FitsIn (length l) g → Restores 0 l g
   none-restores nil w h = tt
-  none-restores (node item inside rest) w h =
-      ((λ k. let e = w .0 k in let s = tag-small (timePlace item) in
-      tag-bytes (shifted (timeIn item) 0) (timePlace item) (h (timePlace item) (inl (k, refl))) (omega arith)),
-      none-restores inside (w .1) (λ q a. h q (inr (inl a))), none-restores rest (w .2) (λ q a. h q (inr (inr a))))
+  none-restores (node item inside rest) w h = (
+    (λ k. let e = w .0 k in let s = tag-small (timePlace item) in
+        tag-bytes (shifted (timeIn item) 0) (timePlace item) (h (timePlace item) (inl (k, refl))) (omega arith)),
+    none-restores inside (w .1) (λ q a. h q (inr (inl a))),
+    none-restores rest (w .2) (λ q a. h q (inr (inr a))),
+  )
 
   -- so does a slide back
   back-restores : (x y : ℕ) → shifted x y ≡ 0 → (g : Forest) → TimesAre (λ q. number 8 (drop q l)) g → FitsIn (length l) g
       → Restores y l (slidForest x g)
   unfolding slidForest
   back-restores x y o nil w h = tt
-  back-restores x y o (node item inside rest) w h =
-      (own (hasTime (item .kind)) refl,
-      back-restores x y o inside (w .1) (λ q a. h q (inr (inl a))), back-restores x y o rest (w .2) (λ q a. h q (inr (inr a))))
+  back-restores x y o (node item inside rest) w h = (
+    own (hasTime (item .kind)) refl,
+    back-restores x y o inside (w .1) (λ q a. h q (inr (inl a))),
+    back-restores x y o rest (w .2) (λ q a. h q (inr (inr a))),
+  )
     where
       own : (b : Bool) → hasTime (item .kind) ≡ b
           → (hasTime ((cond b (withTime (shifted (timeIn item) x) item) item) .kind) ≡ true)
@@ -121,7 +125,8 @@ frame-slides limit by l item inside used small e =
     let i : slidItem by item ≡ r .0 .item = cc (r .0 .tree) in
     let f : slidForest by inside ≡ r .0 .inside = cc (r .0 .tree) in
     record {
-      reads = r .0 .reads ∙ ap (λ (x : Item). read (one x (r .0 .inside) used)) (sym i) ∙ ap (λ (x : Forest). read (one (slidItem by item) x used)) (sym f);
+      reads = r .0 .reads ∙ ap (λ (x : Item). read (one x (r .0 .inside) used)) (sym i) ∙ ap
+          (λ (x : Forest). read (one (slidItem by item) x used)) (sym f);
       long = r .1;
       only = λ n. only-times by t l (fits limit l small used t w) n;
     }

@@ -66,9 +66,12 @@ unfolding noted
 all-noted nil P = tt
 all-noted (node item inside rest) P =
     let here : hasTime (item .kind) ≡ true → noteOne item P (timePlace item) ≡ true
-    = λ h. rw (h, eq-eqb (timePlace item) (timePlace item) refl) in
-    ((λ h. noted-stays rest (noted inside (noteOne item P)) (timePlace item) (noted-stays inside (noteOne item P) (timePlace item) (here h))),
-    all-more rest inside (noted inside (noteOne item P)) (all-noted inside (noteOne item P)), all-noted rest (noted inside (noteOne item P)))
+    = λ h. rw (h, eq-eqb (timePlace item) (timePlace item) refl) in (
+      (λ h. noted-stays rest (noted inside (noteOne item P)) (timePlace item)
+          (noted-stays inside (noteOne item P) (timePlace item) (here h))),
+      all-more rest inside (noted inside (noteOne item P)) (all-noted inside (noteOne item P)),
+      all-noted rest (noted inside (noteOne item P)),
+    )
 
 module _ (by : ℕ) (N : ℕ → ℕ) where
   -- the time tag of a node set by its place, where that is noted
@@ -85,7 +88,8 @@ module _ (by : ℕ) (N : ℕ → ℕ) where
   marked-is P item e f = rw (e, f)
 
   marked-not : (P : ℕ → Bool) (item : Item) → P (timePlace item) ≡ false → markedItem P item ≡ item
-  marked-not P item f = ap (λ (c : Bool). cond (hasTime (item .kind) && c) (withTime (shifted (N (timePlace item)) by) item) item) f ∙ none (hasTime (item .kind))
+  marked-not P item f = ap (λ (c : Bool). cond (hasTime (item .kind) && c) (withTime (shifted (N (timePlace item)) by) item) item) f
+      ∙ none (hasTime (item .kind))
     where
       none : (b : Bool) → cond (b && false) (withTime (shifted (N (timePlace item)) by) item) item ≡ item
       none true = refl
@@ -192,4 +196,5 @@ module _ (by : ℕ) (N : ℕ → ℕ) where
   -- all time tags of some trees, set one after another, are those trees slid
   pub retimed-slid : (t : Forest) → TimesAre N t → retimeAll by t t ≡ slidForest by t
   retimed-slid t w =
-      ap (retimeAll by t) (sym (none-marked t)) ∙ all-marked t w (λ r. false) t ∙ marked-slid (noted t (λ r. false)) t w (all-noted t (λ r. false))
+      ap (retimeAll by t) (sym (none-marked t)) ∙ all-marked t w (λ r. false) t ∙ marked-slid (noted t (λ r. false)) t w
+      (all-noted t (λ r. false))

@@ -29,13 +29,15 @@ use Rattle.heads.specs.declared.ElementSize.the-variants as sizes
 use Rattle.heads.proofs.Heads.{SizeIn, size-within}
 use Rattle.packet.specs.FirstText.{startBy, startOf}
 use Rattle.packet.specs.Packet.{Out, fault, one, Elements, upto, after, messageWith, typesThen, readMessage, bundleWith, bundleBy}
-use Rattle.packet.specs.Packet.{filling, heldBy, elementBy, joined, goOn, elementsBy, startedBy, packetBy, packetAt, elementsAt, readPacket}
+use Rattle.packet.specs.Packet.{filling, heldBy, elementBy, joined, goOn}
+use Rattle.packet.specs.Packet.{elementsBy, startedBy, packetBy, packetAt, elementsAt, readPacket}
 use Rattle.packet.specs.declared.Start.{Start}
 use Rattle.packet.specs.declared.Start.the-variants as start
 use Rattle.packet.proofs.FirstText.{message-start-in, bundle-start-in, message-text, bundle-text}
 use Rattle.packet.proofs.Items.{HasItem, message-item}
 use Rattle.slides.specs.Slides.{hasTime, timePlace, withTime, putTime}
-use Rattle.slides.proofs.Puts.{put-length, put-take-before, put-drop-before, put-drop-after, put-take-after, put-high, put-low, drop-take}
+use Rattle.slides.proofs.Puts.{put-length, put-take-before, put-drop-before, put-drop-after}
+use Rattle.slides.proofs.Puts.{put-take-after, put-high, put-low, drop-take}
 use Rattle.slides.proofs.Fronts.{number-front, number-later, text-front}
 use Rattle.slides.proofs.Times.{AtPlace, TimeAt, retimed, retimedForest, retimed-at, retimed-not, forest-not, Placed}
 use Rattle.slides.proofs.ArgTimes.{args-retimed}
@@ -137,14 +139,15 @@ module _ (q v : ℕ) (small : v < 2 ^ 64) where
           let front = after-take l p used in-it (w .0) in
           let l' = putTime (q - p) v l in
           let word : take m l' ≡ take m l
-          = sym (take-take m used l' (omega arith)) ∙ ap (take m) front ∙ take-take m used l (omega arith) in
-          (after-placed l p used in-it (w .0),
-          ap (typesThen 0 item l' p) (text-front l l' p (after-long l p used in-it (w .0)) m used d front)
-          ∙ ap (λ (t : List ℕ). after used (messageWith item (readArgs 0 (tagsIn t) (drop used l') (p + used)))) word
-          ∙ ap (λ (t : List ℕ). after used (messageWith item (readArgs 0 (tagsIn (take m l)) t (p + used))))
-          (after-drop l p used in-it (w .0))
-          ∙ ap (λ (y : Args). after used (messageWith item y)) (w .1)
-          ∙ cc (k .1, o .2))
+          = sym (take-take m used l' (omega arith)) ∙ ap (take m) front ∙ take-take m used l (omega arith) in (
+            after-placed l p used in-it (w .0),
+            ap (typesThen 0 item l' p) (text-front l l' p (after-long l p used in-it (w .0)) m used d front)
+                ∙ ap (λ (t : List ℕ). after used (messageWith item (readArgs 0 (tagsIn t) (drop used l') (p + used)))) word
+                ∙ ap (λ (t : List ℕ). after used (messageWith item (readArgs 0 (tagsIn (take m l)) t (p + used))))
+                (after-drop l p used in-it (w .0))
+                ∙ ap (λ (y : Args). after used (messageWith item y)) (w .1)
+                ∙ cc (k .1, o .2),
+          )
 
   -- ---- bundles
 
@@ -174,9 +177,10 @@ module _ (q v : ℕ) (small : v < 2 ^ 64) where
         let front : take 8 l' ≡ take 8 l = after-take l p 8 fits (w .0) in
         let back : drop 8 l' ≡ putTime (q - (p + 8)) v (drop 8 l) = after-drop l p 8 fits (w .0) in
         let own : retimed q v (bundleItem s l) ≡ bundleItem s l
-        = retimed-not q v (bundleItem s l) (λ b. let low : p + 8 ≤ q = w .0 .low in omega (arith, b .1, at)) in
-        (after-placed l p 8 fits (w .0),
-        rw (long, le-leb 8 (length l) fits, back, w .1, number-front 4 8 l l' (omega arith) front, number-later l l' front, own))
+        = retimed-not q v (bundleItem s l) (λ b. let low : p + 8 ≤ q = w .0 .low in omega (arith, b .1, at)) in (
+          after-placed l p 8 fits (w .0),
+          rw (long, le-leb 8 (length l) fits, back, w .1, number-front 4 8 l l' (omega arith) front, number-later l l' front, own),
+        )
 
     bundle-retimed : (s : ℕ) (l : List ℕ) (p : ℕ) → padded (s + 8) ≡ p → (item : Item) (f : Forest) (u : ℕ)
         → bundleBy s es l p ≡ one item f u → TimeAt q (node item f nil)
@@ -197,11 +201,12 @@ module _ (q v : ℕ) (small : v < 2 ^ 64) where
             (λ b. let here : q ≡ p = sym (b .1) ∙ ap timePlace (sym (w .2)) ∙ at in
             (record { low = omega arith; high = omega arith }, bundle-own s l p at fits here f (w .0) (w .1)))
             (⊎-elim (λ b. bundle-inner s l p at fits f (w .0) (w .1) b) (λ (b : ⊥). absurd b))
-            a in
-            (r .0,
-            r .1
-            ∙ ap (λ (i : Item). one (retimed q v i) (retimedForest q v f) (8 + w .0)) (w .2)
-            ∙ ap (λ (k : ℕ). one (retimed q v item) (retimedForest q v f) k) (sym (w .3)))
+            a in (
+              r .0,
+              r .1
+                  ∙ ap (λ (i : Item). one (retimed q v i) (retimedForest q v f) (8 + w .0)) (w .2)
+                  ∙ ap (λ (k : ℕ). one (retimed q v item) (retimedForest q v f) k) (sym (w .3)),
+            )
 
     -- ---- packets
 
@@ -225,12 +230,14 @@ module _ (q v : ℕ) (small : v < 2 ^ 64) where
             let w = message-retimed own (drop used l) (p + used) item f (o .0) (o .1) inner in
             let l' = putTime (q - p) v l in
             let same : startOf l' p ≡ start.Message n used
-            = start-front l l' p n used (after-long l p used in-it (w .0)) (sym (message-text l p (sym d))) (after-take l p used in-it (w .0)) ∙ d in
-            (after-placed l p used in-it (w .0),
-            ap (startedBy 0 es l' p) same
-            ∙ ap (λ (m : List ℕ). after used (readMessage 0 own m (p + used))) (after-drop l p used in-it (w .0))
-            ∙ ap (after used) (w .1)
-            ∙ cc (o .2, retimed-not q v item no))
+            = start-front l l' p n used (after-long l p used in-it (w .0)) (sym (message-text l p (sym d)))
+            (after-take l p used in-it (w .0)) ∙ d in (
+              after-placed l p used in-it (w .0),
+              ap (startedBy 0 es l' p) same
+                  ∙ ap (λ (m : List ℕ). after used (readMessage 0 own m (p + used))) (after-drop l p used in-it (w .0))
+                  ∙ ap (after used) (w .1)
+                  ∙ cc (o .2, retimed-not q v item no),
+            )
         by-start (start.Bundle used) d g =
             let o = after-is used (bundleBy (0 + p) es (drop used l) (p + used)) item f u g in
             let in-it : used ≤ length l = bundle-start-in l p (sym d) .1 in
@@ -240,22 +247,25 @@ module _ (q v : ℕ) (small : v < 2 ^ 64) where
             let w = bundle-retimed (0 + p) (drop used l) (p + used) at item f (o .0) (o .1) a in
             let l' = putTime (q - p) v l in
             let same : startOf l' p ≡ start.Bundle used
-            = start-front l l' p 7 used (after-long l p used in-it (w .0)) (sym text) (after-take l p used in-it (w .0)) ∙ d in
-            (after-placed l p used in-it (w .0),
-            ap (startedBy 0 es l' p) same
-            ∙ ap (λ (m : List ℕ). after used (bundleBy (0 + p) es m (p + used))) (after-drop l p used in-it (w .0))
-            ∙ ap (after used) (w .1)
-            ∙ cc (o .2))
+            = start-front l l' p 7 used (after-long l p used in-it (w .0)) (sym text) (after-take l p used in-it (w .0)) ∙ d in (
+              after-placed l p used in-it (w .0),
+              ap (startedBy 0 es l' p) same
+                  ∙ ap (λ (m : List ℕ). after used (bundleBy (0 + p) es m (p + used))) (after-drop l p used in-it (w .0))
+                  ∙ ap (after used) (w .1)
+                  ∙ cc (o .2),
+            )
 
     -- ---- elements
 
     module _ (pk : List ℕ → ℕ → Out) (hp : OutRetimed pk) where
       module _ (l : List ℕ) (p n : ℕ) (d : sizeOf l ≡ sizes.Holds n) (item : Item) (g : Forest) (m : ℕ)
-          (o : pk (take n (drop 4 l)) (p + 4) ≡ one item g m) (rest : Forest) (k : ℕ) (r : es (drop (4 + n) l) (p + (4 + n)) ≡ upto rest k) where
+          (o : pk (take n (drop 4 l)) (p + 4) ≡ one item g m) (rest : Forest) (k : ℕ)
+          (r : es (drop (4 + n) l) (p + (4 + n)) ≡ upto rest k) where
         abbrev Joined : Type 0
         Joined =
             Placed q l p
-            × (elementsBy pk es (putTime (q - p) v l) p ≡ upto (node (retimed q v item) (retimedForest q v g) (retimedForest q v rest)) (4 + n + k))
+            × (elementsBy pk es (putTime (q - p) v l) p ≡ upto (node (retimed q v item) (retimedForest q v g) (retimedForest q v rest))
+            (4 + n + k))
 
         fits : 4 + n ≤ length l
         fits = subst (SizeIn (length l)) d (size-within l)
@@ -296,12 +306,13 @@ module _ (q v : ℕ) (small : v < 2 ^ 64) where
             let body : take n (drop 4 l') ≡ putTime (q - (p + 4)) v (take n (drop 4 l))
             = ap (take n) inner ∙ put-take-after (q - (p + 4)) v (drop 4 l) (omega (arith, length-drop 4 l, fits)) n (omega arith) in
             let back : drop (4 + n) l' ≡ drop (4 + n) l = put-drop-after (q - p) v l room (4 + n) (omega arith) in
-            let none : retimedForest q v rest ≡ rest = forest-not q v rest (λ c. omega (arith, rest-low c)) in
-            (record { low = omega arith; high = omega (arith, fits) },
-            elements-are l' (retimed q v item) (retimedForest q v g) rest
-            (size-same l' (put-length (q - p) v l room) (put-take-before (q - p) v l room 4 (omega arith)))
-            (ap (λ (x : List ℕ). pk x (p + 4)) body ∙ w .1) (ap (λ (x : List ℕ). es x (p + (4 + n))) back ∙ r)
-            ∙ ap (λ (x : Forest). upto (node (retimed q v item) (retimedForest q v g) x) (4 + n + k)) (sym none))
+            let none : retimedForest q v rest ≡ rest = forest-not q v rest (λ c. omega (arith, rest-low c)) in (
+              record { low = omega arith; high = omega (arith, fits) },
+              elements-are l' (retimed q v item) (retimedForest q v g) rest
+                  (size-same l' (put-length (q - p) v l room) (put-take-before (q - p) v l room 4 (omega arith)))
+                  (ap (λ (x : List ℕ). pk x (p + 4)) body ∙ w .1) (ap (λ (x : List ℕ). es x (p + (4 + n))) back ∙ r)
+                  ∙ ap (λ (x : Forest). upto (node (retimed q v item) (retimedForest q v g) x) (4 + n + k)) (sym none),
+            )
 
         rest-retimed : TimeAt q rest → Joined
         rest-retimed a =
@@ -314,13 +325,14 @@ module _ (q v : ℕ) (small : v < 2 ^ 64) where
             let body : take n (drop 4 l') ≡ take n (drop 4 l) = sym (drop-take 4 n l') ∙ ap (drop 4) front ∙ drop-take 4 n l in
             let no : TimeAt q (node item g nil) → ⊥ = λ c. let b = first-high c in omega arith in
             let own : retimed q v item ≡ item = retimed-not q v item (λ c. no (inl c)) in
-            let same : retimedForest q v g ≡ g = forest-not q v g (λ c. no (inr (inl c))) in
-            (after-placed l p (4 + n) fits (w .0),
-            elements-are l' item g (retimedForest q v rest) (size-same l' (after-long l p (4 + n) fits (w .0)) four)
-            (ap (λ (x : List ℕ). pk x (p + 4)) body ∙ o)
-            (ap (λ (x : List ℕ). es x (p + (4 + n))) (after-drop l p (4 + n) fits (w .0)) ∙ w .1)
-            ∙ ap (λ (i : Item). upto (node i g (retimedForest q v rest)) (4 + n + k)) (sym own)
-            ∙ ap (λ (x : Forest). upto (node (retimed q v item) x (retimedForest q v rest)) (4 + n + k)) (sym same))
+            let same : retimedForest q v g ≡ g = forest-not q v g (λ c. no (inr (inl c))) in (
+              after-placed l p (4 + n) fits (w .0),
+              elements-are l' item g (retimedForest q v rest) (size-same l' (after-long l p (4 + n) fits (w .0)) four)
+                  (ap (λ (x : List ℕ). pk x (p + 4)) body ∙ o)
+                  (ap (λ (x : List ℕ). es x (p + (4 + n))) (after-drop l p (4 + n) fits (w .0)) ∙ w .1)
+                  ∙ ap (λ (i : Item). upto (node i g (retimedForest q v rest)) (4 + n + k)) (sym own)
+                  ∙ ap (λ (x : Forest). upto (node (retimed q v item) x (retimedForest q v rest)) (4 + n + k)) (sym same),
+            )
 
         all-retimed : TimeAt q (node item g rest) → Joined
         all-retimed (inl a) = first-retimed (inl a)
@@ -341,10 +353,14 @@ module _ (q v : ℕ) (small : v < 2 ^ 64) where
               → joined item g n (es (drop (4 + n) l) (p + (4 + n))) ≡ upto f u → Goal
           by-els n d item g m o j =
               let w = joined-is item g n (es (drop (4 + n) l) (p + (4 + n))) f u j in
-              let r = all-retimed l p n d item g m o (w .0) (w .1) (w .2) (subst (TimeAt q) (w .3) a) in
-              (r .0, r .1 ∙ ap (λ (x : Forest). upto (retimedForest q v x) (4 + n + w .1)) (sym (w .3)) ∙ ap (upto (retimedForest q v f)) (sym (w .4)))
+              let r = all-retimed l p n d item g m o (w .0) (w .1) (w .2) (subst (TimeAt q) (w .3) a) in (
+                r .0,
+                r .1 ∙ ap (λ (x : Forest). upto (retimedForest q v x) (4 + n + w .1)) (sym (w .3)) ∙ ap
+                    (upto (retimedForest q v f)) (sym (w .4)),
+              )
 
-          by-out : (n : ℕ) → sizeOf l ≡ sizes.Holds n → (o : Out) → pk (take n (drop 4 l)) (p + 4) ≡ o → goOn es l p (filling n o) ≡ upto f u → Goal
+          by-out : (n : ℕ) → sizeOf l ≡ sizes.Holds n → (o : Out) → pk (take n (drop 4 l)) (p + 4) ≡ o
+              → goOn es l p (filling n o) ≡ upto f u → Goal
           by-out n d (fault k) o g = none g
           by-out n d (one item g m) o j = by-els n d item g m o j
 

@@ -79,8 +79,12 @@ module _ (i v : ℕ) (l : List ℕ) (fits : i + 8 ≤ length l) where
       ap (λ (n : ℕ). take n (putTime i v l)) (sym sum)
       ∙ take-add (i + 8) k (putTime i v l)
       ∙ ap (λ (m : List ℕ). take (i + 8) m ++ take k (drop (i + 8) m)) put-joined
-      ∙ rw (take-at (take i l ++ bytes 8 v) (drop (i + 8) l) (i + 8) head-long,
-      drop-at (take i l ++ bytes 8 v) (drop (i + 8) l) (i + 8) head-long, front, back)
+      ∙ rw (
+        take-at (take i l ++ bytes 8 v) (drop (i + 8) l) (i + 8) head-long,
+        drop-at (take i l ++ bytes 8 v) (drop (i + 8) l) (i + 8) head-long,
+        front,
+        back,
+      )
       (append-assoc (take i l) (bytes 8 v) (take k (drop (i + 8) l)))
 
 -- ---- what is read there

@@ -98,9 +98,10 @@ module _ (limit : ℕ) where
           (cond b (retimedForest (timePlace item) (shifted (timeIn item) by) t) t)
           × (length (cond b (putTime (timePlace item) (shifted (timeIn item) by) l) l) ≡ length l)
       by-kind true e =
-          let r = place-room l used t w (timePlace item) (h e) in
-          (one-read l used t w (timePlace item) (h e) (shifted (timeIn item) by) (omega arith),
-          put-length (timePlace item) (shifted (timeIn item) by) l (omega (arith, r .near, r .high)))
+          let r = place-room l used t w (timePlace item) (h e) in (
+            one-read l used t w (timePlace item) (h e) (shifted (timeIn item) by) (omega arith),
+            put-length (timePlace item) (shifted (timeIn item) by) l (omega (arith, r .near, r .high)),
+          )
       by-kind false e = (w, refl)
 
   -- after some nodes
@@ -125,10 +126,11 @@ module _ (limit : ℕ) where
   fixed-times : (N : ℕ → ℕ) (g : Forest) → Fixed N g → TimesAre N g
   unfolding retimedForest
   fixed-times N nil h = tt
-  fixed-times N (node item inside rest) h =
-      (own,
-      fixed-times N inside (λ q a. let e = h q (inr (inl a)) in cc),
-      fixed-times N rest (λ q a. let e = h q (inr (inr a)) in cc))
+  fixed-times N (node item inside rest) h = (
+    own,
+    fixed-times N inside (λ q a. let e = h q (inr (inl a)) in cc),
+    fixed-times N rest (λ q a. let e = h q (inr (inr a)) in cc),
+  )
     where
       own : hasTime (item .kind) ≡ true → timeIn item ≡ N (timePlace item)
       own k =

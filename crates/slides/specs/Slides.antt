@@ -1,4 +1,5 @@
--- A recording that is slid: document 02, Ticket 13, over the frames that Ticket 5 accepts. Every place counts from the prefix of its frame.
+-- A recording that is slid: document 02, Ticket 13, over the frames that Ticket 5 accepts. Every place counts from the prefix of its
+-- frame.
 use mathlib.Core.Path.{_≡_}
 use mathlib.Core.Bool.{Bool, true, cond, _||_}
 use mathlib.Core.Logic.{_⊎_}
