@@ -10,3 +10,4 @@ pub mod Back
 pub mod Written
 pub mod Frames
 pub mod Files
+pub mod Examples
