@@ -31,7 +31,7 @@ use Rattle.slides.proofs.Times.{has-time, AtPlace, TimeAt, at-or-not, r
 use Rattle.slides.proofs.Times.{snoc-retimed, in-snoc, Placed}
 
 -- what was read before is counted
-later-is : (n : ℕ) (x : Args) (kept : Forest) (used : ℕ) → later n x ≡ args kept used
+pub later-is : (n : ℕ) (x : Args) (kept : Forest) (used : ℕ) → later n x ≡ args kept used
     → (m : ℕ) × (x ≡ args kept m) × (used ≡ n + m)
 later-is n (refused k) kept used e = let z : _≡_ {A = ℕ} 0 1 = cc in absurd (omega arith)
 later-is n (args f m) kept used e = (m, (cc), cc)
@@ -39,15 +39,15 @@ later-is n (args f m) kept used e = (m, (cc), cc)
 -- ---- one argument
 
 -- an argument with a time tag is a t, and its tag is its data
-record IsTime (q tag : ℕ) (class : Class) (l : List ℕ) (p : ℕ) (item : Item) (used : ℕ) : Type 0 where
-  class-is : class ≡ Eight
-  place-is : q ≡ p
-  item-is : item ≡ argItem 116 (0 + p) (number 4 l) (number 4 (drop 4 l))
-  tag-is : tag ≡ 116
-  used-is : used ≡ 8
-  fits : 8 ≤ length l
+pub record IsTime (q tag : ℕ) (class : Class) (l : List ℕ) (p : ℕ) (item : Item) (used : ℕ) : Type 0 where
+  pub class-is : class ≡ Eight
+  pub place-is : q ≡ p
+  pub item-is : item ≡ argItem 116 (0 + p) (number 4 l) (number 4 (drop 4 l))
+  pub tag-is : tag ≡ 116
+  pub used-is : used ≡ 8
+  pub fits : 8 ≤ length l
 
-arg-time : (q tag : ℕ) (class : Class) (l : List ℕ) (p : ℕ) (item : Item) (used : ℕ) → readArg tag class 0 l p ≡ arg.Given item used
+pub arg-time : (q tag : ℕ) (class : Class) (l : List ℕ) (p : ℕ) (item : Item) (used : ℕ) → readArg tag class 0 l p ≡ arg.Given item used
     → Leaf class ≡ sortOf tag → AtPlace q item → IsTime q tag class l p item used
 unfolding sortOf classOf readArg
 arg-time q tag class l p item used e s a =
@@ -87,17 +87,17 @@ arg-time q tag class l p item used e s a =
 
 module _ (q : ℕ) where
   -- an argument with its time tag there, or one that the later tags reach
-  abbrev ReachedArg : (List ℕ → ℕ → Type 0) → List ℕ → ℕ → Arg → Type 0
+  abbrev pub ReachedArg : (List ℕ → ℕ → Type 0) → List ℕ → ℕ → Arg → Type 0
   ReachedArg go l p (arg.Refused k) = ⊥
   ReachedArg go l p (arg.Given item used) = AtPlace q item ⊎ go (drop used l) (p + used)
 
-  abbrev ReachedSort : Sort → (List ℕ → ℕ → Type 0) → ℕ → List ℕ → ℕ → Type 0
+  abbrev pub ReachedSort : Sort → (List ℕ → ℕ → Type 0) → ℕ → List ℕ → ℕ → Type 0
   ReachedSort Opens go tag l p = go l p
   ReachedSort Closes go tag l p = go l p
   ReachedSort (Leaf class) go tag l p = ReachedArg go l p (readArg tag class 0 l p)
 
   -- these tags have a t whose data stands there
-  abbrev Reached : List ℕ → List ℕ → ℕ → Type 0
+  abbrev pub Reached : List ℕ → List ℕ → ℕ → Type 0
   Reached [] l p = ⊥
   Reached (tag ∷ tags) l p = ReachedSort (sortOf tag) (λ m r. Reached tags m r) tag l p
 
@@ -164,7 +164,7 @@ module _ (q v : ℕ) (small : v < 2 ^ 64) where
   retimedArgs (refused k) = refused k
   retimedArgs (args kept used) = args (retimedForest q v kept) used
 
-  abbrev retimedOpens : List Open → List Open
+  abbrev pub retimedOpens : List Open → List Open
   retimedOpens [] = []
   retimedOpens (waits outer item ∷ below) = waits (retimedForest q v outer) (retimed q v item) ∷ retimedOpens below
 
@@ -179,7 +179,7 @@ module _ (q v : ℕ) (small : v < 2 ^ 64) where
       → go m r (retimedForest q v f) (retimedOpens b) ≡ retimedArgs (go m r f b)
 
   -- and where they reach it: the number there is read
-  abbrev Reads : (List ℕ → ℕ → Forest → List Open → Args) → (List ℕ → ℕ → Type 0) → Type 0
+  abbrev pub Reads : (List ℕ → ℕ → Forest → List Open → Args) → (List ℕ → ℕ → Type 0) → Type 0
   Reads go R =
       (m : List ℕ) (r : ℕ) (f : Forest) (b : List Open) (kept : Forest) (used : ℕ) → R m r → go m r f b ≡ args kept used
       → Placed q m r × (go (putTime (q - r) v m) r (retimedForest q v f) (retimedOpens b) ≡ args (retimedForest q v kept) used)
@@ -315,7 +315,7 @@ module _ (q v : ℕ) (small : v < 2 ^ 64) where
       by-arg (arg.Given item u) d (inl a) f = here class tag s go R passes reads l p frame below kept used item u d f a
       by-arg (arg.Given item u) d (inr a) f = after-it class tag s go R passes reads l p frame below kept used item u d f a
 
-  tags-reached : (tags : List ℕ) → Reads (λ l p frame below. readTags 0 tags l p frame below) (Reached q tags)
+  pub tags-reached : (tags : List ℕ) → Reads (λ l p frame below. readTags 0 tags l p frame below) (Reached q tags)
   unfolding readTags
   tags-reached [] l p frame below kept used r e = absurd r
   tags-reached (tag ∷ tags) l p frame below kept used r e =

@@ -19,6 +19,7 @@ use Rattle.slides.specs.Laws.{AreBytes, SlidFrame, FrameSlides}
 use Rattle.slides.proofs.Times.{TimeAt}
 use Rattle.slides.proofs.Marks.{TimesAre}
 use Rattle.slides.proofs.Slid.{FrameIs, place-room, times-read, slid-read}
+use Rattle.slides.proofs.Dirt.{slid-dirt}
 use Rattle.slides.proofs.Back.{FitsIn, only-times, Restores, put-back}
 
 -- ---- a node that is slid has its time tag where it was
@@ -129,4 +130,5 @@ frame-slides limit by l item inside used small e =
           (λ (x : Forest). read (one (slidItem by item) x used)) (sym f);
       long = r .1;
       only = λ n. only-times by t l (fits limit l small used t w) n;
+      dirt = slid-dirt limit by l small used t w;
     }

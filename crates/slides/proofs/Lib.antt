@@ -7,6 +7,7 @@ pub mod FrameTimes
 pub mod Marks
 pub mod Slid
 pub mod Back
+pub mod Dirt
 pub mod Written
 pub mod Frames
 pub mod Files

@@ -29,6 +29,7 @@ use Rattle.heads.specs.declared.ElementSize.the-variants as sizes
 use Rattle.heads.proofs.Heads.{SizeIn, size-within}
 use Rattle.packet.specs.FirstText.{startBy, startOf}
 use Rattle.packet.specs.Packet.{Out, fault, one, Elements, upto, after, messageWith, typesThen, readMessage, bundleWith, bundleBy}
+use Rattle.packet.specs.Packet.{readElements, treesIn}
 use Rattle.packet.specs.Packet.{filling, heldBy, elementBy, joined, goOn}
 use Rattle.packet.specs.Packet.{elementsBy, startedBy, packetBy, packetAt, elementsAt, readPacket}
 use Rattle.packet.specs.declared.Start.{Start}
@@ -49,16 +50,16 @@ pub after-is : (n : ℕ) (o : Out) (item : Item) (f : Forest) (u : ℕ) → afte
 after-is n (fault k) item f u e = let z : _≡_ {A = ℕ} 0 1 = cc in absurd (omega arith)
 after-is n (one i g m) item f u e = (m, (cc), cc)
 
-message-is : (item : Item) (x : Args) (item' : Item) (f : Forest) (u : ℕ) → messageWith item x ≡ one item' f u
+pub message-is : (item : Item) (x : Args) (item' : Item) (f : Forest) (u : ℕ) → messageWith item x ≡ one item' f u
     → (x ≡ args f u) × (item ≡ item')
 message-is item (refused k) item' f u e = let z : _≡_ {A = ℕ} 0 1 = cc in absurd (omega arith)
 message-is item (args g m) item' f u e = ((cc), cc)
 
-bundle-is : (item : Item) (x : Elements) (item' : Item) (f : Forest) (u : ℕ) → bundleWith item x ≡ one item' f u
+pub bundle-is : (item : Item) (x : Elements) (item' : Item) (f : Forest) (u : ℕ) → bundleWith item x ≡ one item' f u
     → (m : ℕ) × (x ≡ upto f m) × (item ≡ item') × (u ≡ 8 + m)
 bundle-is item (upto g m) item' f u e = (m, (cc), (cc), cc)
 
-filling-is : (n : ℕ) (o : Out) (item : Item) (f : Forest) (u : ℕ) → filling n o ≡ one item f u
+pub filling-is : (n : ℕ) (o : Out) (item : Item) (f : Forest) (u : ℕ) → filling n o ≡ one item f u
     → (m : ℕ) × (o ≡ one item f m) × (u ≡ n)
 filling-is n (fault k) item f u e = let z : _≡_ {A = ℕ} 0 1 = cc in absurd (omega arith)
 filling-is n (one i g m) item f u e = (m, (cc), cc)
@@ -68,7 +69,7 @@ joined-is : (item : Item) (g : Forest) (n : ℕ) (x : Elements) (f : Forest) (u 
 joined-is item g n (upto rest m) f u e = (rest, m, refl, (cc), cc)
 
 -- a message has the own numbers that it is given
-message-own : (own : Item) (l : List ℕ) (p : ℕ) (item : Item) (f : Forest) (u : ℕ) → readMessage 0 own l p ≡ one item f u → own ≡ item
+pub message-own : (own : Item) (l : List ℕ) (p : ℕ) (item : Item) (f : Forest) (u : ℕ) → readMessage 0 own l p ≡ one item f u → own ≡ item
 message-own own l p item f u e = sym (subst (HasItem own) e (message-item 0 own l p))
 
 -- what a packet starts with is told by its own bytes
@@ -389,3 +390,11 @@ module _ (q v : ℕ) (small : v < 2 ^ 64) where
       let w = packet-at-retimed (length l) l p item f u e a in
       let long : length (putTime (q - p) v l) ≡ length l = put-length (q - p) v l (omega (arith, w .0 .low, w .0 .high)) in
       (w .0, ap (λ (n : ℕ). packetAt 0 n (putTime (q - p) v l) p) long ∙ w .1)
+
+  -- where a time tag of a bundle's elements stands
+  pub elements-placed : (l : List ℕ) (p : ℕ) → TimeAt q (treesIn (readElements 0 l p)) → Placed q l p
+  unfolding readElements
+  elements-placed l p a = by-elements (elementsAt 0 (length l) l p) refl a
+    where
+      by-elements : (x : Elements) → elementsAt 0 (length l) l p ≡ x → TimeAt q (treesIn x) → Placed q l p
+      by-elements (upto f u) e b = elements-at-retimed (length l) l p f u e b .0

@@ -71,24 +71,24 @@ module _ (limit : ℕ) where
   place-kept q r v (node item inside rest) (inr (inr a)) = inr (inr (place-kept q r v rest a))
 
   -- the time tags of g are all in t
-  abbrev Has : Forest → Forest → Type 0
+  abbrev pub Has : Forest → Forest → Type 0
   Has g t = (q : ℕ) → TimeAt q g → TimeAt q t
 
-  has-one : (by : ℕ) (item : Item) (g t : Forest) → Has g t → Has g (retimeOne by item t)
+  pub has-one : (by : ℕ) (item : Item) (g t : Forest) → Has g t → Has g (retimeOne by item t)
   has-one by item g t h q a = by-kind (hasTime (item .kind))
     where
       by-kind : (b : Bool) → TimeAt q (cond b (retimedForest (timePlace item) (shifted (timeIn item) by) t) t)
       by-kind true = place-kept q (timePlace item) (shifted (timeIn item) by) t (h q a)
       by-kind false = h q a
 
-  has-all : (by : ℕ) (f g t : Forest) → Has g t → Has g (retimeAll by f t)
+  pub has-all : (by : ℕ) (f g t : Forest) → Has g t → Has g (retimeAll by f t)
   unfolding retimeAll
   has-all by nil g t h = h
   has-all by (node item inside rest) g t h =
       has-all by rest g (retimeAll by inside (retimeOne by item t)) (has-all by inside g (retimeOne by item t) (has-one by item g t h))
 
   -- the frame and its tree after one node
-  one-slid : (by : ℕ) (item : Item) (l : List ℕ) (used : ℕ) (t : Forest) → FrameIs limit l used t
+  pub one-slid : (by : ℕ) (item : Item) (l : List ℕ) (used : ℕ) (t : Forest) → FrameIs limit l used t
       → (hasTime (item .kind) ≡ true → TimeAt (timePlace item) t)
       → FrameIs limit (slideOne by item l) used (retimeOne by item t) × (length (slideOne by item l) ≡ length l)
   one-slid by item l used t w h = by-kind (hasTime (item .kind)) refl

@@ -7,6 +7,8 @@ use lib.ListN.{length, getD, take}
 use Rattle.clock.specs.Shift.{shifted}
 use Rattle.node.specs.Forest.{Forest, nil, node}
 use Rattle.node.specs.declared.record.Item.{Item}
+use Rattle.text.specs.Text.{nonZero}
+use Rattle.argument.specs.Dirt.{keptPadding}
 use Rattle.results.specs.declared.End.{End}
 use Rattle.results.specs.declared.End.the-variants as end
 use Rattle.packet.specs.Packet.{one}
@@ -20,11 +22,13 @@ abbrev pub AreBytes : List ℕ → Type 0
 AreBytes l = (i : ℕ) → getD l i 0 < 256
 
 -- a frame after a slide, by the tree it had: it is read as the same tree with its time tags shifted, and takes as many bytes; "its bytes
--- differ in tags alone"
+-- differ in tags alone", and as many padding bytes are not zero (Ticket 8)
 pub record SlidFrame (limit by : ℕ) (l : List ℕ) (item : Item) (inside : Forest) (used : ℕ) (after : List ℕ) : Type 0 where
   pub reads : cutFrame limit 0 after ≡ read (one (slidItem by item) (slidForest by inside) used)
   pub long : length after ≡ length l
   pub only : (i : ℕ) → InTime i (node item inside nil) ⊎ (getD after i 0 ≡ getD l i 0)
+  pub dirt : nonZero (keptPadding 0 after (node (slidItem by item) (slidForest by inside) nil))
+      ≡ nonZero (keptPadding 0 l (node item inside nil))
 
 -- every frame that is accepted slides so
 abbrev pub FrameSlides : Type 0
