@@ -92,7 +92,8 @@ module _ (word : List ℕ) {dot : ℕ} {s : Numeral} {before : List ℕ} (d : do
   pub plain-whole : {r : Numeral} → length word ≤ dot → r ≡ joinedAs s (Is 0) → r ≡ plainOf word
   unfolding plainOf
   plain-whole {r} h f =
-      f ∙ ap (λ (x : Numeral). joinedAs x (Is 0)) seconds-is ∙ rw (le-ltb (length (untilByte 46 word)) (length word) (omega (arith, dot-is)))
+      f ∙ ap (λ (x : Numeral). joinedAs x (Is 0)) seconds-is ∙ rw
+      (le-ltb (length (untilByte 46 word)) (length word) (omega (arith, dot-is)))
 
   pub plain-part : {n r : Numeral} {rest : List ℕ} → dot < length word → rest ≡ drop (dot + 1) word → n ≡ nanosIn rest → r ≡ joinedAs s n
       → r ≡ plainOf word
@@ -130,7 +131,8 @@ module _ (word : List ℕ) {four : List ℕ} {x : Bool} (e : four ≡ take 4 wor
     second-test : sameBytes (take 1 word) (45 ∷ []) ≡ y
     second-test = ap (λ (l : List ℕ). sameBytes l (45 ∷ [])) (sym g) ∙ sym t
 
-    pub amount-minus : {p r : Numeral} {rest : List ℕ} → y ≡ true → rest ≡ drop 1 word → p ≡ plainOf rest → r ≡ oppositeOf p → r ≡ amountOf word
+    pub amount-minus : {p r : Numeral} {rest : List ℕ} → y ≡ true → rest ≡ drop 1 word → p ≡ plainOf rest → r ≡ oppositeOf p
+        → r ≡ amountOf word
     unfolding amountOf
     amount-minus {p} h d f o = o ∙ ap oppositeOf (f ∙ ap plainOf d) ∙ rw (first-test ∙ no, second-test ∙ h)
 

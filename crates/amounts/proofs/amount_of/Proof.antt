@@ -28,7 +28,8 @@ returns c =
     let p2 = c .before .before in
     let p5 = p2 .before .before .before in
     let s = p5 .before .before in
-    amount-hex (s .args .word .now) (p5 .front .ensures) (is-same (p2 .before .same .result) _ _ (p2 .before .same .ensures)) (p2 .if1 .taken)
+    amount-hex (s .args .word .now) (p5 .front .ensures) (is-same (p2 .before .same .result) _ _ (p2 .before .same .ensures))
+    (p2 .if1 .taken)
     (tail (s .args .word .now) 4) (c .hex-of .ensures)
 
 sub-plain-of : tie.Need-sub-plain-of
@@ -52,8 +53,10 @@ returns-2 c =
     let p7 = p6 .before in
     let p10 = p7 .before .before .before in
     let s = p10 .before .before in
-    amount-minus (s .args .word .now) (p10 .front .ensures) (is-same (p7 .before .same .result) _ _ (p7 .before .same .ensures)) (p7 .if1 .left)
-    (p6 .front2 .ensures) (is-same (p3 .before .same2 .result) _ _ (p3 .before .same2 .ensures)) (p3 .if2 .taken) (tail (s .args .word .now) 1)
+    amount-minus (s .args .word .now) (p10 .front .ensures) (is-same (p7 .before .same .result) _ _ (p7 .before .same .ensures))
+    (p7 .if1 .left)
+    (p6 .front2 .ensures) (is-same (p3 .before .same2 .result) _ _ (p3 .before .same2 .ensures)) (p3 .if2 .taken)
+    (tail (s .args .word .now) 1)
     (c .before .plain-of .ensures) (c .opposite-of .ensures)
 
 returns-3 : tie.Need-returns-3
@@ -63,7 +66,8 @@ returns-3 c =
     let p5 = p4 .before in
     let p8 = p5 .before .before .before in
     let s = p8 .before .before in
-    amount-plain (s .args .word .now) (p8 .front .ensures) (is-same (p5 .before .same .result) _ _ (p5 .before .same .ensures)) (p5 .if1 .left)
+    amount-plain (s .args .word .now) (p8 .front .ensures) (is-same (p5 .before .same .result) _ _ (p5 .before .same .ensures))
+    (p5 .if1 .left)
     (p4 .front2 .ensures) (is-same (p1 .before .same2 .result) _ _ (p1 .before .same2 .ensures)) (p1 .if2 .left) (c .plain-of2 .ensures)
 
 pub amount-of-spec : {M : Type 1} → statement M

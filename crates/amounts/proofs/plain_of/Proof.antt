@@ -11,7 +11,8 @@ returns c =
     let p3 = c .before .before .before in
     let p6 = p3 .before .before .before in
     let s = p6 .before .before in
-    plain-part (s .args .word .now) (p6 .until .ensures .2) (p3 .before .before .front .ensures) (p3 .before .decimal .ensures) (p3 .if1 .taken)
+    plain-part (s .args .word .now) (p6 .until .ensures .2) (p3 .before .before .front .ensures) (p3 .before .decimal .ensures)
+    (p3 .if1 .taken)
     (tail (s .args .word .now) (p6 .until .result + 1)) (c .before .nanos-of .ensures) (c .joined .ensures)
 
 returns-2 : tie.Need-returns-2
@@ -19,7 +20,8 @@ returns-2 c =
     let p1 = c .before in
     let p4 = p1 .before .before .before in
     let s = p4 .before .before in
-    plain-whole (s .args .word .now) (p4 .until .ensures .2) (p1 .before .before .front .ensures) (p1 .before .decimal .ensures) (p1 .if1 .left)
+    plain-whole (s .args .word .now) (p4 .until .ensures .2) (p1 .before .before .front .ensures) (p1 .before .decimal .ensures)
+    (p1 .if1 .left)
     (c .joined2 .ensures)
 
 pub plain-of-spec : {M : Type 1} → statement M
