@@ -27,8 +27,10 @@ use Rattle.folding.proofs.Cut.{read-is-whole}
 use Rattle.folding.proofs.Settled.{GivenAlone, given-alone}
 use Rattle.cues.specs.Cues.{recorded, mostInACue, entryOf, entryAdds, indexing, indexOf}
 use Rattle.cues.proofs.Folds.{indexing-sound, indexing-own}
+use Rattle.cues.proofs.Kept.{kept-is-short}
+use Rattle.folding.proofs.Buffers as buffers
 use Rattle.slides.specs.Slides.{slidItem, slidForest, slidBytes, slideAdds, sliding, slideOf}
-use Rattle.slides.specs.Laws.{AreBytes, SameLong, StopsAsIndex, ThereAndBack, ByZero, SameCues}
+use Rattle.slides.specs.Laws.{AreBytes, SameLong, StopsAsIndex, ThereAndBack, ByZero, SameCues, SlideAnyBuffers, SlideKeepsRoom}
 use Rattle.slides.proofs.Slid.{FrameIs, all-slid}
 use Rattle.slides.proofs.Frames.{size-slid, frame-zero, frame-back, frame-slides}
 
@@ -274,3 +276,11 @@ same-cues by base l w at why small e =
     let i = cues-framed by small (frames-of by base l w at why e) in
     let whole : indexOf base l ≡ folded (i .0) at why = framed-is indexing (indexing-sound .inside) (i .1) in
     i .2 ∙ sym (read-is-whole indexing indexing-sound indexing-own base l (i .0) at why whole)
+
+pub any-buffers : SlideAnyBuffers
+any-buffers by = buffers.any-buffers (sliding by) (sliding-sound by)
+
+pub keeps-room : SlideKeepsRoom
+keeps-room by base l w at why go e =
+    let i = stops-as-index by base l w at why e in
+    kept-is-short base l (i .0) at why go (i .1)

@@ -3,7 +3,7 @@ use mathlib.Core.Path.{_≡_}
 use mathlib.Core.Logic.{_⊎_}
 use mathlib.Core.List.{List}
 use Prim.Native.Nat.{ℕ, _-_, _<_}
-use lib.ListN.{length, getD, take}
+use lib.ListN.{length, getD, take, drop}
 use Rattle.clock.specs.Shift.{shifted}
 use Rattle.node.specs.Forest.{Forest, nil, node}
 use Rattle.node.specs.declared.record.Item.{Item}
@@ -13,9 +13,11 @@ use Rattle.results.specs.declared.End.{End}
 use Rattle.results.specs.declared.End.the-variants as end
 use Rattle.packet.specs.Packet.{one}
 use Rattle.framing.specs.Framing.{read, cutFrame}
-use Rattle.folding.specs.Folding.{folded}
+use Rattle.wire.specs.Limits.{longest}
+use Rattle.folding.specs.Folding.{folded, AnyBuffers}
+use Rattle.folding.specs.Walks.{MayContinue}
 use Rattle.cues.specs.Cues.{indexOf}
-use Rattle.slides.specs.Slides.{slidItem, slidForest, slidBytes, InTime, slideOf}
+use Rattle.slides.specs.Slides.{slidItem, slidForest, slidBytes, InTime, sliding, slideOf}
 
 -- every number of a list is one of a byte
 abbrev pub AreBytes : List ℕ → Type 0
@@ -61,3 +63,13 @@ abbrev pub SameCues : Type 0
 SameCues =
     (by base : ℕ) (l w : List ℕ) (at : ℕ) (why : End) → AreBytes l → slideOf by base l ≡ folded w at why
     → indexOf base w ≡ indexOf base (take (at - base) l)
+
+-- "one law for any row of buffers": through any of them it is the slide of the whole
+abbrev pub SlideAnyBuffers : Type 0
+SlideAnyBuffers = (by : ℕ) → AnyBuffers (sliding by)
+
+-- what waits leaves room in a buffer for a byte more, so that every recording can be slid
+abbrev pub SlideKeepsRoom : Type 0
+SlideKeepsRoom =
+    (by base : ℕ) (l w : List ℕ) (at : ℕ) (why : End) → MayContinue why → slideOf by base l ≡ folded w at why
+    → length (drop (at - base) l) < longest
