@@ -65,13 +65,13 @@ done-by (folded s at end) true true used why e =
     let b : end ≡ why = cc in
     cc
 
-step-is : {l table after table' : List ℕ} {by used : ℕ} {why : End} → Slides l by table (slide.Done used why) after table'
+pub step-is : {l table after table' : List ℕ} {by used : ℕ} {why : End} → Slides l by table (slide.Done used why) after table'
     → slideOf by 0 l ≡ folded (sumIn (slideOf by 0 l)) used why
 step-is {l} {table} {by = by} {used} {why} w = done-by (slideOf by 0 l) (leb (length l) longest)
     (leb tableSize (length table)) used why (w .answers)
 
 -- its first bytes are the slid ones
-step-front : {l table after table' : List ℕ} {by used : ℕ} {why : End} → Slides l by table (slide.Done used why) after table'
+pub step-front : {l table after table' : List ℕ} {by used : ℕ} {why : End} → Slides l by table (slide.Done used why) after table'
     → take used after ≡ sumIn (slideOf by 0 l)
 step-front {l} {by = by} {used} {why} w =
     let s = sumIn (slideOf by 0 l) in
