@@ -31,7 +31,7 @@ never : (f : Fold (List ℕ)) (k : Refusal) → slideDone f ≡ slide.Refused k 
 never (folded s at why) k e = let z : _≡_ {A = ℕ} 0 1 = cc in omega arith
 
 module _ (l : List ℕ) (count by : ℕ) (here : count ≤ length l) (short : length l ≤ longest) (table : List ℕ)
-(room : tableSize ≤ length table) where
+    (room : tableSize ≤ length table) where
   -- what is lent to the step
   abbrev own : List ℕ
   own = take (count - 0) (drop 0 l)
