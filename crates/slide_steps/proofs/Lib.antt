@@ -1,0 +1,4 @@
+pub mod Judged
+pub mod Fronts
+pub mod Frames
+pub mod Walks

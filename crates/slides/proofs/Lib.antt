@@ -1,0 +1,14 @@
+pub mod Puts
+pub mod Fronts
+pub mod Times
+pub mod ArgTimes
+pub mod PacketTimes
+pub mod FrameTimes
+pub mod Marks
+pub mod Slid
+pub mod Back
+pub mod Dirt
+pub mod Written
+pub mod Frames
+pub mod Files
+pub mod Examples

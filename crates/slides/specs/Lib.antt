@@ -1,0 +1,4 @@
+pub mod Slides
+pub mod Laws
+pub mod CodeSlides
+pub mod Examples
