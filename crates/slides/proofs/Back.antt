@@ -14,7 +14,7 @@ use Rattle.wire.proofs.Numbers.{length-bytes, bytes-read, number-small}
 use Rattle.wire.proofs.Parts.{drop-small}
 use Rattle.node.specs.Forest.{Forest, nil, node}
 use Rattle.node.specs.declared.record.Item.{Item}
-use Rattle.slides.specs.Slides.{hasTime, timeIn, timePlace, withTime, slidItem, slidForest, putTime, slideOne, slidBytes, InTime}
+use Rattle.slides.specs.Slides.{hasTime, timeTagOf, timePlace, withTime, slidItem, slidForest, putTime, slideOne, slidBytes, InTime}
 use Rattle.slides.proofs.Puts.{put-length, put-take-before, put-drop-before, put-drop-after}
 use Rattle.slides.proofs.Times.{AtPlace, TimeAt}
 use Rattle.slides.proofs.Marks.{TimesAre}
@@ -72,8 +72,8 @@ module _ (by : ℕ) where
   one-long item m h = by-kind (hasTime (item .kind)) refl
     where
       by-kind : (b : Bool) → hasTime (item .kind) ≡ b
-          → length (cond b (putTime (timePlace item) (shifted (timeIn item) by) m) m) ≡ length m
-      by-kind true e = put-length (timePlace item) (shifted (timeIn item) by) m (h e)
+          → length (cond b (putTime (timePlace item) (shifted (timeTagOf item) by) m) m) ≡ length m
+      by-kind true e = put-length (timePlace item) (shifted (timeTagOf item) by) m (h e)
       by-kind false e = refl
 
   one-same : (item : Item) (m : List ℕ) → (hasTime (item .kind) ≡ true → timePlace item + 8 ≤ length m) → (i : ℕ)
@@ -82,9 +82,9 @@ module _ (by : ℕ) where
     where
       by-kind : (b : Bool) → hasTime (item .kind) ≡ b
           → ((hasTime (item .kind) ≡ true) × (timePlace item ≤ i) × (i < timePlace item + 8))
-          ⊎ (getD (cond b (putTime (timePlace item) (shifted (timeIn item) by) m) m) i 0 ≡ getD m i 0)
+          ⊎ (getD (cond b (putTime (timePlace item) (shifted (timeTagOf item) by) m) m) i 0 ≡ getD m i 0)
       by-kind true e =
-          ⊎-elim (λ k. inl (e, k .0, k .1)) (λ k. inr k) (in-or-same (timePlace item) (shifted (timeIn item) by) m (h e) i)
+          ⊎-elim (λ k. inl (e, k .0, k .1)) (λ k. inr k) (in-or-same (timePlace item) (shifted (timeTagOf item) by) m (h e) i)
       by-kind false e = inr refl
 
   pub all-long : (g : Forest) (m : List ℕ) → FitsIn (length m) g → length (slidBytes by g m) ≡ length m
@@ -119,14 +119,14 @@ module _ (by : ℕ) (l : List ℕ) where
   Restores nil = Unit {0}
   Restores (node item inside rest) =
       (hasTime (item .kind) ≡ true
-      → bytes 8 (shifted (timeIn item) by) ≡ take 8 (drop (timePlace item) l)) × Restores inside × Restores rest
+      → bytes 8 (shifted (timeTagOf item) by) ≡ take 8 (drop (timePlace item) l)) × Restores inside × Restores rest
 
-  one-back : (item : Item) → (hasTime (item .kind) ≡ true → bytes 8 (shifted (timeIn item) by) ≡ take 8 (drop (timePlace item) l))
+  one-back : (item : Item) → (hasTime (item .kind) ≡ true → bytes 8 (shifted (timeTagOf item) by) ≡ take 8 (drop (timePlace item) l))
       → (m : List ℕ) → (hasTime (item .kind) ≡ true → timePlace item + 8 ≤ length m) → (i : ℕ)
       → (hasTime (item .kind) ≡ true) × (timePlace item ≤ i) × (i < timePlace item + 8) → getD (slideOne by item m) i 0 ≡ getD l i 0
   one-back item w m fits i h =
       let q = timePlace item in
-      let v = shifted (timeIn item) by in
+      let v = shifted (timeTagOf item) by in
       let set : slideOne by item m ≡ putTime q v m = rw (h .0) in
       ap (λ (x : List ℕ). getD x i 0) set
       ∙ sym (part-at (putTime q v m) q i (h .1) (h .2))

@@ -54,7 +54,7 @@ use Rattle.packet.proofs.Bundles.{contents, bundle-short, bundle-long, ended, f
 use Rattle.packet.proofs.Dirt.{message-padding, bundle-padding, packet-same, elements-same}
 use Rattle.packet.proofs.FirstText.{message-text, message-start-in, bundle-text}
 use Rattle.packet.proofs.Knot.{starts-message, starts-bundle, starts-refused, element-holds, element-runs-out}
-use Rattle.slides.specs.Slides.{hasTime, timeIn, timePlace, withTime, putTime, slideOne, slidBytes, slidForest}
+use Rattle.slides.specs.Slides.{hasTime, timeTagOf, timePlace, withTime, putTime, slideOne, slidBytes, slidForest}
 use Rattle.slides.proofs.Puts.{put-length, put-take-before, put-drop-before, put-drop-after, put-take-after, drop-take}
 use Rattle.slides.proofs.Fronts.{text-front, arg-front}
 use Rattle.slides.proofs.Times.{has-time, AtPlace, TimeAt, at-or-not, retimed, retimedForest, retimed-at, retimed-not, Placed}
@@ -543,10 +543,10 @@ module _ (limit : ℕ) where
   node-dirt by item l used t w h = by-kind (hasTime (item .kind)) refl
     where
       by-kind : (b : Bool) → hasTime (item .kind) ≡ b
-          → dirtOf 0 (cond b (putTime (timePlace item) (shifted (timeIn item) by) l) l)
-          (cond b (retimedForest (timePlace item) (shifted (timeIn item) by) t) t)
+          → dirtOf 0 (cond b (putTime (timePlace item) (shifted (timeTagOf item) by) l) l)
+          (cond b (retimedForest (timePlace item) (shifted (timeTagOf item) by) t) t)
           ≡ dirtOf 0 l t
-      by-kind true e = one-dirt (timePlace item) (shifted (timeIn item) by) (omega arith) l used t w (h e)
+      by-kind true e = one-dirt (timePlace item) (shifted (timeTagOf item) by) (omega arith) l used t w (h e)
       by-kind false e = refl
 
   all-dirt : (by : ℕ) (g : Forest) (l : List ℕ) (used : ℕ) (t : Forest) → FrameIs limit l used t → Has limit g t

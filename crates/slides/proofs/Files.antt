@@ -30,7 +30,7 @@ use Rattle.cues.proofs.Folds.{indexing-sound, indexing-own}
 use Rattle.cues.proofs.Kept.{kept-is-short}
 use Rattle.folding.proofs.Buffers as buffers
 use Rattle.slides.specs.Slides.{slidItem, slidForest, slidBytes, slideAdds, sliding, slideOf}
-use Rattle.slides.specs.Laws.{AreBytes, SameLong, StopsAsIndex, ThereAndBack, ByZero, SameCues, SlideAnyBuffers, SlideKeepsRoom}
+use Rattle.slides.specs.Laws.{AreBytes, SameLong, StopsAsIndex, ThereAndBack, SlideByZero, SameCues, SlideAnyBuffers, SlideKeepsRoom}
 use Rattle.slides.proofs.Slid.{FrameIs, all-slid}
 use Rattle.slides.proofs.Frames.{size-slid, frame-zero, frame-back, frame-slides}
 
@@ -268,8 +268,8 @@ stops-as-index by base l w at why e =
 pub there-and-back : ThereAndBack
 there-and-back x y base l w at why small o e = back-framed x y o small (frames-of x base l w at why e)
 
-pub by-zero : ByZero
-by-zero base l w at why small e = zero-framed small (frames-of 0 base l w at why e)
+pub slide-by-zero : SlideByZero
+slide-by-zero base l w at why small e = zero-framed small (frames-of 0 base l w at why e)
 
 pub same-cues : SameCues
 same-cues by base l w at why small e =
@@ -277,8 +277,8 @@ same-cues by base l w at why small e =
     let whole : indexOf base l ≡ folded (i .0) at why = framed-is indexing (indexing-sound .inside) (i .1) in
     i .2 ∙ sym (read-is-whole indexing indexing-sound indexing-own base l (i .0) at why whole)
 
-pub any-buffers : SlideAnyBuffers
-any-buffers by = buffers.any-buffers (sliding by) (sliding-sound by)
+pub slide-any-buffers : SlideAnyBuffers
+slide-any-buffers by = buffers.any-buffers (sliding by) (sliding-sound by)
 
 pub keeps-room : SlideKeepsRoom
 keeps-room by base l w at why go e =

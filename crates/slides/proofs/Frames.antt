@@ -14,7 +14,7 @@ use Rattle.node.specs.Forest.{Forest, nil, node, size}
 use Rattle.node.specs.declared.record.Item.{Item}
 use Rattle.packet.specs.Packet.{one}
 use Rattle.framing.specs.Framing.{read, cutFrame}
-use Rattle.slides.specs.Slides.{hasTime, timeIn, timePlace, withTime, slidItem, slidForest, slidBytes, InTime}
+use Rattle.slides.specs.Slides.{hasTime, timeTagOf, timePlace, withTime, slidItem, slidForest, slidBytes, InTime}
 use Rattle.slides.specs.Laws.{AreBytes, SlidFrame, FrameSlides}
 use Rattle.slides.proofs.Times.{TimeAt}
 use Rattle.slides.proofs.Marks.{TimesAre}
@@ -32,8 +32,8 @@ module _ (by : ℕ) where
   slid-places q (node item inside rest) (inl a) = inl (own (hasTime (item .kind)) a)
     where
       own : (b : Bool)
-          → (hasTime ((cond b (withTime (shifted (timeIn item) by) item) item) .kind) ≡ true)
-          × (timePlace (cond b (withTime (shifted (timeIn item) by) item) item) ≡ q)
+          → (hasTime ((cond b (withTime (shifted (timeTagOf item) by) item) item) .kind) ≡ true)
+          × (timePlace (cond b (withTime (shifted (timeTagOf item) by) item) item) ≡ q)
           → (hasTime (item .kind) ≡ true) × (timePlace item ≡ q)
       own true c = c
       own false c = c
@@ -46,9 +46,9 @@ module _ (by : ℕ) where
   slid-in i (node item inside rest) (inl a) = inl (own (hasTime (item .kind)))
     where
       own : (b : Bool)
-          → (hasTime ((cond b (withTime (shifted (timeIn item) by) item) item) .kind) ≡ true)
-          × (timePlace (cond b (withTime (shifted (timeIn item) by) item) item) ≤ i)
-          × (i < timePlace (cond b (withTime (shifted (timeIn item) by) item) item) + 8)
+          → (hasTime ((cond b (withTime (shifted (timeTagOf item) by) item) item) .kind) ≡ true)
+          × (timePlace (cond b (withTime (shifted (timeTagOf item) by) item) item) ≤ i)
+          × (i < timePlace (cond b (withTime (shifted (timeTagOf item) by) item) item) + 8)
       own true = a
       own false = a
   slid-in i (node item inside rest) (inr (inl a)) = inr (inl (slid-in i inside a))
@@ -74,7 +74,7 @@ module _ (l : List ℕ) (small : AreBytes l) where
   none-restores nil w h = tt
   none-restores (node item inside rest) w h = (
     (λ k. let e = w .0 k in let s = tag-small (timePlace item) in
-        tag-bytes (shifted (timeIn item) 0) (timePlace item) (h (timePlace item) (inl (k, refl))) (omega arith)),
+        tag-bytes (shifted (timeTagOf item) 0) (timePlace item) (h (timePlace item) (inl (k, refl))) (omega arith)),
     none-restores inside (w .1) (λ q a. h q (inr (inl a))),
     none-restores rest (w .2) (λ q a. h q (inr (inr a))),
   )
@@ -91,13 +91,13 @@ module _ (l : List ℕ) (small : AreBytes l) where
   )
     where
       own : (b : Bool) → hasTime (item .kind) ≡ b
-          → (hasTime ((cond b (withTime (shifted (timeIn item) x) item) item) .kind) ≡ true)
-          → bytes 8 (shifted (timeIn (cond b (withTime (shifted (timeIn item) x) item) item)) y)
-          ≡ take 8 (drop (timePlace (cond b (withTime (shifted (timeIn item) x) item) item)) l)
+          → (hasTime ((cond b (withTime (shifted (timeTagOf item) x) item) item) .kind) ≡ true)
+          → bytes 8 (shifted (timeTagOf (cond b (withTime (shifted (timeTagOf item) x) item) item)) y)
+          ≡ take 8 (drop (timePlace (cond b (withTime (shifted (timeTagOf item) x) item) item)) l)
       own true k c =
           let e = w .0 k in
           let s = tag-small (timePlace item) in
-          tag-bytes (shifted (timeIn (withTime (shifted (timeIn item) x) item)) y) (timePlace item) (h (timePlace item) (inl (k, refl)))
+          tag-bytes (shifted (timeTagOf (withTime (shifted (timeTagOf item) x) item)) y) (timePlace item) (h (timePlace item) (inl (k, refl)))
           (omega arith)
       own false k c = absurd (false≢true (sym k ∙ c))
 

@@ -9,18 +9,18 @@ use lib.Dec.{eqb}
 use Rattle.clock.specs.Shift.{shifted}
 use Rattle.node.specs.Forest.{Forest, nil, node}
 use Rattle.node.specs.declared.record.Item.{Item}
-use Rattle.slides.specs.Slides.{hasTime, timeIn, timePlace, withTime, slidItem, slidForest}
+use Rattle.slides.specs.Slides.{hasTime, timeTagOf, timePlace, withTime, slidItem, slidForest}
 use Rattle.slides.proofs.Times.{AtPlace, retimed, retimedForest, retimed-at, retimed-not}
 
 -- every time tag of these trees is what N says of its place
 abbrev pub TimesAre : (ℕ → ℕ) → Forest → Type 0
 TimesAre N nil = Unit {0}
 TimesAre N (node item inside rest) =
-    (hasTime (item .kind) ≡ true → timeIn item ≡ N (timePlace item)) × TimesAre N inside × TimesAre N rest
+    (hasTime (item .kind) ≡ true → timeTagOf item ≡ N (timePlace item)) × TimesAre N inside × TimesAre N rest
 
 -- trees with the time tag of one node set
 abbrev pub retimeOne : ℕ → Item → Forest → Forest
-retimeOne by item t = cond (hasTime (item .kind)) (retimedForest (timePlace item) (shifted (timeIn item) by) t) t
+retimeOne by item t = cond (hasTime (item .kind)) (retimedForest (timePlace item) (shifted (timeTagOf item) by) t) t
 
 -- trees with those of some nodes set, one after another
 unfoldable pub retimeAll : ℕ → Forest → Forest → Forest
@@ -154,13 +154,13 @@ module _ (by : ℕ) (N : ℕ → ℕ) where
   marks-same P Q h nil = refl
   marks-same P Q h (node item inside rest) = rw (h (timePlace item), marks-same P Q h inside, marks-same P Q h rest)
 
-  one-marked : (own : Item) → (hasTime (own .kind) ≡ true → timeIn own ≡ N (timePlace own)) → (P : ℕ → Bool) (t : Forest)
+  one-marked : (own : Item) → (hasTime (own .kind) ≡ true → timeTagOf own ≡ N (timePlace own)) → (P : ℕ → Bool) (t : Forest)
       → retimeOne by own (marked P t) ≡ marked (noteOne own P) t
   one-marked own h P t = by-kind (hasTime (own .kind)) refl
     where
       by-kind : (b : Bool) → hasTime (own .kind) ≡ b → retimeOne by own (marked P t) ≡ marked (noteOne own P) t
       by-kind true e =
-          let set : retimeOne by own (marked P t) ≡ retimedForest (timePlace own) (shifted (timeIn own) by) (marked P t) = rw e in
+          let set : retimeOne by own (marked P t) ≡ retimedForest (timePlace own) (shifted (timeTagOf own) by) (marked P t) = rw e in
           set
           ∙ ap (λ (y : ℕ). retimedForest (timePlace own) (shifted y by) (marked P t)) (h e)
           ∙ marks-more own e P t
@@ -189,7 +189,7 @@ module _ (by : ℕ) (N : ℕ → ℕ) where
     where
       own : (b : Bool) → hasTime (item .kind) ≡ b → markedItem P item ≡ slidItem by item
       own true e =
-          let slide : slidItem by item ≡ withTime (shifted (timeIn item) by) item = rw e in
+          let slide : slidItem by item ≡ withTime (shifted (timeTagOf item) by) item = rw e in
           marked-is P item e (a .0 e) ∙ ap (λ (y : ℕ). withTime (shifted y by) item) (sym (w .0 e)) ∙ sym slide
       own false e = let slide : slidItem by item ≡ item = rw e in marked-plain P item e ∙ sym slide
 

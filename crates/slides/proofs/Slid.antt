@@ -14,7 +14,7 @@ use Rattle.node.specs.Forest.{Forest, nil, node}
 use Rattle.node.specs.declared.record.Item.{Item}
 use Rattle.packet.specs.Packet.{one}
 use Rattle.framing.specs.Framing.{read, cutFrame}
-use Rattle.slides.specs.Slides.{hasTime, timeIn, timePlace, withTime, slidItem, slidForest, putTime, slideOne, slidBytes}
+use Rattle.slides.specs.Slides.{hasTime, timeTagOf, timePlace, withTime, slidItem, slidForest, putTime, slideOne, slidBytes}
 use Rattle.slides.proofs.Puts.{put-length}
 use Rattle.slides.proofs.Times.{AtPlace, TimeAt, retimed, retimedForest, retimed-at}
 use Rattle.slides.proofs.FrameTimes.{retimed-kind, retimed-start, frame-retimed}
@@ -77,8 +77,8 @@ module _ (limit : ℕ) where
   pub has-one : (by : ℕ) (item : Item) (g t : Forest) → Has g t → Has g (retimeOne by item t)
   has-one by item g t h q a = by-kind (hasTime (item .kind))
     where
-      by-kind : (b : Bool) → TimeAt q (cond b (retimedForest (timePlace item) (shifted (timeIn item) by) t) t)
-      by-kind true = place-kept q (timePlace item) (shifted (timeIn item) by) t (h q a)
+      by-kind : (b : Bool) → TimeAt q (cond b (retimedForest (timePlace item) (shifted (timeTagOf item) by) t) t)
+      by-kind true = place-kept q (timePlace item) (shifted (timeTagOf item) by) t (h q a)
       by-kind false = h q a
 
   pub has-all : (by : ℕ) (f g t : Forest) → Has g t → Has g (retimeAll by f t)
@@ -94,13 +94,13 @@ module _ (limit : ℕ) where
   one-slid by item l used t w h = by-kind (hasTime (item .kind)) refl
     where
       by-kind : (b : Bool) → hasTime (item .kind) ≡ b
-          → FrameIs limit (cond b (putTime (timePlace item) (shifted (timeIn item) by) l) l) used
-          (cond b (retimedForest (timePlace item) (shifted (timeIn item) by) t) t)
-          × (length (cond b (putTime (timePlace item) (shifted (timeIn item) by) l) l) ≡ length l)
+          → FrameIs limit (cond b (putTime (timePlace item) (shifted (timeTagOf item) by) l) l) used
+          (cond b (retimedForest (timePlace item) (shifted (timeTagOf item) by) t) t)
+          × (length (cond b (putTime (timePlace item) (shifted (timeTagOf item) by) l) l) ≡ length l)
       by-kind true e =
           let r = place-room l used t w (timePlace item) (h e) in (
-            one-read l used t w (timePlace item) (h e) (shifted (timeIn item) by) (omega arith),
-            put-length (timePlace item) (shifted (timeIn item) by) l (omega (arith, r .near, r .high)),
+            one-read l used t w (timePlace item) (h e) (shifted (timeTagOf item) by) (omega arith),
+            put-length (timePlace item) (shifted (timeTagOf item) by) l (omega (arith, r .near, r .high)),
           )
       by-kind false e = (w, refl)
 
@@ -132,7 +132,7 @@ module _ (limit : ℕ) where
     fixed-times N rest (λ q a. let e = h q (inr (inr a)) in cc),
   )
     where
-      own : hasTime (item .kind) ≡ true → timeIn item ≡ N (timePlace item)
+      own : hasTime (item .kind) ≡ true → timeTagOf item ≡ N (timePlace item)
       own k =
           let q = timePlace item in
           let e : node (retimed q (N q) item) (retimedForest q (N q) inside) (retimedForest q (N q) rest) ≡ node item inside rest

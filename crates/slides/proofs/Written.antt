@@ -16,7 +16,7 @@ use Rattle.wire.proofs.Parts.{lent, given-back}
 use Rattle.node.specs.Records.{itemAt}
 use Rattle.node.specs.Tags.{bundleKind}
 use Rattle.node.specs.declared.record.Item.{Item}
-use Rattle.slides.specs.Slides.{hasTime, timeIn, timePlace, putTime, slideOne}
+use Rattle.slides.specs.Slides.{hasTime, timeTagOf, timePlace, putTime, slideOne}
 use Rattle.slides.specs.CodeSlides.{slidRecords, TimeFits, RecordsFit}
 use Rattle.slides.proofs.Back.{one-long}
 
@@ -38,14 +38,14 @@ module _ (by : ℕ) (item : Item) (l : List ℕ) where
     pub bundle-fits : TimeFits (length l) item → (item .start + 11) / 4 * 4 + 8 ≤ length l
     bundle-fits h = rw (← bundle-place) (h (rw (eq-eqb (item .kind) bundleKind k)))
 
-    pub bundle-slid : {m : List ℕ} (tag x : ℕ) → tag ≡ timeIn item → x ≡ shifted tag by → m ≡ putTime ((item .start + 11) / 4 * 4) x l
+    pub bundle-slid : {m : List ℕ} (tag x : ℕ) → tag ≡ timeTagOf item → x ≡ shifted tag by → m ≡ putTime ((item .start + 11) / 4 * 4) x l
         → m ≡ slideOne by item l
     bundle-slid tag x e f w =
         let timed : hasTime (item .kind) ≡ true = rw (eq-eqb (item .kind) bundleKind k) in
-        let one : slideOne by item l ≡ putTime (timePlace item) (shifted (timeIn item) by) l = rw timed in
+        let one : slideOne by item l ≡ putTime (timePlace item) (shifted (timeTagOf item) by) l = rw timed in
         w
         ∙ ap (λ (y : ℕ). putTime ((item .start + 11) / 4 * 4) y l) (f ∙ ap (λ (y : ℕ). shifted y by) e)
-        ∙ ap (λ (q : ℕ). putTime q (shifted (timeIn item) by) l) (sym bundle-place)
+        ∙ ap (λ (q : ℕ). putTime q (shifted (timeTagOf item) by) l) (sym bundle-place)
         ∙ sym one
 
   -- another kind
@@ -61,13 +61,13 @@ module _ (by : ℕ) (item : Item) (l : List ℕ) where
       pub t-fits : TimeFits (length l) item → item .start + 8 ≤ length l
       t-fits h = rw (← t-place) (h t-timed)
 
-      pub t-slid : {m : List ℕ} (tag x : ℕ) → tag ≡ timeIn item → x ≡ shifted tag by → m ≡ putTime (item .start) x l
+      pub t-slid : {m : List ℕ} (tag x : ℕ) → tag ≡ timeTagOf item → x ≡ shifted tag by → m ≡ putTime (item .start) x l
           → m ≡ slideOne by item l
       t-slid tag x e f w =
-          let one : slideOne by item l ≡ putTime (timePlace item) (shifted (timeIn item) by) l = rw t-timed in
+          let one : slideOne by item l ≡ putTime (timePlace item) (shifted (timeTagOf item) by) l = rw t-timed in
           w
           ∙ ap (λ (y : ℕ). putTime (item .start) y l) (f ∙ ap (λ (y : ℕ). shifted y by) e)
-          ∙ ap (λ (q : ℕ). putTime q (shifted (timeIn item) by) l) (sym t-place)
+          ∙ ap (λ (q : ℕ). putTime q (shifted (timeTagOf item) by) l) (sym t-place)
           ∙ sym one
 
     -- one without a time tag

@@ -55,8 +55,8 @@ ThereAndBack =
     → slideOf y base w ≡ folded (take (at - base) l) at end.Whole
 
 -- by zero nothing changes
-abbrev pub ByZero : Type 0
-ByZero = (base : ℕ) (l w : List ℕ) (at : ℕ) (why : End) → AreBytes l → slideOf 0 base l ≡ folded w at why → w ≡ take (at - base) l
+abbrev pub SlideByZero : Type 0
+SlideByZero = (base : ℕ) (l w : List ℕ) (at : ℕ) (why : End) → AreBytes l → slideOf 0 base l ≡ folded w at why → w ≡ take (at - base) l
 
 -- the index of a slid recording is that of what was read
 abbrev pub SameCues : Type 0

@@ -22,8 +22,8 @@ abbrev pub hasTime : ℕ → Bool
 hasTime kind = eqb kind bundleKind || eqb kind 116
 
 -- the time tag of a node: seconds and fractions ("The node table")
-abbrev pub timeIn : Item → ℕ
-timeIn item = item .a * 2 ^ 32 + item .b
+abbrev pub timeTagOf : Item → ℕ
+timeTagOf item = item .a * 2 ^ 32 + item .b
 
 -- where its eight bytes begin: those of a t at its start, those of a bundle after the 8 bytes of its "#bundle" and their padding (rule 5)
 abbrev pub timePlace : Item → ℕ
@@ -35,7 +35,7 @@ withTime x item = record { kind = item .kind; a = x / 2 ^ 32; b = x % 2 ^ 32; st
 
 -- a node's own numbers, slid: only a time tag changes, by `by` modulo 2^64 (Ticket 13)
 abbrev pub slidItem : ℕ → Item → Item
-slidItem by item = cond (hasTime (item .kind)) (withTime (shifted (timeIn item) by) item) item
+slidItem by item = cond (hasTime (item .kind)) (withTime (shifted (timeTagOf item) by) item) item
 
 -- trees, slid
 unfoldable pub slidForest : ℕ → Forest → Forest
@@ -48,7 +48,7 @@ putTime at x l = take at l ++ (bytes 8 x ++ drop (at + 8) l)
 
 -- a frame with one node's time tag shifted
 abbrev pub slideOne : ℕ → Item → List ℕ → List ℕ
-slideOne by item l = cond (hasTime (item .kind)) (putTime (timePlace item) (shifted (timeIn item) by) l) l
+slideOne by item l = cond (hasTime (item .kind)) (putTime (timePlace item) (shifted (timeTagOf item) by) l) l
 
 -- a frame with each time tag of its trees shifted: packets are not encoded anew
 unfoldable pub slidBytes : ℕ → Forest → List ℕ → List ℕ

@@ -7,7 +7,7 @@ ghost use Prim.Native.Nat.{_+_, _*_, _^_, _≤_, _<_};
 ghost use lib.ListN.{length};
 ghost use Rattle.clock.specs.Shift.{shifted};
 ghost use Rattle.node.specs.Records.{recordSize};
-ghost use Rattle.slides.specs.Slides.{timeIn, putTime, slideOne};
+ghost use Rattle.slides.specs.Slides.{timeTagOf, putTime, slideOne};
 ghost use Rattle.slides.specs.CodeSlides.{slidRecords, TimeFits, RecordsFit};
 
 // Shifts the time tags of the first `count` records of `table` in their frame, whose prefix stands at the front of `frame`.
@@ -43,7 +43,7 @@ fn slide_one(frame: &mut [u8], by: u64, item: Item)
 
 // The time tag of a record: seconds in the upper half, fractions in the lower.
 fn time_in(item: Item) -> u64
-    ensures { λ r. ⌜ r ≡ timeIn item ⌝ }
+    ensures { λ r. ⌜ r ≡ timeTagOf item ⌝ }
 {
     item.a as u64 * 0x1_0000_0000 + item.b as u64
 }

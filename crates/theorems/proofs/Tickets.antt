@@ -134,6 +134,17 @@ ticket13 =
       stays-formed = Rattle.shifted_packets.proofs.Trees.stays-formed;
       encode-alike = Rattle.shifted_packets.proofs.Encoding.encode-alike;
       encode-tcp-alike = Rattle.shifted_packets.proofs.Encoding.encode-tcp-alike;
+      frame-slides = Rattle.slides.proofs.Frames.frame-slides;
+      same-long = Rattle.slides.proofs.Files.same-long;
+      stops-as-index = Rattle.slides.proofs.Files.stops-as-index;
+      there-and-back = Rattle.slides.proofs.Files.there-and-back;
+      slide-by-zero = Rattle.slides.proofs.Files.slide-by-zero;
+      same-cues = Rattle.slides.proofs.Files.same-cues;
+      slide-any-buffers = Rattle.slides.proofs.Files.slide-any-buffers;
+      slide-keeps-room = Rattle.slides.proofs.Files.keeps-room;
+      every-slide = Rattle.slide_steps.proofs.Walks.every-slide;
+      slide-in-parts = Rattle.slide_steps.proofs.Walks.slide-in-parts;
+      one-slide = Rattle.slide_steps.proofs.Walks.one-slide;
     }
 
 pub ticket14 : Ticket14

@@ -41,6 +41,8 @@ use Rattle.encoder.specs.AfterNo.{AfterNo, NoOutcome}
 use Rattle.clock.specs.Sums.{ByZero, ByTwo, AndBack, DifferenceOfShift, ImmediateShifted}
 use Rattle.shifts.specs.Sums.{TagsShifted, TableByZero, TableByTwo, CallsAndBack}
 use Rattle.shifted_packets.specs.Packets.{StaysFormed, EncodesAlike}
+use Rattle.slides.specs.Laws.{FrameSlides, SameLong, StopsAsIndex, ThereAndBack, SlideByZero, SameCues, SlideAnyBuffers, SlideKeepsRoom}
+use Rattle.slide_steps.specs.Steps.{EverySlide, SlideInParts, OneSlide}
 use Rattle.osc10.specs.Osc10.{Packet, Allowed, Spells}
 use Rattle.calls.specs.Demands.{MoreRoom, MoreBytes, DirtLow, CleanOnly}
 use Rattle.calls.specs.Fields.{PacketShort, FrameShort, CutShort, FieldsShort, ListFieldsShort, CutFieldsShort, CutFrameShort}
@@ -359,6 +361,30 @@ pub record Ticket13 : Type 0 where
   pub stays-formed : StaysFormed
   pub encode-alike : EncodesAlike unframed
   pub encode-tcp-alike : (edition : Edition) → EncodesAlike (framedBy edition)
+  -- Sliding a recording: a frame that is accepted, with the tag of each `#` and `t` of its tree replaced where it stands, is read as the same
+  -- tree with these tags shifted. It has the same length and the same dirty padding, and its bytes differ in tags alone. The recording stops
+  -- where its index stops.
+  -- definitions: slides/timePlace, slides/slidForest, slides/slidBytes, slides/slideOf, slides/SlidFrame
+  -- code: slides/slide_records
+  -- edits: slides/nested_tag_left, slides/carry_lost, slides/lost_tag_shifted, slides/h_shifted, slides/tag_read_at_bundle_word
+  pub frame-slides : FrameSlides
+  pub same-long : SameLong
+  pub stops-as-index : StopsAsIndex
+  -- Slid by x and then by its opposite, a recording is the same file, byte for byte; by zero too. Its cues lie where they lay.
+  -- edits: slides/nested_tag_left, slides/carry_lost
+  pub there-and-back : ThereAndBack
+  pub slide-by-zero : SlideByZero
+  pub same-cues : SameCues
+  -- Through any row of buffers it is the slide of the whole: of the steps of `slide_step`, which is settled and refuses with 1 and 12 alone,
+  -- every walk gives it, and what its steps leave, end to end, are its bytes.
+  -- definitions: slide_steps/Slides
+  -- code: slide_steps/slide_step
+  -- edits: slide_steps/short_table_accepted, slide_steps/frame_slid_without_its_end, slide_steps/refused_frame_told_whole
+  pub slide-any-buffers : SlideAnyBuffers
+  pub slide-keeps-room : SlideKeepsRoom
+  pub every-slide : EverySlide
+  pub slide-in-parts : SlideInParts
+  pub one-slide : OneSlide
 
 -- Ticket 14: Cutting the stream changes nothing
 pub record Ticket14 : Type 0 where
