@@ -31,7 +31,7 @@ pub record FirstDemand : Type 1 where
   -- definitions: calls/Call
   -- code: decoder/decode, portions/read_portion, cues/index_step, cues/compare, cues/cue_at, encoder/encode, encoder/encode_tcp
   -- code: encoder/encode_string, values/look, values/start_of, values/text_of, wire/pad, clock/tag_of, clock/unix_of, clock/shift
-  -- code: clock/difference
+  -- code: clock/difference, shifts/shift_table
   -- edits: wire/pad_wraps, table/end_past_the_count, values/record_past_the_end
   pub met : Every Met
   -- Each call ends in an answer of documents 01 and 02, or in one of the refusals that they list for it. A list of edition 2 and a step
@@ -46,12 +46,12 @@ pub record FirstDemand : Type 1 where
   -- A refusal changes no byte of any lent buffer.
   -- edits: contract/a_result_changes_nothing, contract/a_refusal_changes_bytes, decoder/refusal_after_a_write
   pub nothing-changed : Every NothingChanged
-  -- These theorems speak of the calls themselves: for each of the eighteen there is a function that only calls it, and whose contract is
+  -- These theorems speak of the calls themselves: for each of them there is a function that only calls it, and whose contract is
   -- the statement's own, `Meets`.
   -- definitions: calls/Meets
   -- code: demands/decode_udp, demands/decode_tcp, demands/decode_tcp_vec, demands/read_portion, demands/index_step, demands/compare
   -- code: demands/cue_at, demands/encode, demands/encode_tcp, demands/encode_string, demands/pad, demands/look, demands/start_of
-  -- code: demands/text_of, demands/tag_of, demands/unix_of, demands/shift, demands/difference
+  -- code: demands/text_of, demands/tag_of, demands/unix_of, demands/shift, demands/difference, demands/shift_table
   -- edits: demands/stream_met_as_a_packet, demands/index_without_its_base
 
   -- A contract settles the answer and every lent byte: two endings that meet it are the same.
