@@ -53,7 +53,9 @@ fn nanos_after(rest: &[u8]) -> Numeral
 }
 
 // The seconds and the nanoseconds of a word without a sign.
-fn plain_of(word: &[u8]) -> Plain
+//
+// Ruled out: nanoseconds for the dot alone in `3.`; the seconds of `3.5` without its fraction.
+pub fn plain_of(word: &[u8]) -> Plain
     ensures { λ r. ⌜ r ≡ plainOf (now (word .entry)) ⌝ }
 {
     let dot = until(word, 0, b'.');
