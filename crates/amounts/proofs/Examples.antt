@@ -31,6 +31,13 @@ one-second : amountOf
 unfolding digitOf hexOf hexMore tagIn amountOf
 one-second = refl
 
+-- hex:00000000aAbBcCdD: digits in either case
+either-case : amountOf
+    (104 ∷ 101 ∷ 120 ∷ 58 ∷ 48 ∷ 48 ∷ 48 ∷ 48 ∷ 48 ∷ 48 ∷ 48 ∷ 48 ∷ 97 ∷ 65 ∷ 98 ∷ 66 ∷ 99 ∷ 67 ∷ 100 ∷ 68 ∷ [])
+    ≡ Is 0xaabb_ccdd
+unfolding digitOf hexOf hexMore tagIn amountOf
+either-case = refl
+
 -- no digit after the dot, no amount: 3.
 nothing-after : amountOf (51 ∷ 46 ∷ []) ≡ Unclear
 unfolding digitOf allMore numeralOf untilByte nanosAfter plainOf amountOf

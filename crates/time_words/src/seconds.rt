@@ -54,7 +54,7 @@ fn nanos_after(rest: &[u8]) -> Numeral
 
 // The seconds and the nanoseconds of a word without a sign.
 //
-// Ruled out: nanoseconds for the dot alone in `3.`; the seconds of `3.5` without its fraction.
+// Ruled out: three seconds for `3.`; the fraction of `3.5` dropped.
 pub fn plain_of(word: &[u8]) -> Plain
     ensures { λ r. ⌜ r ≡ plainOf (now (word .entry)) ⌝ }
 {
