@@ -1,70 +1,14 @@
 // How far a recording is slid (Ticket 13), as a word says it: signed seconds with a fraction, `-12` or `3.5`, or `hex:` and 16 digits. The
 // answer is a number of 64 bits, 2^32 to a second; a slide back is by its opposite modulo 2^64.
+use time_words::Plain;
+use time_words::plain_of;
+use time_words::tag_in;
 use words::line::front;
-use words::line::until;
 use words::numeral::Numeral;
-use words::numeral::decimal;
-use words::numeral::digit;
 ghost use mathlib.Core.Path.{_≡_};
-ghost use Prim.Native.Nat.{_≤_, _<_};
-ghost use lib.ListN.{length};
+ghost use Prim.Native.Nat.{_<_};
 ghost use Rattle.clock.specs.Nearest.{fractionOf};
-ghost use Rattle.amounts.specs.Amounts.{hexTo, hexOf, nanosIn, joinedAs, plainOf, oppositeOf, amountOf};
-
-// A byte, widened.
-fn wide(byte: u8) -> u64
-    ensures { λ r. ⌜ r ≡ byte ⌝ }
-{
-    byte as u64
-}
-
-// The number that a hexadecimal digit more makes of `x`.
-fn appended(x: u64, byte: u8) -> Numeral
-    ensures { λ r. ⌜ r ≡ hexTo x byte ⌝ }
-{
-    let value = wide(digit(byte));
-    if 15 < value {
-        return Numeral::Unclear;
-    }
-    if u64::MAX / 16 < x {
-        return Numeral::Unclear;
-    }
-    Numeral::Is(x * 16 + value)
-}
-
-// The number of 16 hexadecimal digits.
-fn hex_of(word: &[u8]) -> Numeral
-    ensures { λ r. ⌜ r ≡ hexOf (now (word .entry)) ⌝ }
-{
-    if word.len() != 16 {
-        return Numeral::Unclear;
-    }
-    let mut x = 0;
-    let mut i = 0;
-    while i < word.len() {
-        let Numeral::Is(more) = appended(x, word[i]) else {
-            return Numeral::Unclear;
-        };
-        x = more;
-        i += 1;
-    }
-    Numeral::Is(x)
-}
-
-// The nanoseconds of one to nine digits after a dot: zeros stand for those that are not there.
-fn nanos_of(digits: &[u8]) -> Numeral
-    ensures { λ r. ⌜ r ≡ nanosIn (now (digits .entry)) ⌝ }
-{
-    if digits.len() == 0 {
-        return Numeral::Unclear;
-    }
-    if 9 < digits.len() {
-        return Numeral::Unclear;
-    }
-    let mut nine = *b"000000000";
-    wire::copy(digits, &mut nine);
-    decimal(&nine)
-}
+ghost use Rattle.amounts.specs.Amounts.{joinedAs, oppositeOf, amountOf};
 
 // The nearest fraction of a second, halves up.
 fn fraction_of(nanos: u64) -> u64
@@ -75,34 +19,19 @@ fn fraction_of(nanos: u64) -> u64
 }
 
 // Seconds and nanoseconds as one number: the seconds are at most 4,294,967,295.
-fn joined(seconds: Numeral, nanos: Numeral) -> Numeral
-    ensures { λ r. ⌜ r ≡ joinedAs seconds nanos ⌝ }
+fn joined(plain: Plain) -> Numeral
+    ensures { λ r. ⌜ r ≡ joinedAs plain ⌝ }
 {
-    let Numeral::Is(s) = seconds else {
+    let Plain::Of(seconds, nanos) = plain else {
         return Numeral::Unclear;
     };
-    let Numeral::Is(n) = nanos else {
-        return Numeral::Unclear;
-    };
-    if 0xffff_ffff < s {
+    if 0xffff_ffff < seconds {
         return Numeral::Unclear;
     }
-    if 999_999_999 < n {
+    if 999_999_999 < nanos {
         return Numeral::Unclear;
     }
-    Numeral::Is(s * 0x1_0000_0000 + fraction_of(n))
-}
-
-// Seconds, with a dot and a fraction or without.
-fn plain_of(word: &[u8]) -> Numeral
-    ensures { λ r. ⌜ r ≡ plainOf (now (word .entry)) ⌝ }
-{
-    let dot = until(word, 0, b'.');
-    let seconds = decimal(front(word, dot));
-    if dot < word.len() {
-        return joined(seconds, nanos_of(&word[dot + 1..]));
-    }
-    joined(seconds, Numeral::Is(0))
+    Numeral::Is(seconds * 0x1_0000_0000 + fraction_of(nanos))
 }
 
 // The opposite of a number, modulo 2^64.
@@ -122,10 +51,10 @@ pub fn amount_of(word: &[u8]) -> Numeral
     ensures { λ r. ⌜ r ≡ amountOf (now (word .entry)) ⌝ }
 {
     if check::same(front(word, 4), b"hex:") {
-        return hex_of(&word[4..]);
+        return tag_in(&word[4..]);
     }
     if check::same(front(word, 1), b"-") {
-        return opposite_of(plain_of(&word[1..]));
+        return opposite_of(joined(plain_of(&word[1..])));
     }
-    plain_of(word)
+    joined(plain_of(word))
 }

@@ -5,13 +5,15 @@ mod seconds; // seconds.rt: a word as a Unix time
 use clock::Rule;
 use seconds::Timed;
 use seconds::seconds_of;
-use tags::tag_in;
 use troubles::Trouble;
 use words::line::place_of;
 use words::numeral::Numeral;
 ghost use mathlib.Core.Path.{_≡_};
 ghost use Rattle.time_words.specs.Asked.{ruleNamed, momentOf, timeWith, timeAsked, lookRuled};
 pub use seconds::Moment;
+pub use seconds::Plain;
+pub use seconds::plain_of;
+pub use tags::tag_in;
 
 // A word read as a rule.
 pub enum Ruled {

@@ -53,7 +53,9 @@ fn nanos_after(rest: &[u8]) -> Numeral
 }
 
 // The seconds and the nanoseconds of a word without a sign.
-fn plain_of(word: &[u8]) -> Plain
+//
+// Ruled out: three seconds for `3.`; the fraction of `3.5` dropped.
+pub fn plain_of(word: &[u8]) -> Plain
     ensures { λ r. ⌜ r ≡ plainOf (now (word .entry)) ⌝ }
 {
     let dot = until(word, 0, b'.');
