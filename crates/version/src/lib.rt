@@ -4,7 +4,7 @@ ghost use Rattle.version.specs.Version.{packed, versionNumber};
 
 pub const MAJOR: u16 = 0;
 
-pub const MINOR: u16 = 15;
+pub const MINOR: u16 = 16;
 
 pub const PATCH: u16 = 0;
 
