@@ -267,10 +267,10 @@ sed -n '/^const HELP/,/^";$/p' "$root/crates/tool_files/src/say.rt" | sed '1d;$d
 same help.said help.txt
 # What a reader relies on stands here a second time: the statuses.
 cat >statuses <<'END'
-Exit status: 0 an answer; 1 a refusal; 2 trouble with a word or a file; 3 Waiting; 4 tcp2-vec, index or check stopped at a frame; 5 the
-answer could not be written to standard output.
-After 1 and 3 no TABLE, PACKET or OUTPUT is left. After 2 nothing was changed. After 4 TABLE or INDEX holds what stands before that frame.
-After 5 the files are as the answer says, which is on standard error.
+Exit status: 0 an answer; 1 a refusal; 2 trouble with a word or a file; 3 Waiting; 4 tcp2-vec, index, check or shift stopped at a frame;
+5 the answer could not be written to standard output.
+After 1 and 3 no TABLE, PACKET or OUTPUT is left. After 2 nothing was changed. After 4 TABLE or INDEX holds what stands before that frame,
+and OUT is as it was. After 5 the files are as the answer says, which is on standard error.
 END
 tail -n 4 help.said >statuses.said
 same statuses.said statuses
@@ -282,8 +282,8 @@ expect 0 "osc $(sed -n 's/^#define SENNORBAI_VERSION "\(.*\)"$/\1/p' "$root/incl
 # Wrong words.
 decode_takes='osc: decode takes udp|tcp|tcp-vec|tcp2|tcp2-vec INPUT TABLE [--depth N] [--records N] [--replace]'
 not_number='osc: not a number of at most nine digits: '
-expect 2 '' 'osc: the first word is not decode, encode, look, index, check, cue, time, help or --version: '
-expect 2 '' 'osc: the first word is not decode, encode, look, index, check, cue, time, help or --version: decoded' decoded
+expect 2 '' 'osc: the first word is not decode, encode, look, index, check, cue, time, shift, help or --version: '
+expect 2 '' 'osc: the first word is not decode, encode, look, index, check, cue, time, shift, help or --version: decoded' decoded
 expect 2 '' "$decode_takes" decode udp input
 expect 2 '' "$decode_takes" decode udp input table.bin --depth
 expect 2 '' 'osc: not udp, tcp, tcp-vec, tcp2 or tcp2-vec: tc' decode tc input table.bin
@@ -378,7 +378,7 @@ time_takes='osc: time takes a|b TAG, or a|b SECONDS'
 expect 2 '' "$time_takes" time
 expect 2 '' "$time_takes" time a
 expect 2 '' "$time_takes" time a 1 2
-expect 2 '' 'osc: only decode, encode, index and cue take --replace' time a 1 --replace
+expect 2 '' 'osc: only decode, encode, index, cue and shift take --replace' time a 1 --replace
 # A record's time by a rule, after what is said of the record: of a bundle and of a t; of other records and of refused ones nothing.
 printf '#bundle\0\0\0\0\0\0\0\0\001\0\0\0\020/a\0\0,t\0\0\354\306\065\200\200\0\0\0' >input
 expect 0 'packets: 1, records: 3, bytes left: 0' '' decode udp input times.bin
@@ -730,6 +730,95 @@ said=$($drop $by ./osc_tool check closed.osc three.idx 2>&1)
 [ "$said" = 'osc: closed.osc: Permission denied' ]
 count $? "a recording that may not be read: said '$said'"
 
+# ---- A recording with its time tags shifted.
+
+# act T OUTER NESTED: a recording of two frames, as printf writes it: a message with dirty padding, a tag and a number of the same bytes
+# as its tag had first, and a bundle in a bundle. Each tag is given.
+act() {
+    printf '\\0\\0\\0\\030/a\\0\\001,th\\0%s\\0\\0\\0\\001\\0\\0\\0\\002' "$1"
+    printf '\\0\\0\\0\\044#bundle\\0%s\\0\\0\\0\\020#bundle\\0%s' "$2" "$3"
+}
+act_t='\0\0\0\001\0\0\0\002' act_outer='\377\377\377\377\200\0\0\0' act_nested='\0\0\0\0\0\0\0\001'
+printf "$(act "$act_t" "$act_outer" "$act_nested")" >act.osc
+
+# shifts BY BACK T OUTER NESTED: what `osc shift` of that recording should leave, and that it is the old one again where it is shifted back.
+shifts() {
+    printf "$(act "$3" "$4" "$5")" >expected.osc
+    expect 0 'shift: 68 bytes, whole' '' shift act.osc shifted.osc "$1" --replace
+    same shifted.osc expected.osc
+    expect 0 'shift: 68 bytes, whole' '' shift shifted.osc back.osc "$2" --replace
+    same back.osc act.osc
+}
+shifts 0 -0 "$act_t" "$act_outer" "$act_nested"
+shifts 1 -1 '\0\0\0\002\0\0\0\002' '\0\0\0\0\200\0\0\0' '\0\0\0\001\0\0\0\001'
+shifts -1 1.0 '\0\0\0\0\0\0\0\002' '\377\377\377\376\200\0\0\0' '\377\377\377\377\0\0\0\001'
+shifts 0.5 -0.5 '\0\0\0\001\200\0\0\002' '\0\0\0\0\0\0\0\0' '\0\0\0\0\200\0\0\001'
+shifts -0.5 hex:0000000080000000 '\0\0\0\0\200\0\0\002' '\377\377\377\377\0\0\0\0' '\377\377\377\377\200\0\0\001'
+shifts hex:0000000000000001 hex:FFFFffffFFFFffff '\0\0\0\001\0\0\0\003' '\377\377\377\377\200\0\0\001' '\0\0\0\0\0\0\0\002'
+shifts 4294967295.999999999 -4294967295.999999999 '\0\0\0\0\377\377\377\376' '\377\377\377\377\177\377\377\374' \
+    '\377\377\377\377\377\377\377\375'
+expect 0 'shift: 0 bytes, whole' '' shift none.osc shifted.osc 1 --replace
+same shifted.osc none.osc
+expect 0 'shift: 48 bytes, whole' '' shift three.osc shifted.osc 0 --replace
+same shifted.osc three.osc
+
+# Over more than one buffer: frames that a buffer cuts, the longest frame, and only the tags' bytes differ, three in each 68.
+cp act.osc acts.osc
+for _ in 1 2 3 4 5 6 7 8 9 10 11 12; do
+    cat acts.osc acts.osc >acts.more
+    mv acts.more acts.osc
+done
+expect 0 'shift: 278528 bytes, whole' '' shift acts.osc shifted.osc hex:0000000000000001 --replace
+[ "$(cmp -l acts.osc shifted.osc | wc -l)" -eq 12288 ]
+count $? 'a shift by 1 changes other bytes than the last of each tag'
+expect 0 'shift: 278528 bytes, whole' '' shift shifted.osc back.osc hex:ffffffffffffffff --replace
+same back.osc acts.osc
+expect 0 'shift: 131092 bytes, whole' '' shift longer.osc shifted.osc 1 --replace
+same shifted.osc longer.osc
+
+# It stops at a frame that is not all there, or is refused, and says where: no output is left, and one that was there stays.
+# stops_shift LINE FILE: what `osc shift` of the file should say.
+stops_shift() {
+    printf 'kept' >kept.out
+    expect 4 "shift: stopped at $1" '' shift "$2" stopped.out 1
+    expect 4 "shift: stopped at $1" '' shift "$2" kept.out 1 --replace
+    gone stopped.out
+    gone kept.out.part
+    [ "$(cat kept.out)" = kept ]
+    count $? "shift $2 changed kept.out"
+}
+{ cat act.osc && printf '\0\0\0\010/a'; } >cut_act.osc
+stops_shift '68: waiting' cut_act.osc
+{ cat act.osc && printf '\0\0\0\004/abc' && cat act.osc; } >bad_act.osc
+stops_shift '68: refused 17: the address at offset 72 is not all there' bad_act.osc
+{ cat acts.osc && printf '\0\0\0\004/abc'; } >bad_acts.osc
+stops_shift '278528: refused 17: the address at offset 278532 is not all there' bad_acts.osc
+stops_shift '65544: waiting' longer_cut.osc
+stops_shift '0: refused 10: the result has more records than the capacity' more.osc
+
+# Wrong words and files.
+shift_takes='osc: shift takes RECORDING OUT BY [--replace]'
+expect 2 '' "$shift_takes" shift
+expect 2 '' "$shift_takes" shift act.osc new.out
+expect 2 '' "$shift_takes" shift act.osc new.out --replace
+expect 2 '' "$shift_takes" shift act.osc new.out 1 2
+no_amount='osc: BY is neither seconds, with at most 9 digits after a dot, nor hex: and 16 hexadecimal digits: '
+for by in '' x 1s +1 --1 1. .5 1.0000000001 1e3 4294967296 hex: hex:1 hex:000000000000000g hex:00000000000000001 -hex:0000000000000001; do
+    expect 2 '' "$no_amount$by" shift act.osc new.out "$by"
+done
+expect 2 '' 'osc: missing: No such file or directory' shift missing new.out 1
+expect 2 '' 'osc: the name of a file is empty' shift act.osc '' 1
+expect 2 '' 'osc: folder: Is a directory' shift act.osc folder 1
+gone new.out
+expect 2 '' 'osc: three.osc: this file exists; nothing was changed. To replace it, add --replace.' shift act.osc three.osc 1
+cp act.osc kept.osc
+ln -f kept.osc hard.osc
+for name in kept.osc ./kept.osc hard.osc soft.osc; do
+    expect 2 '' "osc: kept.osc$same_file" shift kept.osc $name 1 --replace
+done
+same kept.osc act.osc
+gone kept.osc.part
+
 # ---- What exists is replaced or removed only where it could be such an output, or where --replace is given.
 
 # keeps FILE STATUS LINE TROUBLE WORDS..: as expect, and FILE is as it was.
@@ -796,7 +885,7 @@ rm -f new.table
 printf 'precious' >precious
 expect 1 'refused 18: the type text at offset 4 is not all there' '' decode udp input precious --replace
 gone precious
-no_replace='osc: only decode, encode, index and cue take --replace'
+no_replace='osc: only decode, encode, index, cue and shift take --replace'
 expect 2 '' "$no_replace" look m.table 0 --replace
 expect 2 '' "$no_replace" check rec.osc rec.idx --replace
 expect 2 '' "$no_replace" help --replace

@@ -28,6 +28,7 @@ commandWords =
     ∷ ("check", command.Check)
     ∷ ("cue", command.Cue)
     ∷ ("time", command.Time)
+    ∷ ("shift", command.Shift)
     ∷ ("help", command.Help)
     ∷ ("--help", command.Help)
     ∷ ("-h", command.Help)
@@ -70,6 +71,7 @@ mayReplace command.Index = true
 mayReplace command.Check = false
 mayReplace command.Cue = true
 mayReplace command.Time = false
+mayReplace command.Shift = true
 mayReplace command.Help = false
 mayReplace command.Version = false
 mayReplace command.Unclear = true

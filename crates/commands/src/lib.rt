@@ -26,6 +26,7 @@ pub enum Command {
     Check,
     Cue,
     Time,
+    Shift,
     Help,
     Version,
     Unclear,
@@ -95,7 +96,7 @@ pub fn command_of(word: &[u8]) -> Command
     ensures { λ r. ⌜ r ≡ commandOf (now (word .entry)) ⌝ }
 {
     let at = place_of(
-        b"decode encode look index check cue time help --help -h --version",
+        b"decode encode look index check cue time shift help --help -h --version",
         word,
     );
     let named = [
@@ -106,6 +107,7 @@ pub fn command_of(word: &[u8]) -> Command
         Command::Check,
         Command::Cue,
         Command::Time,
+        Command::Shift,
         Command::Help,
         Command::Help,
         Command::Help,
@@ -139,6 +141,7 @@ fn may_replace(command: Command) -> bool
         Command::Check => false,
         Command::Cue => true,
         Command::Time => false,
+        Command::Shift => true,
         Command::Help => false,
         Command::Version => false,
         Command::Unclear => true,

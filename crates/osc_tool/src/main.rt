@@ -1,8 +1,8 @@
 // The codec from a shell: it decodes a file to a table, encodes a table to a file, looks at a record, writes, checks and uses the cue
-// index of a recording, and converts times. It says its answer in one line on standard output, and what went wrong with a word or a file
-// in one line on standard error. What the words mean, what is kept and what is said is decided in `commands`, `time_words`, `outcomes`,
-// `walks`, `telling` and `time_lines`; the crates whose names begin with `tool_` read and write files and hand lines on, and here the
-// command is chosen.
+// index of a recording, shifts the time tags of one, and converts times. It says its answer in one line on standard output, and what went
+// wrong with a word or a file in one line on standard error. What the words mean, what is kept and what is said is decided in `commands`,
+// `time_words`, `amounts`, `outcomes`, `walks`, `slide_walks`, `telling` and `time_lines`; the crates whose names begin with `tool_` read
+// and write files and hand lines on, and here the command is chosen.
 use commands::Command;
 use commands::Worded;
 use commands::command_of;
@@ -28,6 +28,7 @@ fn run(command: Command, count: usize, is_replacing: bool) {
         Command::Check => checking::run(count),
         Command::Cue => cue::run(count, is_replacing),
         Command::Time => time::run(count),
+        Command::Shift => tool_shifts::run(count, is_replacing),
         Command::Help => say::help(),
         Command::Version => say::version(version::MAJOR, version::MINOR, version::PATCH),
         Command::Unclear => say::trouble(Trouble::NoCommand, 1, 0),

@@ -12,6 +12,7 @@ use Rattle.telling.specs.Forms.{filledIn}
 use Rattle.telling.specs.Replies.{packetsForm, dirtyForm, stoppedForm, stoppedDirtyForm, waitingForm, writtenForm, versionForm}
 use Rattle.telling.specs.Shown.{recordForm, startForm}
 use Rattle.telling.specs.Indexes.{writtenWords, fitsWords, wholeForm, indexWaitingForm, indexRefusedForm, progressForm}
+use Rattle.telling.specs.Indexes.{shiftWholeForm, shiftWaitingForm, shiftRefusedForm}
 use Rattle.telling.specs.Troubles.{troubleForm}
 use Rattle.telling.specs.declared.line.Line.{Line}
 
@@ -21,7 +22,8 @@ forms =
     packetsForm ∷ dirtyForm ∷ stoppedForm ∷ stoppedDirtyForm ∷ waitingForm ∷ writtenForm ∷ versionForm ∷ recordForm "" ∷ recordForm " %"
     ∷ recordForm " -%" ∷ recordForm " offset % length %" ∷ recordForm " seconds % fraction %" ∷ recordForm " bits 0x$"
     ∷ recordForm " bits 0x$$" ∷ recordForm " % % % %" ∷ startForm ∷ wholeForm writtenWords ∷ indexWaitingForm writtenWords
-    ∷ indexRefusedForm writtenWords ∷ wholeForm fitsWords ∷ indexWaitingForm fitsWords ∷ indexRefusedForm fitsWords ∷ progressForm ∷ []
+    ∷ indexRefusedForm writtenWords ∷ wholeForm fitsWords ∷ indexWaitingForm fitsWords ∷ indexRefusedForm fitsWords ∷ progressForm
+    ∷ shiftWholeForm ∷ shiftWaitingForm ∷ shiftRefusedForm ∷ []
 
 -- the form of each trouble, in the order of the enum
 abbrev pub troubleForms : List String

@@ -71,3 +71,29 @@ Tellable at why = FieldUpTo at 0x7fff_ffff_ffff_ffff why
 -- how much is read
 abbrev pub progressLine : ℕ → List ℕ
 progressLine mebibytes = line progressForm (mebibytes ∷ []) []
+
+-- a recording that was shifted whole: its bytes
+abbrev pub shiftWholeForm : String
+shiftWholeForm = "shift: % bytes, whole\n"
+
+-- one that stopped at a frame that is not all there: the offset of that frame
+abbrev pub shiftWaitingForm : String
+shiftWaitingForm = "shift: stopped at %: waiting\n"
+
+-- one that stopped at a frame that is refused: the same, and the words of the refusal, which are the text
+abbrev pub shiftRefusedForm : String
+shiftRefusedForm = "shift: stopped at %: ~\n"
+
+-- the form of a shift that ends so
+abbrev pub shiftForm : End → String
+shiftForm end.Whole = shiftWholeForm
+shiftForm end.Waiting = shiftWaitingForm
+shiftForm (end.Refused k) = shiftRefusedForm
+
+-- a shift that ends at an offset, with these words
+abbrev pub shiftEndLine : End → ℕ → List ℕ → List ℕ
+shiftEndLine why at words = line (shiftForm why) (at ∷ []) words
+
+-- "it stops at the first frame not accepted and says where, as `index` does" (Ticket 13)
+abbrev pub shiftLine : ℕ → End → List ℕ
+shiftLine at why = shiftEndLine why at (endWords at why)

@@ -9,11 +9,11 @@ use Rattle.troubles.specs.declared.Trouble.the-variants.{OnePacket, NoOption, T
 use Rattle.troubles.specs.declared.Trouble.the-variants.{LongName, NoFile, OneFile, TooLarge, NoTable}
 use Rattle.troubles.specs.declared.Trouble.the-variants.{IndexWords, CheckWords, CueWords, Shorter}
 use Rattle.troubles.specs.declared.Trouble.the-variants.{NoReplace, IndexLength, IndexFront, TableLength, TableFront, Exists, TwoNames}
-use Rattle.troubles.specs.declared.Trouble.the-variants.{TimeWords, NoRule, NoTime}
+use Rattle.troubles.specs.declared.Trouble.the-variants.{TimeWords, NoRule, NoTime, ShiftWords, NoAmount}
 
 -- what each trouble is, of a word or the name of a file and a number of bytes
 abbrev pub troubleForm : Trouble → String
-troubleForm NoCommand = "osc: the first word is not decode, encode, look, index, check, cue, time, help or --version: ~\n"
+troubleForm NoCommand = "osc: the first word is not decode, encode, look, index, check, cue, time, shift, help or --version: ~\n"
 troubleForm DecodeWords = "osc: decode takes udp|tcp|tcp-vec|tcp2|tcp2-vec INPUT TABLE [--depth N] [--records N] [--replace]\n"
 troubleForm EncodeWords = "osc: encode takes udp|tcp|tcp2 TABLE SOURCE OUTPUT [--replace]\n"
 troubleForm LookWords = "osc: look takes TABLE INDEX [--rule a|b]\n"
@@ -33,7 +33,7 @@ troubleForm IndexWords = "osc: index takes RECORDING INDEX [--replace]\n"
 troubleForm CheckWords = "osc: check takes RECORDING INDEX\n"
 troubleForm CueWords = "osc: cue takes RECORDING INDEX K TABLE PACKET [--replace]\n"
 troubleForm Shorter = "osc: ~: the file became shorter while it was read\n"
-troubleForm NoReplace = "osc: only decode, encode, index and cue take --replace\n"
+troubleForm NoReplace = "osc: only decode, encode, index, cue and shift take --replace\n"
 troubleForm IndexLength =
     "osc: ~: this file is not an index (% bytes, not a multiple of 16); nothing was changed. To replace it anyway, add --replace.\n"
 troubleForm IndexFront =
@@ -47,6 +47,8 @@ troubleForm TwoNames = "osc: ~: the other output has the same name\n"
 troubleForm TimeWords = "osc: time takes a|b TAG, or a|b SECONDS\n"
 troubleForm NoRule = "osc: the rule is a or b, not ~\n"
 troubleForm NoTime = "osc: neither a tag of 16 hexadecimal digits nor seconds, with at most 9 digits after a dot: ~\n"
+troubleForm ShiftWords = "osc: shift takes RECORDING OUT BY [--replace]\n"
+troubleForm NoAmount = "osc: BY is neither seconds, with at most 9 digits after a dot, nor hex: and 16 hexadecimal digits: ~\n"
 
 -- the same with its word and its number
 abbrev pub troubleLine : Trouble → ℕ → List ℕ → List ℕ

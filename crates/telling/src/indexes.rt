@@ -1,4 +1,4 @@
-// The line for a cue index: one that was written, and one that was checked. Both end alike.
+// The line for a cue index, one that was written and one that was checked, and for a recording that was shifted. All end alike.
 use crate::line::FITS_REFUSED;
 use crate::line::FITS_WAITING;
 use crate::line::FITS_WHOLE;
@@ -7,6 +7,9 @@ use crate::line::INDEX_WAITING;
 use crate::line::INDEX_WHOLE;
 use crate::line::Line;
 use crate::line::PROGRESS;
+use crate::line::SHIFT_REFUSED;
+use crate::line::SHIFT_WAITING;
+use crate::line::SHIFT_WHOLE;
 use crate::line::formed;
 use crate::line::tell;
 use crate::refusals::tell_numbered;
@@ -18,7 +21,7 @@ use results::INDEX_DIFFERS;
 ghost use mathlib.Core.Path.{_≡_};
 ghost use Rattle.telling.specs.Forms.{Says};
 ghost use Rattle.telling.specs.Indexes.{writtenWords, fitsWords, endForm, endWords, endLine, indexLine, differsLine, checkedLine};
-ghost use Rattle.telling.specs.Indexes.{Tellable, progressLine};
+ghost use Rattle.telling.specs.Indexes.{Tellable, progressLine, shiftEndLine, shiftLine};
 ghost use Rattle.telling.specs.CodeTable.{saidBy, SaysWith};
 
 // An index of so many records, and why it ends, at which offset of the recording.
@@ -92,4 +95,25 @@ pub fn tell_progress(mebibytes: u64, out: &mut [u8]) -> usize
     ensures { λ r. ⌜ Says (progressLine mebibytes) (now (out .exit)) r ⌝ }
 {
     tell(formed(PROGRESS, mebibytes, 0, 0, 0, 0, 0), b"", out)
+}
+
+// A shift that ends at an offset of the recording, and why.
+fn shift_line(at: u64, end: End) -> Line
+    ensures { λ r. ⌜ SaysWith r (shiftEndLine end at) ⌝ }
+{
+    match end {
+        End::Whole => formed(SHIFT_WHOLE, at, 0, 0, 0, 0, 0),
+        End::Waiting => formed(SHIFT_WAITING, at, 0, 0, 0, 0, 0),
+        End::Refused(_) => formed(SHIFT_REFUSED, at, 0, 0, 0, 0, 0),
+    }
+}
+
+// Puts the line for a recording that was shifted up to an offset, and why no further.
+//
+// Ruled out: a shift that stopped told as a whole one; a field that was short told by its offset in the frame.
+pub fn tell_shift(at: u64, end: End, out: &mut [u8]) -> usize
+    requires { ⌜ Tellable at end ⌝ }
+    ensures { λ r. ⌜ Says (shiftLine at end) (now (out .exit)) r ⌝ }
+{
+    tell_ended(shift_line(at, end), at, end, out)
 }

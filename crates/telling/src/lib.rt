@@ -13,6 +13,7 @@ pub use indexes::tell_checked;
 pub use indexes::tell_differs;
 pub use indexes::tell_index;
 pub use indexes::tell_progress;
+pub use indexes::tell_shift;
 pub use refusals::tell_numbered;
 pub use replies::tell_decoded;
 pub use replies::tell_encoded;

@@ -17,7 +17,7 @@ pub struct Line {
 }
 
 // The forms, a line to each, in the order of the names below.
-const FORMS: [u8; 778] = *b"\
+const FORMS: [u8; 852] = *b"\
 packets: %, records: %, bytes left: %
 packets: %, records: %, bytes left: %, dirty padding bytes: %
 stopped: packets: %, records: %, bytes left: %, ~, frame at offset %
@@ -41,6 +41,9 @@ index fits: % records, whole
 index fits: % records, stopped at %: waiting
 index fits: % records, stopped at %: ~
 osc: % MiB read
+shift: % bytes, whole
+shift: stopped at %: waiting
+shift: stopped at %: ~
 ";
 
 pub const PACKETS: usize = 0;
@@ -88,6 +91,12 @@ pub const FITS_WAITING: usize = 20;
 pub const FITS_REFUSED: usize = 21;
 
 pub const PROGRESS: usize = 22;
+
+pub const SHIFT_WHOLE: usize = 23;
+
+pub const SHIFT_WAITING: usize = 24;
+
+pub const SHIFT_REFUSED: usize = 25;
 
 // A line of a form and as many numbers as one has.
 pub fn formed(form: usize, a: u64, b: u64, c: u64, d: u64, e: u64, f: u64) -> Line

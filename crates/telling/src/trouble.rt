@@ -7,8 +7,8 @@ ghost use Rattle.telling.specs.Forms.{Says};
 ghost use Rattle.telling.specs.Troubles.{troubleLine};
 
 // The troubles, a line to each, in the order of `Trouble`.
-const TROUBLES: [u8; 1867] = *b"\
-osc: the first word is not decode, encode, look, index, check, cue, time, help or --version: ~
+const TROUBLES: [u8; 2028] = *b"\
+osc: the first word is not decode, encode, look, index, check, cue, time, shift, help or --version: ~
 osc: decode takes udp|tcp|tcp-vec|tcp2|tcp2-vec INPUT TABLE [--depth N] [--records N] [--replace]
 osc: encode takes udp|tcp|tcp2 TABLE SOURCE OUTPUT [--replace]
 osc: look takes TABLE INDEX [--rule a|b]
@@ -28,7 +28,7 @@ osc: index takes RECORDING INDEX [--replace]
 osc: check takes RECORDING INDEX
 osc: cue takes RECORDING INDEX K TABLE PACKET [--replace]
 osc: ~: the file became shorter while it was read
-osc: only decode, encode, index and cue take --replace
+osc: only decode, encode, index, cue and shift take --replace
 osc: ~: this file is not an index (% bytes, not a multiple of 16); nothing was changed. To replace it anyway, add --replace.
 osc: ~: this file is not an index (8 bytes at offset 0 are not zero); nothing was changed. To replace it anyway, add --replace.
 osc: ~: this file is not a table (% bytes, not a multiple of 20); nothing was changed. To replace it anyway, add --replace.
@@ -38,6 +38,8 @@ osc: ~: the other output has the same name
 osc: time takes a|b TAG, or a|b SECONDS
 osc: the rule is a or b, not ~
 osc: neither a tag of 16 hexadecimal digits nor seconds, with at most 9 digits after a dot: ~
+osc: shift takes RECORDING OUT BY [--replace]
+osc: BY is neither seconds, with at most 9 digits after a dot, nor hex: and 16 hexadecimal digits: ~
 ";
 
 // Puts the line for a trouble with a word, or with a file and a number of its bytes, at the front of `out`, and answers how long it is.

@@ -63,7 +63,7 @@ pub fn version(major: u16, minor: u16, patch: u16) {
 }
 
 // What the commands are.
-const HELP: [u8; 2359] = *b"\
+const HELP: [u8; 2705] = *b"\
 osc decode udp|tcp|tcp-vec|tcp2|tcp2-vec INPUT TABLE [--depth N] [--records N] [--replace]
     reads INPUT and writes its records, 20 bytes each, to TABLE
 osc encode udp|tcp|tcp2 TABLE SOURCE OUTPUT [--replace]
@@ -81,6 +81,9 @@ osc time a|b TAG
 osc time a|b SECONDS
     says a Unix time, its time tag and its UTC date. TAG is exactly 16 hexadecimal digits; every other word is SECONDS since 1970, as in
     1763424000.5 or -1, with at most 9 digits after a dot. Rule a counts tags from 1900 to 2036; rule b reads those from 1968 to 2104
+osc shift RECORDING OUT BY [--replace]
+    writes RECORDING to OUT with each of its time tags moved by BY: seconds, as in 12, -1 or 0.5, at most 4294967295 and with at most 9
+    digits after a dot, or hex: and 16 hexadecimal digits. No other byte changes. Tags wrap around, and the tag for at once is moved too
 osc help, osc --help, osc -h
     says this
 osc --version
@@ -88,12 +91,12 @@ osc --version
 udp is one packet, tcp the first packet of a stream, and tcp-vec all of them, as rosc has a stream: a length cuts nothing, and none
 stands before a bundle. tcp2 and tcp2-vec are the same as OSC 1.0 has it: every packet stands behind its length, which cuts it.
 A TABLE or INDEX that exists is replaced or removed only where it could be one: an index is empty, or has a multiple of 16 bytes, the first
-8 of them zero; a table is empty, or has a multiple of 20 bytes, the first 4 of them / or # and three zeros. An OUTPUT or PACKET that exists
-is kept. --replace, the last word, says that any file is to be replaced.
-Exit status: 0 an answer; 1 a refusal; 2 trouble with a word or a file; 3 Waiting; 4 tcp2-vec, index or check stopped at a frame; 5 the
-answer could not be written to standard output.
-After 1 and 3 no TABLE, PACKET or OUTPUT is left. After 2 nothing was changed. After 4 TABLE or INDEX holds what stands before that frame.
-After 5 the files are as the answer says, which is on standard error.
+8 of them zero; a table is empty, or has a multiple of 20 bytes, the first 4 of them / or # and three zeros. An OUTPUT, PACKET or
+OUT that exists is kept. --replace, the last word, says that any file is to be replaced.
+Exit status: 0 an answer; 1 a refusal; 2 trouble with a word or a file; 3 Waiting; 4 tcp2-vec, index, check or shift stopped at a frame;
+5 the answer could not be written to standard output.
+After 1 and 3 no TABLE, PACKET or OUTPUT is left. After 2 nothing was changed. After 4 TABLE or INDEX holds what stands before that frame,
+and OUT is as it was. After 5 the files are as the answer says, which is on standard error.
 ";
 
 // Says what the commands are.

@@ -31,7 +31,7 @@ compared-came n {next} {before} {fresh} few part f e =
     (ap (λ (x : Checked). cameIf x next) (sym e ∙ part .answers ∙ ap (λ (l : List ℕ). numberedFrom before (compared fresh l)) f))
 
 -- the first bytes of a buffer are those that were kept and those that were read after them
-holds : (from : Position) (before buf : List ℕ) (count : ℕ) → ReadsOn (from .kept) before buf count
+pub holds : (from : Position) (before buf : List ℕ) (count : ℕ) → ReadsOn (from .kept) before buf count
     → BufferHolds from before (drop (from .kept) (take count buf)) count buf
 holds from before buf count reads =
     let kept : take (from .kept) (take count buf) ≡ take (from .kept) before

@@ -53,7 +53,7 @@ pub enum Judged {
 }
 
 // Room for the bytes of a recording that are read at once: a frame has no more.
-fn bytes() -> [u8; wire::LONGEST]
+pub fn bytes() -> [u8; wire::LONGEST]
     ensures { λ r. ⌜ length r ≡ longest ⌝ }
 {
     [0; wire::LONGEST]
@@ -113,14 +113,14 @@ fn hand_on(
 }
 
 // Says how much is read, where another 16 MiB are.
-fn tell_read(before: u64, now: u64) {
+pub fn tell_read(before: u64, now: u64) {
     if before / OFTEN < now / OFTEN {
         say::progress(now / 0x10_0000);
     }
 }
 
 // A walk whose last buffer has `count` bytes, of a recording that had `size` bytes: it has ended, unless bytes were lost since.
-fn unless_shorter(fd: i32, size: u64, count: usize, came: Came) -> Came
+pub fn unless_shorter(fd: i32, size: u64, count: usize, came: Came) -> Came
     requires { ⌜ LowCame 0 came ⌝ }
     ensures { λ r. ⌜ StaysOrFails came r ⌝ }
 {

@@ -38,7 +38,9 @@ troubles =
     ∷ trouble.TwoNames
     ∷ trouble.TimeWords
     ∷ trouble.NoRule
-    ∷ trouble.NoTime ∷ []
+    ∷ trouble.NoTime
+    ∷ trouble.ShiftWords
+    ∷ trouble.NoAmount ∷ []
 
 -- a trouble stands at this place among them
 pub record PlacedAt (t : Trouble) (place : ℕ) : Type 0 where

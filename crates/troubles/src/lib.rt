@@ -33,6 +33,8 @@ pub enum Trouble {
     TimeWords,
     NoRule,
     NoTime,
+    ShiftWords,
+    NoAmount,
 }
 
 // The place of a trouble among the others.
@@ -72,5 +74,7 @@ pub fn place_of(trouble: Trouble) -> usize
         Trouble::TimeWords => 27,
         Trouble::NoRule => 28,
         Trouble::NoTime => 29,
+        Trouble::ShiftWords => 30,
+        Trouble::NoAmount => 31,
     }
 }

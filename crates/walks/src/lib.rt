@@ -4,12 +4,12 @@ mod rest; // rest.rt: the bytes that are kept
 
 use cues::ENTRY_SIZE;
 use cues::index_step;
-use rest::keep_rest;
 use results::End;
 use results::Indexed;
 ghost use mathlib.Core.Path.{_≡_};
 ghost use Rattle.walks.specs.Walks.{readsOn, WalkStep};
 ghost use Rattle.walks.specs.CodeWalks.{CanWalk};
+pub use rest::keep_rest;
 
 // Where a walk stands: so many records for the bytes up to an offset, and so many bytes after it that were read and are kept.
 pub struct Position {
