@@ -141,9 +141,11 @@ through {by} {from} {last} {before} {why = why} (slides-on {next = next} {fresh 
           ∙ ap (withSum (sliding by) fresh) (i .1),
     )
 through {by} {from} {last} {before} {why = why} (slides-last {fresh = fresh} b o) =
-    let t = took-last b in
-    (t .portion ∷ [], one-buffer by (from .at) (take (from .kept) before) (t .portion) ∙ t .tells
-    ∙ ap (λ (l : List ℕ). folded l (last .at) why) (sym (append-nil fresh)))
+    let t = took-last b in (
+      t .portion ∷ [],
+      one-buffer by (from .at) (take (from .kept) before) (t .portion) ∙ t .tells
+          ∙ ap (λ (l : List ℕ). folded l (last .at) why) (sym (append-nil fresh)),
+    )
 
 pub loop-slides : LoopSlides
 loop-slides by before parts last why l = let t = through l in (t .0, sym (any-buffers by (t .0)) ∙ t .1)

@@ -15,11 +15,13 @@ use Rattle.files.specs.Rest.{ReadsOn}
 use Rattle.cues.specs.Cues.{longestRecording}
 use Rattle.cues.proofs.Indexes.{EndIn, IndexIn, FieldIn, field-in}
 use Rattle.walks.specs.Walks.{LowPosition, readsOn}
+use Rattle.walks.specs.CodeWalks.{RestKept}
 use Rattle.walks.proofs.Steps.{goes-on}
 use Rattle.walks.specs.declared.Position.{Position}
 use Rattle.slides.proofs.Files.{stops-as-index, keeps-room}
 use Rattle.slide_walks.specs.Turns.{Turns}
 use Rattle.slide_walks.specs.declared.Turn.{Turn}
+use Rattle.slide_walks.specs.declared.Turn.the-variants as turn
 use Rattle.tool_recordings.specs.CodeCame.{LowCame, StaysOrFails, stays, fails}
 use Rattle.tool_recordings.proofs.Loops.{holds}
 use Rattle.tool_recordings.specs.declared.Came.{Came}
@@ -72,11 +74,14 @@ buffer-low {from = from} (slid-buffer full here near h w f s) =
     subst⁻¹ (LowCame (from .at + 1)) (s .came) (came-low from w full here near)
 
 -- a turn: a read, what is slid, and where the walk stands then
-pub slides-to : {by : ℕ} {from : Position} {before buf slid kept fresh : List ℕ} {count : ℕ} {t : Turn} {r : Came}
+pub slides-to : {by : ℕ} {from : Position} {before buf slid kept fresh : List ℕ} {count n : ℕ} {t : Turn} {r : Came}
     → ReadsOn (from .kept) before buf count → length buf ≡ longest → count ≤ length buf → from .at + count ≤ longestRecording
-    → Turns buf count by t slid → fresh ≡ take (slidBy t) slid → StandsAfter from count t slid kept r → SlidesTo by from before kept r
-slides-to {from = from} {before} {buf} {fresh = fresh} {count} reads full here near w f s =
-    record { fresh = fresh; is = slid-buffer full here near (holds from before buf count reads) w f s }
+    → Turns buf count by t slid → fresh ≡ take n slid → n ≡ slidBy t → StandsAfter from count t slid kept r → SlidesTo by from before kept r
+slides-to {from = from} {before} {buf} {slid} {fresh = fresh} {count} reads full here near w f e s =
+    record {
+      fresh = fresh;
+      is = slid-buffer full here near (holds from before buf count reads) w (f ∙ ap (λ (k : ℕ). take k slid) e) s;
+    }
 
 -- a turn that failed
 pub no-slide : {by : ℕ} {from : Position} {before kept : List ℕ} {r : Came} → r ≡ Failed → SlidesTo by from before kept r
@@ -87,3 +92,32 @@ pub slide-or-fails : {by : ℕ} {from : Position} {before kept : List ℕ} {came
     → SlidesTo by from before kept came → SlidesTo by from before kept r
 slide-or-fails {by} {from} {before} {kept} (stays e) t = subst⁻¹ (SlidesTo by from before kept) e t
 slide-or-fails (fails e) t = no-slide e
+
+-- where the walk stands after a turn, by its case
+module _ (from : Position) (t : Turn) {buf kept : List ℕ} {count used k : ℕ} (as-slid : used ≡ slidBy t)
+    (rest : RestKept used count buf kept k) where
+  rest-is : RestKept (slidBy t) count buf kept (count - slidBy t)
+  rest-is =
+      subst (λ (n : ℕ). RestKept n count buf kept (count - n)) as-slid (subst (RestKept used count buf kept) (rest .count) rest)
+
+  there : (p : Position → Came) → p (record { at = from .at + used; records = 0; kept = k }) ≡ p (afterBytes from count (slidBy t))
+  there p =
+      ap (λ (j : ℕ). p (record { at = from .at + used; records = 0; kept = j })) (rest .count)
+      ∙ ap (λ (n : ℕ). p (afterBytes from count n)) as-slid
+
+  pub on-stands : {u : ℕ} → t ≡ turn.On u
+      → StandsAfter from count t buf kept (On (record { at = from .at + used; records = 0; kept = k }))
+  on-stands {u} e =
+      record {
+        rest = rest-is;
+        came = there On ∙ ap (λ (x : Turn). On (afterBytes from count (slidBy x))) e ∙ ap (cameAfter from count) (sym e);
+      }
+
+  pub end-stands : {u : ℕ} {why : End} → t ≡ turn.Ended u why
+      → StandsAfter from count t buf kept (Ended (record { at = from .at + used; records = 0; kept = k }) why)
+  end-stands {u} {why} e =
+      record {
+        rest = rest-is;
+        came = there (λ p. Ended p why) ∙ ap (λ (x : Turn). Ended (afterBytes from count (slidBy x)) why) e
+            ∙ ap (cameAfter from count) (sym e);
+      }

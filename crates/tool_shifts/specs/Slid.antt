@@ -54,8 +54,8 @@ pub record StandsAfter (from : Position) (count : ℕ) (t : Turn) (buf kept : Li
 pub data SlidBuffer (by : ℕ) (from : Position) (before kept fresh : List ℕ) (r : Came) : Type 0 where
   slide-fails : r ≡ Failed → SlidBuffer by from before kept fresh r
   slid-buffer : {portion buf slid : List ℕ} {count : ℕ} {t : Turn} → length buf ≡ longest → count ≤ length buf
-      → from .at + count ≤ longestRecording → BufferHolds from before portion count buf → Turns buf count by t slid → fresh ≡ take (slidBy t) slid
-      → StandsAfter from count t slid kept r → SlidBuffer by from before kept fresh r
+      → from .at + count ≤ longestRecording → BufferHolds from before portion count buf → Turns buf count by t slid
+      → fresh ≡ take (slidBy t) slid → StandsAfter from count t slid kept r → SlidBuffer by from before kept fresh r
 
 -- the same of any bytes that are written
 pub record SlidesTo (by : ℕ) (from : Position) (before kept : List ℕ) (r : Came) : Type 0 where
