@@ -22,12 +22,12 @@ static const uint8_t source[] = "/\303\251";
 
 enum call {
     UDP, TCP, TCP_VEC, TCP2, TCP_VEC2, PORTION, INDEX, ENCODE, ENCODE_TCP, ENCODE_TCP2, STRING, CHECK, LOOK, START, CUE,
-    TAG_A, TAG_B, UNIX_A, UNIX_B, SHIFT, DIFFERENCE, SHIFT_TABLE, PAD, VERSION
+    SHIFT_TABLE, TAG_A, TAG_B, UNIX_A, UNIX_B, SHIFT, DIFFERENCE, PAD, VERSION
 };
 
-static const char *const names[] = {"udp",        "tcp",         "tcp_vec", "tcp2",  "tcp_vec2",   "portion", "index", "encode",
-                                    "encode_tcp", "encode_tcp2", "string",  "check", "look",       "start",   "cue",   "tag_a",
-                                    "tag_b",      "unix_a",      "unix_b",  "shift", "difference", "shift_table", "pad",
+static const char *const names[] = {"udp",         "tcp",         "tcp_vec", "tcp2",   "tcp_vec2", "portion", "index",      "encode",
+                                    "encode_tcp",  "encode_tcp2", "string",  "check",  "look",     "start",   "cue",
+                                    "shift_table", "tag_a",       "tag_b",   "unix_a", "unix_b",   "shift",   "difference", "pad",
                                     "version"};
 
 /* The call that the thread makes: n is the length of its input, or its number. */

@@ -803,8 +803,8 @@ expect 2 '' "$shift_takes" shift act.osc new.out
 expect 2 '' "$shift_takes" shift act.osc new.out --replace
 expect 2 '' "$shift_takes" shift act.osc new.out 1 2
 no_amount='osc: BY is neither seconds, with at most 9 digits after a dot, nor hex: and 16 hexadecimal digits: '
-for by in '' x 1s +1 --1 1. .5 1.0000000001 1e3 4294967296 hex: hex:1 hex:000000000000000g hex:00000000000000001 -hex:0000000000000001; do
-    expect 2 '' "$no_amount$by" shift act.osc new.out "$by"
+for amount in '' x 1s +1 --1 1. .5 1.0000000001 1e3 4294967296 hex: hex:1 hex:000000000000000g hex:00000000000000001 -hex:0000000000000001; do
+    expect 2 '' "$no_amount$amount" shift act.osc new.out "$amount"
 done
 expect 2 '' 'osc: missing: No such file or directory' shift missing new.out 1
 expect 2 '' 'osc: the name of a file is empty' shift act.osc '' 1

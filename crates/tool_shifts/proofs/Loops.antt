@@ -18,7 +18,7 @@ use Rattle.walks.proofs.Steps.{goes-on}
 use Rattle.walks.specs.declared.Position.{Position}
 use Rattle.slides.specs.Slides.{sliding, slideOf}
 use Rattle.slides.proofs.Puts.{drop-take}
-use Rattle.slides.proofs.Files.{sliding-sound, any-buffers}
+use Rattle.slides.proofs.Files.{sliding-sound, slide-any-buffers}
 use Rattle.slide_walks.specs.Turns.{Turns}
 use Rattle.slide_walks.specs.declared.Turn.{Turn}
 use Rattle.slide_walks.specs.declared.Turn.the-variants as turn
@@ -148,4 +148,4 @@ through {by} {from} {last} {before} {why = why} (slides-last {fresh = fresh} b o
     )
 
 pub loop-slides : LoopSlides
-loop-slides by before parts last why l = let t = through l in (t .0, sym (any-buffers by (t .0)) ∙ t .1)
+loop-slides by before parts last why l = let t = through l in (t .0, sym (slide-any-buffers by (t .0)) ∙ t .1)
