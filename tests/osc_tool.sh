@@ -754,7 +754,7 @@ shifts 1 -1 '\0\0\0\002\0\0\0\002' '\0\0\0\0\200\0\0\0' '\0\0\0\001\0\0\0\001'
 shifts -1 1.0 '\0\0\0\0\0\0\0\002' '\377\377\377\376\200\0\0\0' '\377\377\377\377\0\0\0\001'
 shifts 0.5 -0.5 '\0\0\0\001\200\0\0\002' '\0\0\0\0\0\0\0\0' '\0\0\0\0\200\0\0\001'
 shifts -0.5 hex:0000000080000000 '\0\0\0\0\200\0\0\002' '\377\377\377\377\0\0\0\0' '\377\377\377\377\200\0\0\001'
-shifts hex:0000000000000001 hex:FFFFffffFFFFffff '\0\0\0\001\0\0\0\003' '\377\377\377\377\200\0\0\001' '\0\0\0\0\0\0\0\002'
+shifts hex:0000000000000001 hex:FFFFFFFFFFFFFFFF '\0\0\0\001\0\0\0\003' '\377\377\377\377\200\0\0\001' '\0\0\0\0\0\0\0\002'
 shifts 4294967295.999999999 -4294967295.999999999 '\0\0\0\0\377\377\377\376' '\377\377\377\377\177\377\377\374' \
     '\377\377\377\377\377\377\377\375'
 expect 0 'shift: 0 bytes, whole' '' shift none.osc shifted.osc 1 --replace
@@ -771,7 +771,7 @@ done
 expect 0 'shift: 278528 bytes, whole' '' shift acts.osc shifted.osc hex:0000000000000001 --replace
 [ "$(cmp -l acts.osc shifted.osc | wc -l)" -eq 12288 ]
 count $? 'a shift by 1 changes other bytes than the last of each tag'
-expect 0 'shift: 278528 bytes, whole' '' shift shifted.osc back.osc hex:ffffffffffffffff --replace
+expect 0 'shift: 278528 bytes, whole' '' shift shifted.osc back.osc hex:FFFFFFFFFFFFFFFF --replace
 same back.osc acts.osc
 expect 0 'shift: 131092 bytes, whole' '' shift longer.osc shifted.osc 1 --replace
 same shifted.osc longer.osc
