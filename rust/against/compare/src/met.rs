@@ -395,7 +395,7 @@ const REFUSALS: usize = 29;
 const NONE_GIVES: &[usize] = &[3, 22, 23, 24];
 
 /// The calls that refuse nothing: shift and difference.
-const NEVER_REFUSE: &[usize] = &[20, 21];
+const NEVER_REFUSE: &[usize] = &[21, 22];
 
 /// What the decoders of edition 2 may give, each of which is to be met: those of one frame, and of a list those of the call and of the
 /// frame that ended it. There is no 20: a frame ends at a multiple of 4, so that no padding in it is short.
