@@ -14,7 +14,7 @@ use text::{Text, find_osc_string};
 use wire::be_u32;
 
 // What reading one argument gives.
-#[derive(Drop)]
+#[derive(Clone, Copy)]
 pub enum Arg {
     // Its own numbers, and how many bytes of data it takes.
     Given { item: Item, used: usize },
@@ -123,7 +123,7 @@ fn read_blob(tag: u8, input: &[u8], base: usize, pos: usize) -> Arg
 }
 
 // An argument's own numbers, and how many bytes of data it takes.
-#[derive(Drop)]
+#[derive(Clone, Copy)]
 pub struct GivenArg {
     pub item: Item,
     pub used: usize,

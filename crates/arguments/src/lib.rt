@@ -16,7 +16,7 @@ use refusal::Fault;
 use scan::{Back, Scanned};
 
 // What the first reading of the arguments answers.
-#[derive(Drop)]
+#[derive(Clone, Copy)]
 pub enum Measured {
     // How many records the kept arguments take, how deep arrays are nested in them, how many bytes of data were read, and how many bytes
     // of the kept ones' padding are not zero.

@@ -9,7 +9,7 @@ use words::line::{front, start, word};
 use words::numeral::number;
 
 // What a case met: whether it is right, what was answered, and the sum of what was lent.
-#[derive(Drop)]
+#[derive(Clone, Copy)]
 pub struct Found {
     pub is_right: bool,
     pub outcome: Outcome,

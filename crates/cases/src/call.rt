@@ -31,7 +31,7 @@ const LABEL: [u8; 5] = *b"label";
 
 // What a call answered: the records or bytes that were given, the kind or the position; the bytes left over; the bytes of padding that are
 // not zero; the number of a refusal, and where the field began that was short; and where a refused frame of a list began.
-#[derive(Drop)]
+#[derive(Clone, Copy)]
 pub struct Outcome {
     pub answer: usize,
     pub count: u64,

@@ -19,7 +19,7 @@ const FRACTIONS: u64 = 0x1_0000_0000;
 const EPOCH: u64 = 2_208_988_800;
 
 // What a seconds field stands for. The caller chooses.
-#[derive(Drop)]
+#[derive(Clone, Copy)]
 pub enum Rule {
     // As rosc reads it: the seconds since 1900, which end in 2036.
     A,
@@ -28,7 +28,7 @@ pub enum Rule {
 }
 
 // Why there is no answer.
-#[derive(Drop)]
+#[derive(Clone, Copy)]
 pub enum OutOfRange {
     // Nanoseconds of 10^9 or more.
     Nanoseconds,
@@ -78,7 +78,7 @@ fn nanos_of(fraction: u64) -> u64
 }
 
 // Where a signed number of Unix seconds lies.
-#[derive(Drop)]
+#[derive(Clone, Copy)]
 enum Start {
     // Before 1970.
     Earlier,
@@ -96,7 +96,7 @@ fn start_of(seconds: i64) -> Start
 }
 
 // A tag, or why there is none.
-#[derive(Drop)]
+#[derive(Clone, Copy)]
 pub enum Tagged {
     Tag(u64),
     Refused(OutOfRange),
@@ -139,7 +139,7 @@ fn since_1900(rule: Rule, field: u64) -> u64
 }
 
 // A Unix time, or why there is none.
-#[derive(Drop)]
+#[derive(Clone, Copy)]
 pub enum Unix {
     At { seconds: i64, nanos: u64 },
     Refused(OutOfRange),

@@ -13,7 +13,7 @@ use words::line::place_of;
 use words::numeral::{Numeral, decimal};
 
 // The first word.
-#[derive(Drop)]
+#[derive(Clone, Copy)]
 pub enum Command {
     Decode,
     Encode,
@@ -29,21 +29,21 @@ pub enum Command {
 }
 
 // How many words there are without --replace, and whether that is the last of them; or what is wrong with it.
-#[derive(Drop)]
+#[derive(Clone, Copy)]
 pub enum Worded {
     As(usize, bool),
     Wrong(Trouble, usize),
 }
 
 // A word read as a framing.
-#[derive(Drop)]
+#[derive(Clone, Copy)]
 pub enum Framed {
     As(Framing),
     Unclear,
 }
 
 // How a packet is to be written.
-#[derive(Drop)]
+#[derive(Clone, Copy)]
 pub enum Writing {
     // Alone, as a UDP packet.
     Alone,
@@ -52,35 +52,35 @@ pub enum Writing {
 }
 
 // What the words of decode ask; or what is wrong with them, and with which.
-#[derive(Drop)]
+#[derive(Clone, Copy)]
 pub enum DecodeAsked {
     As(Framing, Options),
     Wrong(Trouble, usize),
 }
 
 // The same of encode.
-#[derive(Drop)]
+#[derive(Clone, Copy)]
 pub enum EncodeAsked {
     As(Writing),
     Wrong(Trouble, usize),
 }
 
 // The same of look: the index of the record.
-#[derive(Drop)]
+#[derive(Clone, Copy)]
 pub enum LookAsked {
     As(usize),
     Wrong(Trouble, usize),
 }
 
 // The same of index and of check, whose words are all names of files.
-#[derive(Drop)]
+#[derive(Clone, Copy)]
 pub enum NamesAsked {
     Good,
     Wrong(Trouble, usize),
 }
 
 // The same of cue: the number of the cue.
-#[derive(Drop)]
+#[derive(Clone, Copy)]
 pub enum CueAsked {
     As(u32),
     Wrong(Trouble, usize),

@@ -10,7 +10,7 @@ use wire::DEEPEST;
 use words::numeral::Numeral;
 
 // What the options of decode say, and which of them were given.
-#[derive(Drop)]
+#[derive(Clone, Copy)]
 pub struct Options {
     pub depth: usize,
     pub records: usize,
@@ -19,7 +19,7 @@ pub struct Options {
 }
 
 // The options, or what is wrong with them, and with which word.
-#[derive(Drop)]
+#[derive(Clone, Copy)]
 pub enum Chosen {
     As(Options),
     Wrong(Trouble, usize),

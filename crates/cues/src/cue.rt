@@ -11,7 +11,7 @@ use results::Decoded;
 pub const MOST_IN_A_CUE: usize = 3276;
 
 // What stands at the front of some bytes of a recording.
-#[derive(Drop)]
+#[derive(Clone, Copy)]
 pub enum Cue {
     // A frame that is accepted: its bytes, prefix included, and the records of its table.
     Given { size: usize, records: usize },

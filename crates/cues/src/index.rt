@@ -19,7 +19,7 @@ pub const MOST_ENTRIES: usize = 5461;
 pub const LONGEST_RECORDING: u64 = 0x7fff_ffff_ffff_ffff;
 
 // The frames of a buffer: how many are accepted, the bytes that they take, and why no more.
-#[derive(Drop)]
+#[derive(Clone, Copy)]
 pub struct Stretch {
     records: usize,
     used: usize,

@@ -1,7 +1,7 @@
 // How packets stand in an input: the two ways to cut a TCP stream, and the framings over them. Decoders and encoders name one.
 
 // How a TCP stream is cut into packets.
-#[derive(Drop)]
+#[derive(Clone, Copy)]
 pub enum Edition {
     // As rosc reads and writes it: a length cuts nothing, and bundles are written without one.
     Rosc,
@@ -10,7 +10,7 @@ pub enum Edition {
 }
 
 // How packets stand in an input.
-#[derive(Drop)]
+#[derive(Clone, Copy)]
 pub enum Framing {
     // One packet is all of the input.
     Udp,

@@ -21,7 +21,7 @@ use writers::{LONGEST_ELEMENT, encode_packet};
 const LONGEST_TEXT: usize = LONGEST - 4;
 
 // What is known of a packet before a byte of it is written.
-#[derive(Drop)]
+#[derive(Clone, Copy)]
 enum Prepared {
     // Its length, which is at most 65,535.
     Length(usize),

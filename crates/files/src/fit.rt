@@ -7,7 +7,7 @@ use troubles::Trouble;
 use words::line::front;
 
 // What a command writes.
-#[derive(Drop)]
+#[derive(Clone, Copy)]
 pub enum Kind {
     Index,
     Table,
@@ -16,7 +16,7 @@ pub enum Kind {
 }
 
 // Whether a file could be one; or why not.
-#[derive(Drop)]
+#[derive(Clone, Copy)]
 pub enum Fit {
     Yes,
     No(Trouble),

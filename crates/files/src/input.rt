@@ -6,7 +6,7 @@ use crate::pieces::{Opened, open, open_apart, read_on};
 
 // How a read went: whether it did, how many bytes it put at the start of the buffer, and whether it did not because the file is the
 // one to be written.
-#[derive(Drop)]
+#[derive(Clone, Copy)]
 pub struct Got {
     pub is_read: bool,
     pub count: usize,

@@ -13,7 +13,7 @@ use troubles::Trouble;
 use words::line::front;
 
 // How a write went.
-#[derive(Drop)]
+#[derive(Clone, Copy)]
 pub enum Stored {
     Whole,
     // The name leaves no room in a path for what is put after it.
@@ -27,7 +27,7 @@ pub enum Stored {
 }
 
 // How a file was begun.
-#[derive(Drop)]
+#[derive(Clone, Copy)]
 pub enum Begun {
     // The descriptor of the file beside, and how long its name is.
     At(i32, usize),

@@ -10,7 +10,7 @@ use crate::input::{Got, read_up, unread};
 use crate::one::is_output;
 
 // What became of a file that was to be opened.
-#[derive(Drop)]
+#[derive(Clone, Copy)]
 pub enum Opened {
     // Its descriptor.
     At(i32),

@@ -6,7 +6,7 @@ use troubles::Trouble;
 use words::line::front;
 
 // Whether a new file may take a name.
-#[derive(Drop)]
+#[derive(Clone, Copy)]
 pub enum Place {
     // Nothing has it.
     Free,

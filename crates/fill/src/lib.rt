@@ -15,7 +15,7 @@ use text::Text;
 use wire::be_u32;
 
 // What the second reading of a packet answers.
-#[derive(Drop)]
+#[derive(Clone, Copy)]
 pub enum Reread {
     // So many records; `next` is the position after its last byte.
     Wrote { count: usize, next: usize },
@@ -24,7 +24,7 @@ pub enum Reread {
 }
 
 // What an element that is known to be accepted gives: so many records; `next` is the position after it.
-#[derive(Drop)]
+#[derive(Clone, Copy)]
 struct Element {
     count: usize,
     next: usize,

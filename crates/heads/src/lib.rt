@@ -9,7 +9,7 @@ use node::tags::{BUNDLE, MESSAGE};
 use wire::be_u32;
 
 // The size of an element.
-#[derive(Drop)]
+#[derive(Clone, Copy)]
 pub enum ElementSize {
     // So many bytes follow the size.
     Holds(usize),
@@ -18,7 +18,7 @@ pub enum ElementSize {
 }
 
 // The prefix of a frame.
-#[derive(Drop)]
+#[derive(Clone, Copy)]
 pub enum Prefix {
     // The length is at most that of the input, prefix included.
     Ready,
@@ -29,7 +29,7 @@ pub enum Prefix {
 }
 
 // The prefix of a frame of edition 2, whose length cuts the packet.
-#[derive(Drop)]
+#[derive(Clone, Copy)]
 pub enum Length {
     // The frame is all there: so many bytes follow the prefix.
     Cuts(usize),

@@ -7,7 +7,7 @@ use words::{hex, line, numeral};
 // The names of the questions, in the order of the tally; the last is for what is none.
 pub const NAMES: [u8; 57] = *b"utf8 lead pad u32 u64 text record look name start unclear";
 
-#[derive(Drop)]
+#[derive(Clone, Copy)]
 pub enum Question {
     // `utf8 BYTES`: are they UTF-8?
     Utf8,

@@ -13,7 +13,7 @@ use refusal::{Fault, Field};
 use text::{Text, dirty_in};
 
 // What the first reading of a packet answers; `next` is the position after its last byte.
-#[derive(Drop)]
+#[derive(Clone, Copy)]
 pub enum Extent {
     // Its records, and how many bytes of the padding of all that it keeps are not zero.
     Tree {
@@ -29,7 +29,7 @@ pub enum Extent {
 }
 
 // What a look at an element answers.
-#[derive(Drop)]
+#[derive(Clone, Copy)]
 pub enum Skimmed {
     // It is accepted, and has so many bytes.
     Takes(usize),

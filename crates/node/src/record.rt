@@ -21,7 +21,7 @@ pub const B: usize = 12;
 pub const START: usize = 16;
 
 // A node's own numbers: all that its record says but its end, which what it contains decides.
-#[derive(Drop)]
+#[derive(Clone, Copy)]
 pub struct Item {
     pub kind: u8,
     pub a: u32,

@@ -12,7 +12,7 @@ pub const BUNDLE: u8 = b'#';
 pub const ARRAY: u8 = b'[';
 
 // The data of an argument that is no array.
-#[derive(Drop)]
+#[derive(Clone, Copy)]
 pub enum Class {
     // 4 bytes: 'i', 'f', 'r', 'm'.
     Four,
@@ -31,7 +31,7 @@ pub enum Class {
 }
 
 // What a tag does to the arguments.
-#[derive(Drop)]
+#[derive(Clone, Copy)]
 pub enum Sort {
     // '[' opens an array.
     Opens,

@@ -10,7 +10,7 @@ use results::{Checked, Encoded};
 use telling::{tell_differs, tell_encoded};
 
 // Whether a cue can be looked for; or what is said.
-#[derive(Drop)]
+#[derive(Clone, Copy)]
 pub enum Jump {
     To(u32),
     Not(Told),

@@ -23,7 +23,7 @@ use telling::{tell_decoded, tell_encoded};
 pub use tried::{Tried, decode_tried};
 
 // What is kept and said: whether bytes are kept, how many first ones of the slice that was lent for them, and how long the line is.
-#[derive(Drop)]
+#[derive(Clone, Copy)]
 pub struct Told {
     pub is_kept: bool,
     pub bytes: usize,

@@ -11,7 +11,7 @@ use refusal::number_of;
 use results::Decoded;
 
 // What a try came to.
-#[derive(Drop)]
+#[derive(Clone, Copy)]
 pub enum Tried {
     // An answer, which more room would not change.
     With(Told),

@@ -10,7 +10,7 @@ use refusal::{Fault, Field};
 use text::Text;
 
 // What a packet starts with; `used` bytes are the first text's.
-#[derive(Drop)]
+#[derive(Clone, Copy)]
 pub enum Start {
     // An address of `length` bytes.
     Message { length: usize, used: usize },

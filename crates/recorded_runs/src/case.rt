@@ -4,7 +4,7 @@ ghost use Rattle.recorded_runs.specs.Layout.{CaseIn, EndIn};
 use wire::{be_u32, be_u64};
 
 // Where a slice ends, or that it is longer than it may be or than the file.
-#[derive(Drop)]
+#[derive(Clone, Copy)]
 pub enum End {
     At(usize),
     Damaged,
@@ -12,7 +12,7 @@ pub enum End {
 
 // A case: its first slice starts at 17, its second 4 after the first, and the bytes due 20 after the second. `more` is what a decoder
 // is to say beside its answer.
-#[derive(Drop)]
+#[derive(Clone, Copy)]
 pub struct Case {
     pub operation: u8,
     pub number: u64,
@@ -25,7 +25,7 @@ pub struct Case {
 }
 
 // What stands at the front of a part of the file.
-#[derive(Drop)]
+#[derive(Clone, Copy)]
 pub enum Found {
     Whole(Case),
     Broken,

@@ -6,7 +6,7 @@ ghost use Rattle.recorded_runs.specs.Compared.{Compared};
 use crate::case::Case;
 
 // How a case went: as it should, or what is the first that differs.
-#[derive(Drop)]
+#[derive(Clone, Copy)]
 pub enum Outcome {
     Right,
     OtherAnswer,
@@ -16,7 +16,7 @@ pub enum Outcome {
 }
 
 // What a case met: what was answered, the sum of what was lent, and how the case went.
-#[derive(Drop)]
+#[derive(Clone, Copy)]
 pub struct Met {
     pub answer: u64,
     pub sum: u64,

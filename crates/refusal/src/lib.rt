@@ -4,7 +4,7 @@ ghost use Rattle.std.specs.Prelude.{◌≡◌, ◌+◌, ◌^◌, ◌<◌};
 ghost use Rattle.refusal.specs.Refusal.{number_of, fault_number, field_number, offset_of, fault_offset, moved_by, moved_refusal};
 
 // What was short.
-#[derive(Drop)]
+#[derive(Clone, Copy)]
 pub enum Field {
     // The address of a message, or a first text that is not known yet to be "#bundle".
     Address,
@@ -19,7 +19,7 @@ pub enum Field {
 }
 
 // Why bytes are not a packet. Reading gives no other refusal.
-#[derive(Drop)]
+#[derive(Clone, Copy)]
 pub enum Fault {
     // A packet of no bytes.
     Empty,
@@ -38,7 +38,7 @@ pub enum Fault {
 }
 
 // Why a call gives no answer.
-#[derive(Drop)]
+#[derive(Clone, Copy)]
 pub enum Refusal {
     // The decode input or the encoded result is over 65,535 bytes.
     TooLong,

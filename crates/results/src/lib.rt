@@ -2,7 +2,7 @@
 use refusal::Refusal;
 
 // What a decoder answers.
-#[derive(Drop)]
+#[derive(Clone, Copy)]
 pub enum Decoded {
     // Of one packet or of a list of packets: records written, input bytes left over, and how many bytes of the padding of all that is kept
     // are not zero.
@@ -26,7 +26,7 @@ pub enum Decoded {
 }
 
 // What a step over the bytes of a stream answers.
-#[derive(Drop)]
+#[derive(Clone, Copy)]
 pub enum Portion {
     // The packets of every whole frame: records written, the bytes that those frames take, and their dirty padding. The bytes from `used`
     // on are to be kept: what comes next stands after them.
@@ -46,7 +46,7 @@ pub enum Portion {
 }
 
 // Why an index goes no further.
-#[derive(Drop)]
+#[derive(Clone, Copy)]
 pub enum End {
     // The recording has no byte more.
     Whole,
@@ -57,7 +57,7 @@ pub enum End {
 }
 
 // What a step over the bytes of a recording answers.
-#[derive(Drop)]
+#[derive(Clone, Copy)]
 pub enum Indexed {
     // So many records were written, for the first `used` bytes, and why no more.
     Written {
@@ -72,7 +72,7 @@ pub enum Indexed {
 pub const INDEX_DIFFERS: u8 = 25;
 
 // What a check answers.
-#[derive(Drop)]
+#[derive(Clone, Copy)]
 pub enum Checked {
     // The index is the one written afresh: so many records.
     Fits(usize),
@@ -81,7 +81,7 @@ pub enum Checked {
 }
 
 // What a record of an index says.
-#[derive(Drop)]
+#[derive(Clone, Copy)]
 pub enum CueAt {
     // Where the frame's prefix stands, its length without the prefix, and the records of its table.
     At {
@@ -93,7 +93,7 @@ pub enum CueAt {
 }
 
 // What an encoder answers.
-#[derive(Drop)]
+#[derive(Clone, Copy)]
 pub enum Encoded {
     // The number of bytes written.
     Written(usize),

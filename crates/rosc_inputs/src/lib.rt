@@ -12,7 +12,7 @@ use measure::Extent;
 use refusal::{Fault, Field, Refusal, moved};
 
 // What the first reading of a frame answers.
-#[derive(Drop)]
+#[derive(Clone, Copy)]
 pub enum FrameExtent {
     Waiting,
     // The packet; its end is counted from the start of the prefix.
@@ -20,7 +20,7 @@ pub enum FrameExtent {
 }
 
 // What the first reading of a whole input answers.
-#[derive(Drop)]
+#[derive(Clone, Copy)]
 pub enum Total {
     // The records of all the trees, the bytes left over, and how many bytes of the padding of all that is kept are not zero.
     Trees {

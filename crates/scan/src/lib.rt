@@ -13,7 +13,7 @@ use refusal::{Fault, Field};
 use text::dirty_in;
 
 // What tags take, or the fault.
-#[derive(Drop)]
+#[derive(Clone, Copy)]
 pub enum Scanned {
     // So many bytes of data, and so many bytes of its padding that are not zero.
     Used { used: usize, dirty: usize },
@@ -21,7 +21,7 @@ pub enum Scanned {
 }
 
 // What the tags from some place on keep.
-#[derive(Drop)]
+#[derive(Clone, Copy)]
 pub enum Back {
     // They close every array that they open, and `closed` more. They give `count` records; with what those `closed` contain yet, arrays
     // are nested `depth` deep.

@@ -13,7 +13,7 @@ use refusal::Refusal;
 use values::look::{Looked, look};
 
 // What `shift_table` answers.
-#[derive(Drop)]
+#[derive(Clone, Copy)]
 pub enum Shifted {
     // How many tags were moved.
     Tags(usize),

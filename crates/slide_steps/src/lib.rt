@@ -13,7 +13,7 @@ pub use results::End;
 pub const TABLE_SIZE: usize = 65_520;
 
 // What a step over the bytes of a recording answers.
-#[derive(Drop)]
+#[derive(Clone, Copy)]
 pub enum Slide {
     // The first `used` bytes are slid, and why no more.
     Done { used: usize, end: End },
@@ -21,7 +21,7 @@ pub enum Slide {
 }
 
 // What stands at the front of some bytes of a recording.
-#[derive(Drop)]
+#[derive(Clone, Copy)]
 pub enum Front {
     // A frame of so many bytes, which is slid.
     Done(usize),

@@ -10,7 +10,7 @@ use results::End;
 use slide_steps::Slide;
 
 // What a buffer comes to. Its first bytes, so many, are slid: they are the next bytes of the output.
-#[derive(Drop)]
+#[derive(Clone, Copy)]
 pub enum Turn {
     // The recording is read on, after the bytes that are left of the buffer.
     On(usize),

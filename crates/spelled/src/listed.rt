@@ -15,7 +15,7 @@ use words::numeral::number;
 const RECORD: usize = 20;
 
 // The numbers of a record: its first four bytes, its end, its a and its start, with how much these grow, and its b.
-#[derive(Drop)]
+#[derive(Clone, Copy)]
 struct Row {
     first: u32,
     end: u32,

@@ -15,7 +15,7 @@ use refusal::{Fault, Refusal, moved};
 use rosc_inputs::Total;
 
 // What the first reading of a frame answers.
-#[derive(Drop)]
+#[derive(Clone, Copy)]
 pub enum CutExtent {
     Waiting,
     // The records of its tree, the bytes of the frame, prefix included, and how many bytes of its padding are not zero.

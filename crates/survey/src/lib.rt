@@ -27,7 +27,7 @@ const SIZE: usize = 4;
 const BUNDLE_AS_ELEMENT: usize = SIZE + BUNDLE_HEAD;
 
 // The tags and the bytes of data of arguments; UNSURE bytes where the reading is not sure.
-#[derive(Drop)]
+#[derive(Clone, Copy)]
 struct Tally {
     tags: usize,
     content: usize,

@@ -7,7 +7,7 @@ use crate::form::fill_in;
 use crate::lines::line_at;
 
 // Which form, and the numbers for its marks.
-#[derive(Drop)]
+#[derive(Clone, Copy)]
 pub struct Line {
     pub form: usize,
     pub a: u64,

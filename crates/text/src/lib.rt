@@ -8,7 +8,7 @@ ghost use Rattle.text.specs.Text.{until_nul, reach, read_text, dirt_of_byte, non
 use refusal::{Fault, Field};
 
 // What a text lacks.
-#[derive(Drop)]
+#[derive(Clone, Copy)]
 pub enum Lack {
     // There is no NUL.
     Nul,
@@ -19,7 +19,7 @@ pub enum Lack {
 }
 
 // What reading a text gives.
-#[derive(Drop)]
+#[derive(Clone, Copy)]
 pub enum Text {
     // The text has `length` bytes and takes `used` of the input, NUL and padding with it.
     Found { length: usize, used: usize },
@@ -27,7 +27,7 @@ pub enum Text {
 }
 
 // Where a text that was found before ends: its `length`, and what it takes of the input, NUL and padding with it.
-#[derive(Drop)]
+#[derive(Clone, Copy)]
 pub struct FoundText {
     pub length: usize,
     pub used: usize,

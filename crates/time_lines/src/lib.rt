@@ -100,7 +100,7 @@ pub fn tell_moment(rule: Rule, moment: Moment, out: &mut [u8]) -> usize
 }
 
 // The time of a value, if it has one.
-#[derive(Drop)]
+#[derive(Clone, Copy)]
 pub enum TimeIn {
     Tag(u64),
     Without,

@@ -14,21 +14,21 @@ use words::line::place_of;
 use words::numeral::Numeral;
 
 // A word read as a rule.
-#[derive(Drop)]
+#[derive(Clone, Copy)]
 pub enum Ruled {
     As(Rule),
     Unclear,
 }
 
 // What the words of time ask; or what is wrong with them, and with which.
-#[derive(Drop)]
+#[derive(Clone, Copy)]
 pub enum TimeAsked {
     Of(Rule, Moment),
     Wrong(Trouble, usize),
 }
 
 // The rule that look is given, if any; or what is wrong with it, and with which word.
-#[derive(Drop)]
+#[derive(Clone, Copy)]
 pub enum LookRuled {
     Not,
     By(Rule),

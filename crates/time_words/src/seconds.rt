@@ -13,21 +13,21 @@ const MOST: u64 = 0x7fff_ffff_ffff_ffff;
 const NANOS: u64 = 1_000_000_000;
 
 // A time as a word says it.
-#[derive(Drop)]
+#[derive(Clone, Copy)]
 pub enum Moment {
     Tag(u64),
     Unix { seconds: i64, nanos: u64 },
 }
 
 // A word read as a time.
-#[derive(Drop)]
+#[derive(Clone, Copy)]
 pub enum Timed {
     As(Moment),
     Unclear,
 }
 
 // Seconds and nanoseconds without a sign.
-#[derive(Drop)]
+#[derive(Clone, Copy)]
 pub enum Plain {
     Of(u64, u64),
     Unclear,

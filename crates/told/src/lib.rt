@@ -11,7 +11,7 @@ use refusal::Refusal;
 use results::{Checked, CueAt, Decoded, Encoded, End, Indexed, Portion};
 
 // The parts of what is told.
-#[derive(Drop)]
+#[derive(Clone, Copy)]
 pub struct Told {
     // Of the answer: a refusal's number in bits 56 to 63, the count in bits 32 to 55, the low number in bits 0 to 31.
     pub number: u64,

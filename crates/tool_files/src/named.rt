@@ -11,7 +11,7 @@ use troubles::Trouble;
 use words::line::front;
 
 // A file that was begun: the descriptor of the file beside it, and how long its name is.
-#[derive(Drop)]
+#[derive(Clone, Copy)]
 pub struct Draft {
     pub fd: i32,
     pub length: usize,
@@ -92,7 +92,7 @@ pub fn read_whole(i: usize, output: usize, buf: &mut [u8]) -> Got
 }
 
 // How the reading of a table into a room went.
-#[derive(Drop)]
+#[derive(Clone, Copy)]
 pub enum Records {
     // It is read whole: so many bytes.
     Whole(usize),

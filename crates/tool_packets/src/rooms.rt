@@ -11,7 +11,7 @@ use time_words::LookRuled;
 use tool_files::space;
 
 // What the words of a command ask. The `bool` says whether any file may be replaced.
-#[derive(Drop)]
+#[derive(Clone, Copy)]
 pub enum Work {
     Decode(Framing, Options, bool),
     Encode(Writing, bool),

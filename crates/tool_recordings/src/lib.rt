@@ -21,14 +21,14 @@ use words::line::front;
 const OFTEN: u64 = 0x100_0000;
 
 // What becomes of the index: it is written to an open file, or compared with one.
-#[derive(Drop)]
+#[derive(Clone, Copy)]
 pub enum Aim {
     Write(i32),
     Compare(i32),
 }
 
 // How a walk over a recording stands.
-#[derive(Drop)]
+#[derive(Clone, Copy)]
 pub enum Came {
     // It goes on.
     On(Position),
@@ -41,7 +41,7 @@ pub enum Came {
 }
 
 // What a check came to.
-#[derive(Drop)]
+#[derive(Clone, Copy)]
 pub enum Judged {
     // How the index is, at which offset of the recording its last frame ends, and why no more; 0 and `Whole` of an index that differs
     // before.

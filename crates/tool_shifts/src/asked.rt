@@ -7,7 +7,7 @@ use troubles::Trouble;
 use words::numeral::Numeral;
 
 // How far a recording is shifted; or what is wrong with the words, and with which.
-#[derive(Drop)]
+#[derive(Clone, Copy)]
 pub enum ShiftAsked {
     By(u64),
     Wrong(Trouble, usize),

@@ -2,7 +2,7 @@
 // says it do not stand on each other.
 ghost use Rattle.troubles.specs.CodePlaces.{PlacedAt};
 
-#[derive(Drop)]
+#[derive(Clone, Copy)]
 pub enum Trouble {
     NoCommand,
     DecodeWords,

@@ -9,7 +9,7 @@ use refusal::Refusal;
 use wire::{lies_in, range};
 
 // What `look` answers.
-#[derive(Drop)]
+#[derive(Clone, Copy)]
 pub enum Looked {
     Value(OscType),
     Refused(Refusal),
@@ -35,7 +35,7 @@ pub fn look(table: &[u8], index: usize) -> Looked
 }
 
 // What `start_of` answers.
-#[derive(Drop)]
+#[derive(Clone, Copy)]
 pub enum Started {
     // The offset, from the decoder's first byte, where the item's data begins.
     At(u32),

@@ -11,14 +11,14 @@ use node::record::Item;
 use node::tags::{BUNDLE, MESSAGE};
 
 // A time tag: seconds since 1900 and fractions of a second.
-#[derive(Drop)]
+#[derive(Clone, Copy)]
 pub struct OscTime {
     pub seconds: u32,
     pub fractional: u32,
 }
 
 // An RGBA colour.
-#[derive(Drop)]
+#[derive(Clone, Copy)]
 pub struct OscColor {
     pub red: u8,
     pub green: u8,
@@ -27,7 +27,7 @@ pub struct OscColor {
 }
 
 // A MIDI message.
-#[derive(Drop)]
+#[derive(Clone, Copy)]
 pub struct OscMidiMessage {
     pub port: u8,
     pub status: u8,
@@ -37,7 +37,7 @@ pub struct OscMidiMessage {
 
 // The value of a record. Text and blobs are a range of the packet; a float stands beside the bits that fix it, since all
 // NaNs are one value here.
-#[derive(Drop)]
+#[derive(Clone, Copy)]
 pub enum OscType {
     // '/': the range of the address.
     Message { offset: u32, length: u32 },

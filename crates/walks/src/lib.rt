@@ -11,7 +11,7 @@ pub use rest::keep_rest;
 use results::{End, Indexed};
 
 // Where a walk stands: so many records for the bytes up to an offset, and so many bytes after it that were read and are kept.
-#[derive(Drop)]
+#[derive(Clone, Copy)]
 pub struct Position {
     pub at: u64,
     pub records: usize,
@@ -19,7 +19,7 @@ pub struct Position {
 }
 
 // What a buffer comes to. Its records are the first `written` bytes of the output.
-#[derive(Drop)]
+#[derive(Clone, Copy)]
 pub enum Walked {
     // The recording is read on.
     On {

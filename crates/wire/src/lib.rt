@@ -169,7 +169,7 @@ pub fn copy(bytes: &[u8], out: &mut [u8])
 }
 
 // A padded position, or the refusal.
-#[derive(Drop)]
+#[derive(Clone, Copy)]
 pub enum Padded {
     At(u64),
     Refused(Refusal),

@@ -5,7 +5,7 @@ ghost use Rattle.words.specs.Numeral.{digit_of, appended_to, numeral_of};
 use crate::line::word;
 
 // A word read as a number.
-#[derive(Drop)]
+#[derive(Clone, Copy)]
 pub enum Numeral {
     Is(u64),
     Unclear,
