@@ -1,5 +1,7 @@
 // How far a recording is slid (Ticket 13), as a word says it: signed seconds with a fraction, `-12` or `3.5`, or `hex:` and 16 digits. The
 // answer is a number of 64 bits, 2^32 to a second; a slide back is by its opposite modulo 2^64.
+#![tactic(auto)]
+
 ghost use Rattle.std.specs.Prelude.{◌≡◌, ◌<◌};
 ghost use Rattle.clock.specs.Nearest.{fraction_of};
 ghost use Rattle.amounts.specs.Amounts.{joined_as, opposite_of, amount_of};

@@ -1,4 +1,6 @@
 // What a decoder answers to the first reading, within the limits.
+#![tactic(auto)]
+
 ghost use Rattle.std.specs.Prelude.{◌≡◌, ◌≤◌, length};
 ghost use Rattle.wire.specs.Limits.{longest};
 ghost use Rattle.argument.specs.Dirt.{dirty_in};

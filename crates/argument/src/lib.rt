@@ -1,5 +1,7 @@
 // The data of one argument: judged, one function to each class that asks for it, and read, once it is known to be given. An argument whose
 // bytes are not all there is one field that is short, from its first byte; its padding is another.
+#![tactic(auto)]
+
 ghost use Rattle.std.specs.Prelude.{◌≡◌, ◌+◌, ◌≤◌, length};
 ghost use Rattle.wire.specs.Limits.{longest};
 ghost use Rattle.node.specs.declared.tags.Class.TheVariants as class;

@@ -1,4 +1,6 @@
 // The arguments of a message, by the tags of its type text (decoder.rs, `read_osc_args` and `read_osc_arg`).
+#![tactic(auto)]
+
 mod records; // records.rt: the records of arguments whose arrays are all closed
 
 ghost use Rattle.std.specs.Prelude.{◌≡◌, List, ℕ, ◌+◌, ◌≤◌, length};

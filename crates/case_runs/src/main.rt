@@ -1,4 +1,6 @@
 // Runs the cases of standard input: small ones, so that an interpreter can run them too. limit_runs has the largest.
+#![tactic(auto)]
+
 fn main() {
     let mut text = io::large_buffer();
     let n = io::read_full(0, &mut text);

@@ -1,6 +1,8 @@
 // Cases of the decoders, the encoders and the other calls, one to a line: they are run, what each call answered is said, and every
 // answer and every byte of what was lent is compared with what it should be. An empty line, and one that begins with '#', has no case;
 // `about NAME` says what the cases after it are of.
+#![tactic(auto)]
+
 mod call; // call.rt: the calls of the library
 mod expected; // expected.rt: what a line expects
 mod ask; // ask.rt: one case

@@ -1,5 +1,7 @@
 // Clock conversion (document 02, Ticket 7), and shifts of time tags (Tickets 7 and 13). A tag is a number of 64 bits: seconds since 1900
 // in its upper half, fractions of a second in its lower half.
+#![tactic(auto)]
+
 mod laws; // laws.rt: what Ticket 7 demands of the calls together
 mod sums; // sums.rt: what Ticket 13 demands of shifts
 

@@ -1,4 +1,6 @@
 // What the words of the program `osc` mean: decided here, under contracts. The program itself reads, writes and says.
+#![tactic(auto)]
+
 mod options; // options.rt: the options of decode
 
 ghost use Rattle.std.specs.Prelude.{◌≡◌, ◌-◌};

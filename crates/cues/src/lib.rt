@@ -1,4 +1,6 @@
 // A cue index of a recording, frames of edition 2 end to end (Ticket 5): 16 bytes for each frame, up to the first that is not accepted.
+#![tactic(auto)]
+
 mod checked; // checked.rt: an index against another
 mod cue; // cue.rt: one frame, as it is judged for an index
 mod index; // index.rt: the frames of a buffer

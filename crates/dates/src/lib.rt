@@ -1,4 +1,6 @@
 // The date of a day, by the Gregorian calendar from 1 January 1970 on.
+#![tactic(auto)]
+
 ghost use Rattle.std.specs.Prelude.{◌≡◌, ◌≤◌, ◌<◌};
 ghost use Rattle.dates.specs.Dates.{is_leap, has_thirty, days_in, month_after, date_of};
 

@@ -1,5 +1,7 @@
 // Packets, bundles and whole inputs (decoder.rs). A packet is read twice: first it is measured, and nothing is written;
 // then, where the table has room, its records are written.
+#![tactic(auto)]
+
 mod frames; // frames.rt: the second reading of a whole input
 
 ghost use Rattle.framing.specs.Framing.{udp, rule_of};

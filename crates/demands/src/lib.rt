@@ -1,5 +1,7 @@
 // The order's demands, of the code itself: functions over the public calls, whose contracts are what the theorems speak of. The theorems
 // are in crates/calls (demands 1 and 3), crates/standards (demand 2) and crates/given (what the decoders give).
+#![tactic(auto)]
+
 mod entry_points; // entry_points.rt: each public call meets what the theorems of demand 1 speak of
 
 ghost use Rattle.demands.specs.There.{Returns};

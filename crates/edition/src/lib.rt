@@ -1,4 +1,5 @@
 // How packets stand in an input: the two ways to cut a TCP stream, and the framings over them. Decoders and encoders name one.
+#![tactic(auto)]
 
 // How a TCP stream is cut into packets.
 #[derive(Clone, Copy)]

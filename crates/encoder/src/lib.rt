@@ -1,4 +1,6 @@
 // Packets back to bytes (encoder.rs).
+#![tactic(auto)]
+
 ghost use Rattle.std.specs.Prelude.{◌≡◌};
 ghost use Rattle.writers.specs.Osc.{write_element};
 ghost use Rattle.encoder.specs.Outcome.{unframed, length_before, framed_by, Encodes, EncodesString};

@@ -1,5 +1,7 @@
 // Files, read into a lent buffer, whole or in pieces, and written beside and then renamed, so that no half-written file is left. Where a
 // call of the system fails, what it says is said on standard error, after the program's name.
+#![tactic(auto)]
+
 mod input; // input.rt: a file read
 mod pieces; // pieces.rt: a file read in pieces
 mod one; // one.rt: whether two open files are one

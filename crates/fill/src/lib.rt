@@ -1,4 +1,6 @@
 // The second reading of a packet: its records are written to the front of a table that has room for them.
+#![tactic(auto)]
+
 ghost use Rattle.std.specs.Prelude.{◌≡◌, ◌+◌, ◌≤◌, length};
 ghost use Rattle.wire.specs.Limits.{longest};
 ghost use Rattle.arguments.specs.Arguments.{read_args};

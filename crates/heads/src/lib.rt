@@ -1,4 +1,6 @@
 // What stands at the front of a type text, of an element of a bundle, and of a frame of a TCP stream; the own numbers of packets.
+#![tactic(auto)]
+
 ghost use Rattle.std.specs.Prelude.{◌≡◌, true, ◌≤◌, length};
 ghost use Rattle.wire.specs.Limits.{longest};
 ghost use Rattle.utf8.specs.Derive.{utf8};

@@ -1,5 +1,7 @@
 // Runs the leaves on vectors from outside and says which answers differ. Standard input has one vector to a line,
 // `QUESTION = ANSWER`; an empty line, and one that begins with '#', has none.
+#![tactic(auto)]
+
 mod named; // named.rt: a word of an answer
 mod question; // question.rt: what a line asks
 mod answer; // answer.rt: what the leaves answer

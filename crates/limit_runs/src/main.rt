@@ -1,5 +1,7 @@
 // Runs the cases of standard input: the longest inputs, texts and outputs, and the deepest and largest tables. What each call answers is
 // said, and a call that needs more stack than there is ends the run.
+#![tactic(auto)]
+
 ghost use Rattle.std.specs.Prelude.{◌≡◌, length};
 
 // Room for 65,540 records.

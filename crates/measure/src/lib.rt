@@ -1,4 +1,6 @@
 // The first reading of a packet: it writes nothing, and goes no deeper than the limit on nested bundles and arrays.
+#![tactic(auto)]
+
 ghost use Rattle.std.specs.Prelude.{◌≡◌, List, ℕ, ◌+◌, ◌≤◌, length};
 ghost use Rattle.wire.specs.Limits.{longest};
 ghost use Rattle.heads.specs.Heads.{message_item};

@@ -1,4 +1,6 @@
 // The C boundary: the public calls, each with its answer as one number of 64 bits. include/osc.h declares them for C and C++.
+#![tactic(auto)]
+
 ghost use Rattle.std.specs.Prelude.{◌≡◌};
 ghost use Rattle.edition.specs.declared.Edition.TheVariants.{Rosc, Standard};
 ghost use Rattle.edition.specs.declared.Framing.TheVariants.{Udp, Tcp, TcpVec};

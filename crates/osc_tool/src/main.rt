@@ -3,6 +3,8 @@
 // wrong with a word or a file in one line on standard error. What the words mean, what is kept and what is said is decided in `commands`,
 // `time_words`, `amounts`, `outcomes`, `walks`, `slide_walks`, `telling` and `time_lines`; the crates whose names begin with `tool_` read
 // and write files and hand lines on, and here the command is chosen.
+#![tactic(auto)]
+
 use commands::{Command, Worded, command_of, last_of, words_of};
 use tool_cues::{checking, cue, index};
 use tool_files::say;

@@ -1,5 +1,7 @@
 // What a command of the program `osc` asks of the library, which bytes it keeps of the answer and what it says: decided here, under
 // contracts. The program itself reads files, calls these, and writes what they hand back.
+#![tactic(auto)]
+
 mod roots; // roots.rt: how many packets a table holds
 mod cued; // cued.rt: a recording and its cue index
 mod framed; // framed.rt: a frame of a recording

@@ -1,4 +1,6 @@
 // What a packet starts with. Packets, bundles and elements are definitions here (specs/Packet.antt): `measure` and `fill` read by them.
+#![tactic(auto)]
+
 ghost use Rattle.std.specs.Prelude.{◌≡◌, ◌+◌, ◌≤◌, length};
 ghost use Rattle.wire.specs.Limits.{longest};
 ghost use Rattle.packet.specs.CodeStart.{StartAccepted};

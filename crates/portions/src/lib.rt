@@ -1,4 +1,6 @@
 // A stream that comes in portions: a step reads the frames that are whole, and says from where on the bytes are to be kept.
+#![tactic(auto)]
+
 ghost use Rattle.portions.specs.Portions.{Steps};
 
 use edition::Edition;

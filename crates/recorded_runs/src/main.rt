@@ -3,6 +3,8 @@
 // The file is a sequence of cases, its numbers big-endian: operation (1 byte), number (8), room (4), first slice (length in 4
 // bytes, and the bytes), second slice (the same), answer due (8), what is due beside it (8), bytes due at the front of the buffer (as a
 // slice). A program has no exit status, so the last line is `N answers, 0 differences` just where the file is whole and no case differs.
+#![tactic(auto)]
+
 mod case; // case.rt: the layout of a case
 mod replay; // replay.rt: the call of a case, and whether it leaves what is due
 mod tell; // tell.rt: what is said of the cases

@@ -1,5 +1,7 @@
 // The refusals of documents 01 and 02, in place of rosc's errors.rs: ours are numbered, and say nothing else but, of a field that was
 // short, where it began (Ticket 2).
+#![tactic(auto)]
+
 ghost use Rattle.std.specs.Prelude.{◌≡◌, ◌+◌, ◌^◌, ◌<◌};
 ghost use Rattle.refusal.specs.Refusal.{number_of, fault_number, field_number, offset_of, fault_offset, moved_by, moved_refusal};
 

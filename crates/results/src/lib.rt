@@ -1,4 +1,6 @@
 // What the public calls answer. These types stand alone, so that what only speaks of an answer stands on no reader and no writer.
+#![tactic(auto)]
+
 use refusal::Refusal;
 
 // What a decoder answers.

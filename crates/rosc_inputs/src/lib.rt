@@ -1,4 +1,6 @@
 // The first reading of a whole input: of one packet, and of frames of edition 1. It writes nothing.
+#![tactic(auto)]
+
 ghost use Rattle.std.specs.Prelude.{◌≡◌, List, ℕ, ◌≤◌, length};
 ghost use Rattle.wire.specs.Limits.{longest};
 ghost use Rattle.argument.specs.CodeParts.{StandsAt};

@@ -1,4 +1,6 @@
 // What the programs that run calls and compare share: a slice filled before a call, and what stands in it after.
+#![tactic(auto)]
+
 pub mod said; // said.rt: what a run says
 pub mod tally; // tally.rt: how often each answer was met
 

@@ -1,4 +1,6 @@
 // The tags and their data without records: what the first reading finds out. Linear, with no stack for arrays.
+#![tactic(auto)]
+
 ghost use Rattle.std.specs.Prelude.{◌≡◌, ◌+◌, ◌-◌, ◌≤◌, max, length};
 ghost use Rattle.wire.specs.Limits.{longest};
 ghost use Rattle.text.specs.Text.{non_zero};

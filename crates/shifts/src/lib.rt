@@ -1,4 +1,6 @@
 // Shifting the time tags of a table (document 02, Ticket 13): those of its bundles and of its time tag arguments.
+#![tactic(auto)]
+
 mod laws; // laws.rt: what Ticket 13 demands of the call by itself
 
 ghost use Rattle.std.specs.Prelude.{◌≡◌, ◌*◌, ◌≤◌, true, length, take};

@@ -1,5 +1,7 @@
 // Ticket 13: a recording, frames of edition 2 end to end, slid buffer by buffer: the time tags of every frame that is accepted are shifted
 // where they stand, up to the first that is not.
+#![tactic(auto)]
+
 ghost use Rattle.std.specs.Prelude.{◌≡◌, ◌≤◌, length};
 ghost use Rattle.wire.specs.Limits.{longest};
 ghost use Rattle.slide_steps.specs.Steps.{table_size, FrontSlides, Slides};

@@ -1,5 +1,7 @@
 // A slide over a recording that is read buffer by buffer: what a buffer comes to, and whether the recording is read on. A program that
 // repeats the step writes the bytes that are slid, keeps those after them, and decides nothing.
+#![tactic(auto)]
+
 ghost use Rattle.std.specs.Prelude.{◌≡◌, ◌≤◌, length};
 ghost use Rattle.wire.specs.Limits.{longest};
 ghost use Rattle.walks.specs.Walks.{reads_on};

@@ -1,5 +1,7 @@
 // Ticket 13: the time tags of a frame, shifted where they stand. What that makes of a recording is in specs/ and proofs/; the step over a
 // buffer is crates/slide_steps.
+#![tactic(auto)]
+
 ghost use Rattle.std.specs.Prelude.{◌≡◌, ◌+◌, ◌*◌, ◌^◌, ◌≤◌, ◌<◌, length};
 ghost use Rattle.clock.specs.Shift.{shifted};
 ghost use Rattle.node.specs.Records.{record_size};

@@ -1,5 +1,7 @@
 // The bytes of a case as its line spells them: parts with '+' between them. A part is hexadecimal digits ("-" for none), a number, '*'
 // and digits, their bytes so many times, or a number and '#', so many bundles, each in the one before it.
+#![tactic(auto)]
+
 pub mod listed; // listed.rt: a table as a line lists it
 
 ghost use Rattle.spelled.specs.Put.{Put};

@@ -1,5 +1,7 @@
 // The writers of texts, blobs, numbers and one argument's data (encoder.rs, `encode_arg_data` and what it calls): each fills the first
 // bytes of the slice that it is lent, and answers how many these are.
+#![tactic(auto)]
+
 ghost use Rattle.std.specs.Prelude.{◌≡◌, true, ◌++◌, ◌+◌, ◌^◌, ◌≤◌, ◌<◌, length, replicate};
 ghost use Rattle.wire.specs.Wrote.{Filled};
 ghost use Rattle.strings.specs.Atomic.{int32, osc_string, osc_blob, write_argument};

@@ -1,5 +1,7 @@
 // One reading of a table for its check, its depth and its length. It is sure exactly of the tables whose packets can be written; of any
 // other it answers that it is not, and the encoder finds out which refusal that is.
+#![tactic(auto)]
+
 mod lengths; // lengths.rt: how long the data of an argument will be
 
 ghost use Rattle.std.specs.Prelude.{◌≡◌, ◌+◌, ◌-◌, ◌*◌, ◌^◌, ◌≤◌, ◌<◌, length};

@@ -1,4 +1,6 @@
 // The well-formed node table: what the encoder takes, as document 01 states it record by record.
+#![tactic(auto)]
+
 ghost use Rattle.std.specs.Prelude.{◌≡◌, ◌*◌, ◌≤◌, ◌<◌, ltb, length};
 ghost use Rattle.wire.specs.Limits.{deepest};
 ghost use Rattle.utf8.specs.Utf8.{Decides};

@@ -1,4 +1,6 @@
 // What the program `osc` says, as the bytes of a line: decided here, under contracts. The program itself only writes them.
+#![tactic(auto)]
+
 mod form; // form.rt: a text whose marks are filled in
 mod lines; // lines.rt: a text cut into lines
 mod line; // line.rt: a line before it is written

@@ -1,4 +1,6 @@
 // An OSC string: its bytes up to the first NUL, the NUL, and padding to a multiple of 4 (decoder.rs, `read_osc_string`).
+#![tactic(auto)]
+
 ghost use Rattle.std.specs.Prelude.{◌≡◌, true, false, ◌+◌, ◌≤◌, ltb, length};
 ghost use Rattle.wire.specs.Limits.{longest};
 ghost use Rattle.text.specs.CodeFound.{TextFound};

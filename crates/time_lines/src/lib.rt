@@ -1,4 +1,6 @@
 // What `osc time` says, and `osc look` with --rule, as the bytes of a line.
+#![tactic(auto)]
+
 ghost use Rattle.std.specs.Prelude.{◌≡◌};
 ghost use Rattle.telling.specs.Forms.{Says};
 ghost use Rattle.time_lines.specs.TimeLines.{time_line, tag_line, with_tag, moment_line};

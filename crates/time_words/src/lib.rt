@@ -1,4 +1,6 @@
 // What the words of `osc time` mean, and of the option --rule of `osc look`: a rule, and a time tag or a Unix time.
+#![tactic(auto)]
+
 mod tags; // tags.rt: a word as a time tag
 mod seconds; // seconds.rt: a word as a Unix time
 

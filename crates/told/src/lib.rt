@@ -1,5 +1,7 @@
 // What is told at the C boundary: one record, packed once into the 64 bits of an answer and those of `more`, and the record of each
 // answer. include/osc.h takes both numbers apart again.
+#![tactic(auto)]
+
 pub mod times; // times.rt: what is told of a clock conversion
 
 ghost use Rattle.std.specs.Prelude.{◌≡◌, ◌<◌};

@@ -1,6 +1,8 @@
 // A recording read buffer by buffer, and the index of each buffer written, or compared with one that is given. What a buffer adds, what of
 // it is kept and when the walk ends is decided in `walks`, and whether records differ in `outcomes`: here files are read and written, and
 // it is said how much is read.
+#![tactic(auto)]
+
 ghost use Rattle.std.specs.Prelude.{◌≡◌, ◌*◌, ◌≤◌, length};
 ghost use Rattle.wire.specs.Limits.{longest};
 ghost use Rattle.cues.specs.Cues.{entry_size, most_entries, longest_recording};

@@ -1,5 +1,7 @@
 // The command shift of the program `osc`: a recording is read buffer by buffer and slid, and written to another file. How far a buffer is
 // slid, and whether it is read on, is decided in `slide_walks`: here files are read and written, and the walk's place is kept.
+#![tactic(auto)]
+
 mod asked; // asked.rt: what the words mean
 
 ghost use Rattle.std.specs.Prelude.{◌≡◌, ◌+◌};

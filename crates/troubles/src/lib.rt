@@ -1,5 +1,7 @@
 // What may be wrong with the words of a command, and with the files that they name. It stands alone, so that what finds trouble and what
 // says it do not stand on each other.
+#![tactic(auto)]
+
 ghost use Rattle.troubles.specs.CodePlaces.{PlacedAt};
 
 #[derive(Clone, Copy)]

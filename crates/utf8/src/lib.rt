@@ -1,4 +1,6 @@
 // Whether bytes are UTF-8, and how many bytes a character has, by the grammar of RFC 3629, section 4.
+#![tactic(auto)]
+
 ghost use Rattle.std.specs.Prelude.{◌≡◌, ◌*◌, ◌≤◌, ltb, length};
 ghost use Rattle.utf8.specs.Utf8.{Octets, Decides};
 ghost use Rattle.utf8.specs.Lead.{lead_of};

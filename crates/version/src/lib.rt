@@ -1,4 +1,6 @@
 // The version of the library and of the program: said here for all crates, and nowhere else in them.
+#![tactic(auto)]
+
 ghost use Rattle.std.specs.Prelude.{◌≡◌};
 ghost use Rattle.version.specs.Version.{packed, version_number};
 

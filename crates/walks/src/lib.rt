@@ -1,5 +1,7 @@
 // A walk over a recording that is read buffer by buffer, as a step of a state by value: what the frames of a buffer add to the index, which
 // of its bytes are kept, and whether it is read on. A program that repeats the step only reads and writes.
+#![tactic(auto)]
+
 mod rest; // rest.rt: the bytes that are kept
 
 ghost use Rattle.std.specs.Prelude.{◌≡◌};

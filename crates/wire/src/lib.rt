@@ -1,5 +1,7 @@
 // What stands on the wire: big-endian numbers (nom's `be_u32` and `be_u64`), ranges and copies of bytes, and the next multiple of 4
 // (encoder.rs, `pad`); and the limits of document 01.
+#![tactic(auto)]
+
 ghost use Rattle.std.specs.Prelude.{◌≡◌, ◌+◌, ◌/◌, ◌%◌, ◌^◌, ◌≤◌, ◌<◌, length, drop, get_or};
 ghost use Rattle.wire.specs.Number.{number, bytes};
 ghost use Rattle.wire.specs.CodeNumber.{LowFirst, high_first};

@@ -1,5 +1,7 @@
 // The writers of a packet (encoder.rs, `encode_message`, `encode_bundle` and what they call): each fills the first bytes of the slice
 // that it is lent, and answers how many these are.
+#![tactic(auto)]
+
 ghost use Rattle.std.specs.Prelude.{◌≡◌, [], ◌≤◌, length};
 ghost use Rattle.wire.specs.Wrote.{Filled};
 ghost use Rattle.node.specs.Tags.{message_kind};

@@ -1,0 +1,11 @@
+-- `text::count_few` meets its contract. The invariant: none of the bytes before `at` stops the scan.
+use Prim.Native.Nat.{◌-◌}
+use lib.ListN.{length}
+use Rattle.text.specs.CodePlain.{stops_at, Passed}
+use Rattle.text.proofs.count_few.Given as goal
+
+abbrev pub invariant-loop-at : goal.invariant-loop-at
+invariant-loop-at l = Passed (stops_at l.high) l.at l.input
+
+abbrev pub decreases-loop-at : goal.decreases-loop-at
+decreases-loop-at l = length l.input - l.at

@@ -1,0 +1,13 @@
+-- `wire::copy_eights` meets its contract. After each turn the first i bytes are written.
+use mathlib.Core.Path.{◌≡◌}
+use Prim.Native.Nat.{◌+◌, ◌≤◌, ◌-◌}
+use lib.ListN.{length, take}
+use Rattle.wire.specs.Wrote.{Wrote}
+use Rattle.wire.proofs.copy_eights.Given as goal
+
+abbrev pub invariant-loop-i : goal.invariant-loop-i
+invariant-loop-i l =
+    (l.i ≤ length l.bytes) × Wrote (take l.i l.bytes) l.initial.out l.out × (length l.out ≡ length l.initial.out) × (l.last + 8 ≡ length l.bytes) × (8 ≤ length l.bytes)
+
+abbrev pub decreases-loop-i : goal.decreases-loop-i
+decreases-loop-i l = length l.bytes - l.i
