@@ -1,0 +1,9 @@
+use Rattle.words.proofs.Tables.{named-at, named-within}
+use Rattle.commands.specs.Words.{command_words}
+use Rattle.commands.proofs.command_of.Goals as goal
+
+pub bounds-named-at : goal.bounds-named-at
+bounds-named-at c = named-within command_words _ c.place_of-at.ensures
+
+pub returns : goal.returns
+returns c = named-at command_words _ c.place_of-at.ensures _ _

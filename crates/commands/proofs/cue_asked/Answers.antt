@@ -1,0 +1,16 @@
+use mathlib.Core.Path.{sym, ap, ◌∙◌}
+use borrow.Author.Tests.{eq-eqb, ne_eqb}
+use Rattle.words.specs.declared.numeral.Numeral.TheVariants as numeral
+use Rattle.commands.specs.Asked.{cue_with}
+use Rattle.commands.proofs.cue_asked.Goals as goal
+
+pub returns-in-Is : goal.returns-in-Is
+returns-in-Is c =
+    rw (eq-eqb _ 7 c.if-count-eq7.true) (ap cue_with (sym c.in-Is.is ∙ c.short_number.ensures))
+
+pub returns-in-Unclear : goal.returns-in-Unclear
+returns-in-Unclear c =
+    rw (eq-eqb _ 7 c.if-count-eq7.true) (ap cue_with (sym c.in-Unclear.is ∙ c.short_number.ensures))
+
+pub returns : goal.returns
+returns c = rw (ne_eqb _ 7 c.if-count-eq7.false)

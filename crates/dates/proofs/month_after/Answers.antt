@@ -1,0 +1,8 @@
+use borrow.Author.Tests.{eq-eqb, ne_eqb}
+use Rattle.dates.proofs.month_after.Goals as goal
+
+pub returns-then-date-eq12 : goal.returns-then-date-eq12
+returns-then-date-eq12 c = rw (eq-eqb _ 12 c.if-date-eq12.true)
+
+pub returns : goal.returns
+returns c = rw (ne_eqb _ 12 c.if-date-eq12.false)

@@ -1,0 +1,22 @@
+use mathlib.Core.Path.{ap}
+use mathlib.Core.Bool.{not}
+use mathlib.Core.List.{[], ◌∷◌}
+use Prim.Native.Nat.{ℕ}
+use borrow.Author.Tests.{ne_eqb}
+use Rattle.node.specs.Tags.{message_kind, array_kind}
+use Rattle.node.proofs.Keys.{by-keys, not-among}
+use Rattle.table.specs.Formed.{allowed}
+use Rattle.table.proofs.may_contain.Goals as goal
+
+pub returns-in-35 : goal.returns-in-35
+returns-in-35 c = rw c.in-35.is c.is_packet.ensures
+
+pub returns-in-47 : goal.returns-in-47
+returns-in-47 c =
+    let e = ap not c.is_packet-in-47.ensures in
+    by-keys (λ (k : ℕ). allowed k c.args.kind) (not c.is_packet-in-47.result) (message_kind ∷ array_kind ∷ [])
+    (e, (e, tt)) _
+    c.in-47.is
+
+pub returns-in_default : goal.returns-in_default
+returns-in_default c = rw (ne_eqb _ _ c.in_default.rest.0.1, not-among (message_kind ∷ array_kind ∷ []) _ c.in_default.rest.1)

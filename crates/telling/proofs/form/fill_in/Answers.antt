@@ -1,0 +1,24 @@
+use mathlib.Core.Path.{◌∙◌}
+use native.Mathlib.Omega.{arith}
+use Rattle.telling.proofs.Told.{mark-told, all_told}
+use Rattle.telling.proofs.form.fill_in.Goals as goal
+
+pub loop-i-preserved : goal.loop-i-preserved
+loop-i-preserved c =
+    let a = c.args in
+    let v = c.loop-i.invariant in
+    let w = c.put_piece-at.ensures in (
+      omega arith,
+      omega arith,
+      omega (arith, w.room, w.within),
+      w.room ∙ v.3,
+      mark-told a.text.now a.numbers.now a.form.now c.loop-i.k c.loop-i.i (omega arith)
+          c.number_at.ensures c.taken_by-k.ensures.0 w v.4,
+    )
+
+pub returns : goal.returns
+returns c =
+    let a = c.args in
+    let v = c.loop-i.invariant in
+    all_told a.text.now a.numbers.now a.form.now c.loop-i.out c.loop-i.at c.loop-i.k c.loop-i.i (omega arith) v.2
+    v.4

@@ -1,0 +1,17 @@
+use borrow.Author.Tests.{ne_eqb}
+use Rattle.telling.proofs.Told.{put_as}
+use Rattle.telling.proofs.form.put_piece.Goals as goal
+
+pub returns-in-37 : goal.returns-in-37
+returns-in-37 c = put_as (rw c.in-37.is) c.put_decimal.ensures
+
+pub returns-in-36 : goal.returns-in-36
+returns-in-36 c = put_as (rw c.in-36.is) c.put_eight.ensures
+
+pub returns-in-126 : goal.returns-in-126
+returns-in-126 c = put_as (rw c.in-126.is) c.put.ensures
+
+pub returns-in_default : goal.returns-in_default
+returns-in_default c =
+    let r = c.in_default.rest in
+    put_as (rw (ne_eqb _ 37 r.0.0.1, ne_eqb _ 36 r.0.1, ne_eqb _ 126 r.1)) c.put-in_default.ensures

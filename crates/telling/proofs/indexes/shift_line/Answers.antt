@@ -1,0 +1,23 @@
+use mathlib.Core.Path.{sym, ap, ◌∙◌}
+use Rattle.results.specs.declared.End.{End}
+use Rattle.telling.specs.Indexes.{shift_end_line}
+use Rattle.telling.proofs.Said.{same-said}
+use Rattle.telling.proofs.indexes.shift_line.Goals as goal
+
+pub returns-in-Whole : goal.returns-in-Whole
+returns-in-Whole c =
+    let a = c.args in
+    same-said words c.formed.ensures
+    ∙ sym (ap (λ (why : End). shift_end_line why a.at words) c.in-Whole.is)
+
+pub returns-in-Waiting : goal.returns-in-Waiting
+returns-in-Waiting c =
+    let a = c.args in
+    same-said words c.formed-in-Waiting.ensures
+    ∙ sym (ap (λ (why : End). shift_end_line why a.at words) c.in-Waiting.is)
+
+pub returns-in-Refused : goal.returns-in-Refused
+returns-in-Refused c =
+    let a = c.args in
+    same-said words c.formed-in-Refused.ensures
+    ∙ sym (ap (λ (why : End). shift_end_line why a.at words) c.in-Refused.is)

@@ -1,0 +1,8 @@
+use native.Mathlib.Omega.{arith}
+use Rattle.telling.proofs.Shorts.{words-front}
+use Rattle.telling.proofs.refusals.put_words.Goals as goal
+
+pub returns : goal.returns
+returns c =
+    let r = c.args.refusal in
+    words-front r _ c.tell_refused-n.result (omega arith) c.tell_refused-n.ensures

@@ -1,0 +1,14 @@
+use mathlib.Core.Path.{ap, ◌∙◌}
+use mathlib.Core.List.{List, [], ◌∷◌}
+use Prim.Native.Nat.{ℕ}
+use Rattle.telling.specs.Forms.{filled_in}
+use Rattle.telling.proofs.Told.{says-as}
+use Rattle.telling.proofs.Tables.{refused-at}
+use Rattle.telling.proofs.refusals.tell_numbered.Goals as goal
+
+pub returns : goal.returns
+returns c =
+    let a = c.args in
+    says-as
+    (ap (λ (form : List ℕ). filled_in [] (a.number ∷ a.beside ∷ []) form) (c.line_at.ensures ∙ refused-at a.number))
+    c.fill_in.ensures

@@ -1,0 +1,10 @@
+use mathlib.Core.List.{[]}
+use borrow.Author.Tests.{eq-eqb, ne_eqb}
+use Rattle.telling.proofs.Said.{same-said}
+use Rattle.telling.proofs.replies.packets_line.Goals as goal
+
+pub returns-then-dirty-eq0 : goal.returns-then-dirty-eq0
+returns-then-dirty-eq0 c = rw (eq-eqb _ _ c.if-dirty-eq0.true) (same-said [] c.formed.ensures)
+
+pub returns : goal.returns
+returns c = rw (ne_eqb _ _ c.if-dirty-eq0.false) (same-said [] c.formed-2.ensures)

@@ -1,0 +1,9 @@
+use borrow.Author.Tests.{eq-eqb, ne_eqb}
+use Rattle.telling.proofs.Said.{same-said}
+use Rattle.telling.proofs.replies.stopped_line.Goals as goal
+
+pub returns-then-dirty-eq0 : goal.returns-then-dirty-eq0
+returns-then-dirty-eq0 c = rw (eq-eqb _ _ c.if-dirty-eq0.true) (same-said words c.formed.ensures)
+
+pub returns : goal.returns
+returns c = rw (ne_eqb _ _ c.if-dirty-eq0.false) (same-said words c.formed-2.ensures)

@@ -1,0 +1,32 @@
+use borrow.Author.Rules.{rules}
+use mathlib.Core.Path.{sym, ap, ◌∙◌}
+use Rattle.node.specs.Records.{kind_at, end_at}
+use Rattle.values.proofs.Looks.{no_record}
+use Rattle.telling.specs.Shown.{looked_line}
+use Rattle.telling.proofs.Told.{says-as}
+use Rattle.telling.proofs.shown.tell_record.Goals as goal
+
+pub returns-then-capacity_of-index : goal.returns-then-capacity_of-index
+returns-then-capacity_of-index c =
+    let a = c.args in
+    let t = a.table.now in
+    let i = a.index in
+    says-as (ap (looked_line i (kind_at t i) (end_at t i)) (no_record t i (search rules))) c.tell_refused.ensures
+
+pub returns-in-Value : goal.returns-in-Value
+returns-in-Value c =
+    let a = c.args in
+    let t = a.table.now in
+    let i = a.index in
+    says-as
+    (c.value_line-line.ensures _
+    ∙ rw (c.kind_at.ensures, c.field_at-end.ensures)
+    (ap (looked_line i (kind_at t i) (end_at t i)) (sym c.in-Value.is ∙ c.look.ensures)))
+    c.tell.ensures
+
+pub returns-in-Refused : goal.returns-in-Refused
+returns-in-Refused c =
+    let a = c.args in
+    let t = a.table.now in
+    let i = a.index in
+    says-as (ap (looked_line i (kind_at t i) (end_at t i)) (sym c.in-Refused.is ∙ c.look.ensures)) c.tell_refused-in-Refused.ensures

@@ -1,0 +1,15 @@
+use mathlib.Core.Path.{sym, ap, ◌∙◌}
+use Rattle.telling.proofs.Told.{says-as, says_none}
+use Rattle.time_lines.specs.TimeLines.{time_in_line, looked_time}
+use Rattle.time_lines.proofs.tell_record_time.Goals as goal
+
+pub returns-in-Value : goal.returns-in-Value
+returns-in-Value c =
+    let rule = c.args.rule in
+    says-as
+    (ap (time_in_line rule) c.time_in.ensures ∙ ap (looked_time rule) (sym c.in-Value.is ∙ c.look.ensures))
+    c.tell_time_in.ensures
+
+pub returns-in-Refused : goal.returns-in-Refused
+returns-in-Refused c =
+    says-as (ap (looked_time c.args.rule) (sym c.in-Refused.is ∙ c.look.ensures)) (says_none _)

@@ -1,0 +1,9 @@
+use Rattle.words.proofs.Tables.{named-at, named-within}
+use Rattle.time_words.specs.Asked.{rule_words}
+use Rattle.time_words.proofs.rule_of.Goals as goal
+
+pub bounds-named-at : goal.bounds-named-at
+bounds-named-at c = named-within rule_words _ c.place_of-at.ensures
+
+pub returns : goal.returns
+returns c = named-at rule_words _ c.place_of-at.ensures _ _

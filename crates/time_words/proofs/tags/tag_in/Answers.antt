@@ -1,0 +1,30 @@
+use mathlib.Core.Path.{sym, ◌∙◌}
+use native.Mathlib.Omega.{arith}
+use borrow.Author.Tests.{eq-eqb, ne_eqb}
+use Rattle.time_words.proofs.Digits.{one_more, no-hex, hex-all}
+use Rattle.time_words.proofs.tags.tag_in.Goals as goal
+
+pub returns-then-word-ne16 : goal.returns-then-word-ne16
+returns-then-word-ne16 c = rw (ne_eqb _ 16 c.if-word-ne16.true)
+
+pub loop-i-init : goal.loop-i-init
+loop-i-init c =
+    let l = c.if-word-ne16.false in
+    record { sixteen = l; within = omega arith; fits = omega arith; rest = rw (eq-eqb _ 16 l) }
+
+pub returns-then-value-eq16 : goal.returns-then-value-eq16
+returns-then-value-eq16 c =
+    let v = c.hex_value-value in
+    let word = c.args.word.now in
+    sym (c.loop-i.invariant.rest ∙ no-hex word c.loop-i.i c.loop-i.tag (omega arith) (sym v.ensures.0 ∙ c.if-value-eq16.true))
+
+pub loop-i-preserved : goal.loop-i-preserved
+loop-i-preserved c =
+    let v = c.hex_value-value in
+    one_more c.loop-i.invariant (omega arith) v.ensures.0 v.ensures.1 c.if-value-eq16.false
+
+pub returns : goal.returns
+returns c =
+    let s = c.loop-i.invariant in
+    let word = c.args.word.now in
+    sym (s.rest ∙ hex-all word c.loop-i.i c.loop-i.tag (omega (arith, s.sixteen, s.within)))

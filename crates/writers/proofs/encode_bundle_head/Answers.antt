@@ -1,0 +1,8 @@
+use mathlib.Core.Path.{refl}
+use mathlib.Core.List.{append-nil}
+use Rattle.wire.proofs.Writers.{filled-lent}
+use Rattle.writers.proofs.encode_bundle_head.Goals as goal
+
+pub returns : goal.returns
+returns c =
+    rw append-nil (filled-lent (record { count = refl; wrote = c.copy.ensures }) c.encode_pair_into.ensures)
