@@ -92,7 +92,8 @@ frames-shallow : (limit n base : ℕ) (l : List ℕ) → depth (forest_of (frame
 unfolding frames_at depth
 frames-shallow limit zero base l = omega arith
 frames-shallow limit (suc n) base l =
-    after-shallow limit _ base l (cut_frame limit base l) (cut-shallow limit base l) (λ q m. frames-shallow limit n q m)
+    after-shallow limit (λ q m. frames_at (λ b m'. cut_frame limit b m') stops n q m) base l (cut_frame limit base l)
+    (cut-shallow limit base l) (λ q m. frames-shallow limit n q m)
 
 -- 9 is of a frame, so the trees that are given are within the limit
 pub vec2-shallow : (limit : ℕ) (msg : List ℕ) → depth (forest_of (tcp_vec2 limit msg)) ≤ limit

@@ -6,6 +6,7 @@ use Prim.Native.Nat.{ℕ}
 use native.Mathlib.Omega.{arith}
 use borrow.Author.Tests.{lt-ltb}
 use lib.Dec.{eqb}
+use Rattle.values.specs.Value.{joined_of}
 use Rattle.node.specs.Tags.{message_kind, among}
 use Rattle.node.specs.Forest.{Forest, nil, node}
 use Rattle.node.specs.declared.record.Item.{Item}
@@ -79,7 +80,7 @@ pub strict-clean : (source : List ℕ) (time : ℕ) (F : Forest) → StrictFores
 unfolding StrictForest Clean
 strict-clean source time nil h = tt
 strict-clean source time (node item inside rest) h =
-    (clean-node source time item h.0, strict-clean source _ inside h.1, strict-clean source time rest h.2)
+    (clean-node source time item h.0, strict-clean source (joined_of item.a item.b) inside h.1, strict-clean source time rest h.2)
 
 module _ (source : List ℕ) where
   -- a node of a kind of which nothing is asked
@@ -102,8 +103,8 @@ module _ (source : List ℕ) where
   unfolding ArgumentsAllowed StrictForest ArgumentsStrict
   arguments-strict time end h no_node s = tt
   arguments-strict time (atom v rest) h (leaf x r) s = (atom-strict time v h.0 x s.0, arguments-strict time rest h.1 r s.2)
-  arguments-strict time (array within rest) h (branch w x r) s =
-      (arguments-strict _ within h.0 x s.1, arguments-strict time rest h.1 r s.2)
+  arguments-strict time (array within rest) h (branch {item = item} w x r) s =
+      (arguments-strict (joined_of item.a item.b) within h.0 x s.1, arguments-strict time rest h.1 r s.2)
 
   mutual
     unfolding Allowed AllAllowed StrictIn AllStrict StrictNode StrictForest
@@ -137,8 +138,8 @@ module _ (source : List ℕ) where
   unfolding ArgumentsStrict StrictForest StrictNode
   arguments-node time end no_node h = tt
   arguments-node time (atom v rest) (leaf x r) h = (atom-node time v x h.0, tt, arguments-node time rest r h.1)
-  arguments-node time (array within rest) (branch w x r) h =
-      (rw w.kind tt, arguments-node _ within x h.0, arguments-node time rest r h.1)
+  arguments-node time (array within rest) (branch {item = item} w x r) h =
+      (rw w.kind tt, arguments-node (joined_of item.a item.b) within x h.0, arguments-node time rest r h.1)
 
   mutual
     unfolding StrictIn AllStrict StrictNode StrictForest

@@ -120,7 +120,7 @@ records-held t more lo hi (node item inside rest) f n small h =
     let h₂ = further t (records_of (lo + 1) inside) _ (record_start (lo + 1)) (record_start (size inside)) (record_start end) (omega arith)
     (length-records (lo + 1) inside) h₁ in
     let r = record-read t _ lo item end (omega arith) f.0 f.1 f.2 h₀ in
-    let x = records-held t _ (lo + 1) end inside f.3 refl (omega arith) h₁ in
+    let x = records-held t (records_of end rest ++ more) (lo + 1) end inside f.3 refl (omega arith) h₁ in
     let y = records-held t more end hi rest f.4 (omega arith) small h₂ in
     record {
       spans = (r.same, rw r.ends x.spans, rw r.ends y.spans);

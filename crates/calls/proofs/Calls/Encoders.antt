@@ -45,7 +45,7 @@ module _ (frame : ℕ → List ℕ → List ℕ) (t : List ℕ) (count : ℕ) (s
   encodes-end (formed item inside w e) =
       subst TreeEnded (sym e)
       (by_le TreeEnded (depth (node item inside nil)) deepest
-      (λ _. write-ends _ encode_order out (frame item.kind (write_packet source item inside)) refl refl) (λ _. (refl, λ _. refl)))
+      (λ _. write-ends (λ r after. Encodes frame t count source out (record { answer = r; out = after })) encode_order out (frame item.kind (write_packet source item inside)) refl refl) (λ _. (refl, λ _. refl)))
 
   -- no table is without an outcome
   encodes-met : ((r : Outcome) → Encodes frame t count source out r → ⊥) → ⊥
@@ -69,7 +69,7 @@ module _ (text out : List ℕ) where
 
   string-ends : TextEnded (string_outcome text out)
   unfolding string_outcome
-  string-ends = by-test TextEnded (utf8 text) (λ _. write-ends _ _ out (osc_string text) refl refl) (λ _. (refl, λ _. refl))
+  string-ends = by-test TextEnded (utf8 text) (λ _. write-ends string.Meets string.numbers out (osc_string text) refl refl) (λ _. (refl, λ _. refl))
 
   pub string-demand : Demand1 string
   string-demand =

@@ -294,7 +294,7 @@ module _ (msg t : List ℕ) where
       suc-le h = omega arith
 
   -- of the records of packets, each argument that stands after an argument begins where the data of that one ends
-  packed-follows : (lo hi : ℕ) {base low high : ℕ} {F : Forest} → Spans t lo hi F → Packed msg base low F high → (i : ℕ) → lo ≤ i
+  packed-follows : {base : ℕ} (lo hi : ℕ) {low high : ℕ} {F : Forest} → Spans t lo hi F → Packed msg base low F high → (i : ℕ) → lo ≤ i
       → i + 1 < hi → is_packet (kind_at t i) ≡ false → is_packet (kind_at t (i + 1)) ≡ false
       → start_at t (i + 1) ≡ data_end (item_at t i)
   unfolding Spans
@@ -324,12 +324,12 @@ module _ (msg t : List ℕ) where
       (λ d. rooted-follows (end_at t lo) hi s.2 r i d k m n)
 
   -- the first argument of a message that leaves no array open begins where its data does
-  packed-opens : (lo hi : ℕ) {base low high : ℕ} {F : Forest} → Spans t lo hi F → Packed msg base low F high → (i : ℕ) → lo ≤ i → i < hi
+  packed-opens : {base : ℕ} (lo hi : ℕ) {low high : ℕ} {F : Forest} → Spans t lo hi F → Packed msg base low F high → (i : ℕ) → lo ≤ i → i < hi
       → kind_at t i ≡ message_kind → i + 1 < end_at t i → Balanced (tags_at base msg (item_at t i))
       → start_at t (i + 1) ≡ data_at base msg (item_at t i)
   unfolding Spans
   packed-opens lo hi s (none h) i l k m n z = absurd (omega (arith, s))
-  packed-opens lo hi {base = base} s (message e h b j x c r) i l k m n z =
+  packed-opens {base = base} lo hi s (message e h b j x c r) i l k m n z =
       ⊎_elim
       (λ (d : lo ≡ i).
       let y : end_at t i ≡ end_at t lo = ap (end_at t) (sym d) in

@@ -3,7 +3,7 @@ use Rattle.std.proofs.Common.{◌-◌, ◌≤◌, length}
 use Rattle.runs.proofs.tally.say_met.Given as goal
 
 abbrev pub invariant-loop-answer : goal.invariant-loop-answer
-invariant-loop-answer l = answer ≤ length l.tally
+invariant-loop-answer l = l.answer ≤ length l.tally
 
 abbrev pub decreases-loop-answer : goal.decreases-loop-answer
-decreases-loop-answer l = length l.tally - answer
+decreases-loop-answer l = length l.tally - l.answer

@@ -2,6 +2,7 @@
 use mathlib.Core.Path.{◌≡◌}
 use Prim.Native.Nat.{◌+◌, ◌-◌, ◌≤◌}
 use lib.ListN.{length}
+use Rattle.walks.proofs.Moved.{Moved}
 use Rattle.walks.proofs.rest.keep_rest.Given as goal
 
 abbrev pub invariant-loop-j : goal.invariant-loop-j
