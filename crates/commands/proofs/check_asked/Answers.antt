@@ -1,8 +1,11 @@
 use borrow.Author.Tests.{eq-eqb, ne_eqb}
+use Rattle.commands.specs.Asked.{check_asked}
 use Rattle.commands.proofs.check_asked.Goals as goal
 
 pub returns-then-count-eq4 : goal.returns-then-count-eq4
+unfolding check_asked
 returns-then-count-eq4 c = rw (eq-eqb _ 4 c.if-count-eq4.true)
 
 pub returns : goal.returns
+unfolding check_asked
 returns c = rw (ne_eqb _ 4 c.if-count-eq4.false)

@@ -1,9 +1,11 @@
 use Rattle.std.proofs.Common.{sym, refl, ◌∙◌, rules}
 use borrow.Author.Tests.{not-true, not-false}
+use Rattle.shifts.specs.Shifts.{lookable}
 use Rattle.shifts.proofs.Lookable.{lookable-more, not-lookable}
 use Rattle.shifts.proofs.is_lookable.Goals as goal
 
 pub loop-i-init : goal.loop-i-init
+unfolding lookable
 loop-i-init c = (search rules, refl)
 
 pub returns-then-not-is_value : goal.returns-then-not-is_value

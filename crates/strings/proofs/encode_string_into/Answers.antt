@@ -13,6 +13,7 @@ use Rattle.strings.specs.Atomic.{osc_string}
 use Rattle.strings.proofs.encode_string_into.Goals as goal
 
 zeros-left : (r : ℕ) → r < 4 → drop r (bytes 4 0) ≡ replicate (4 - r) 0
+unfolding bytes
 
 zeros-left zero h = refl
 
@@ -26,6 +27,7 @@ zeros-left (suc (suc (suc (suc r)))) h = absurd (omega arith)
 
 text-over : {text o p q : List ℕ} (k : ℕ) → k ≡ length text - length text % 4 → k + 4 ≤ length o
     → Wrote (bytes 4 0) (mid_of k (length o - k) o) p → Wrote text (put_mid k (length o - k) o p) q → Filled (osc_string text) o q (k + 4)
+unfolding osc_string
 
 text-over {text} {o} k e h w v =
     let r = length text % 4 in

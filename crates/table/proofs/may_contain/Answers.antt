@@ -9,9 +9,11 @@ use Rattle.table.specs.Formed.{allowed}
 use Rattle.table.proofs.may_contain.Goals as goal
 
 pub returns-in-35 : goal.returns-in-35
+unfolding allowed
 returns-in-35 c = rw c.in-35.is c.is_packet.ensures
 
 pub returns-in-47 : goal.returns-in-47
+unfolding allowed
 returns-in-47 c =
     let e = ap not c.is_packet-in-47.ensures in
     by-keys (λ (k : ℕ). allowed k c.args.kind) (not c.is_packet-in-47.result) (message_kind ∷ array_kind ∷ [])
@@ -19,4 +21,5 @@ returns-in-47 c =
     c.in-47.is
 
 pub returns-in_default : goal.returns-in_default
-returns-in_default c = rw (ne_eqb _ _ c.in_default.rest.0.1, not-among (message_kind ∷ array_kind ∷ []) _ c.in_default.rest.1)
+unfolding allowed
+returns-in_default c = rw (ne_eqb _ _ c.in_default.in_default-own.rest.0.1, not-among (message_kind ∷ array_kind ∷ []) _ c.in_default.in_default-own.rest.1)

@@ -1,9 +1,10 @@
 use mathlib.Core.Path.{sym, ap, ◌∙◌}
 use Rattle.telling.proofs.Told.{says-as, says_none}
-use Rattle.time_lines.specs.TimeLines.{time_in_line, looked_time}
+use Rattle.time_lines.specs.TimeLines.{time_in_line, looked_time, record_time}
 use Rattle.time_lines.proofs.tell_record_time.Goals as goal
 
 pub returns-in-Value : goal.returns-in-Value
+unfolding record_time
 returns-in-Value c =
     let rule = c.args.rule in
     says-as
@@ -11,5 +12,6 @@ returns-in-Value c =
     c.tell_time_in.ensures
 
 pub returns-in-Refused : goal.returns-in-Refused
+unfolding record_time
 returns-in-Refused c =
     says-as (ap (looked_time c.args.rule) (sym c.in-Refused.is ∙ c.look.ensures)) (says_none _)

@@ -2,12 +2,13 @@ use mathlib.Core.Path.{refl, ap, ◌∙◌}
 use mathlib.Core.List.{List, [], ◌∷◌}
 use Prim.Native.Nat.{ℕ}
 use Rattle.telling.specs.Forms.{filled_in}
-use Rattle.telling.specs.CodeTable.{forms}
+use Rattle.telling.specs.CodeTable.{forms, said_by}
 use Rattle.telling.proofs.Told.{says-as}
 use Rattle.telling.proofs.Tables.{word_line}
 use Rattle.telling.proofs.line.tell.Goals as goal
 
 pub returns : goal.returns
+unfolding said_by
 returns c =
     let a = c.args in
     let l = a.line in

@@ -2,11 +2,12 @@ use borrow.Author.Rules.{rules}
 use mathlib.Core.Path.{sym, ap, ◌∙◌}
 use Rattle.node.specs.Records.{kind_at, end_at}
 use Rattle.values.proofs.Looks.{no_record}
-use Rattle.telling.specs.Shown.{looked_line}
+use Rattle.telling.specs.Shown.{looked_line, record_line}
 use Rattle.telling.proofs.Told.{says-as}
 use Rattle.telling.proofs.shown.tell_record.Goals as goal
 
 pub returns-then-capacity_of-index : goal.returns-then-capacity_of-index
+unfolding record_line
 returns-then-capacity_of-index c =
     let a = c.args in
     let t = a.table.now in
@@ -14,6 +15,7 @@ returns-then-capacity_of-index c =
     says-as (ap (looked_line i (kind_at t i) (end_at t i)) (no_record t i (search rules))) c.tell_refused.ensures
 
 pub returns-in-Value : goal.returns-in-Value
+unfolding record_line
 returns-in-Value c =
     let a = c.args in
     let t = a.table.now in
@@ -25,6 +27,7 @@ returns-in-Value c =
     c.tell.ensures
 
 pub returns-in-Refused : goal.returns-in-Refused
+unfolding record_line
 returns-in-Refused c =
     let a = c.args in
     let t = a.table.now in

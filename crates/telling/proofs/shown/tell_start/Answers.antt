@@ -1,10 +1,11 @@
 use mathlib.Core.Path.{sym, ap, ◌∙◌}
 use Rattle.values.specs.Look.{started_at}
-use Rattle.telling.specs.Shown.{started_line, after_look}
+use Rattle.telling.specs.Shown.{started_line, after_look, start_line}
 use Rattle.telling.proofs.Told.{says-as, says_none}
 use Rattle.telling.proofs.shown.tell_start.Goals as goal
 
 pub returns-in-Value : goal.returns-in-Value
+unfolding start_line
 returns-in-Value c =
     let a = c.args in
     says-as
@@ -13,6 +14,7 @@ returns-in-Value c =
     c.tell_started.ensures
 
 pub returns-in-Refused : goal.returns-in-Refused
+unfolding start_line
 returns-in-Refused c =
     let a = c.args in
     says-as (ap (after_look (started_at a.table.now a.index)) (sym c.in-Refused.is ∙ c.look.ensures)) (says_none _)

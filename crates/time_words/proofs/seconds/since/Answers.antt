@@ -11,12 +11,15 @@ use Rattle.time_words.proofs.Tests.{by-case}
 use Rattle.time_words.proofs.seconds.since.Goals as goal
 
 pub returns-in_default : goal.returns-in_default
+unfolding since_it
 returns-in_default c = by-case since_it c.in_default.is refl
 
 pub returns-then-seconds-gt-MOST : goal.returns-then-seconds-gt-MOST
+unfolding since_it
 returns-then-seconds-gt-MOST c = by-case since_it c.in-Of.is (rw (lt-ltb _ _ c.if-seconds-gt-MOST.true))
 
 pub returns : goal.returns
+unfolding since_it
 returns c =
     let g = c.plain-1.given in
     by-case since_it g.1 (rw (le-ltb _ _ c.if-seconds-gt-MOST.false) (ap (λ (z : ℤ). As (Unix z g.0.1.0)) (to_z_pos w64 (omega arith))))

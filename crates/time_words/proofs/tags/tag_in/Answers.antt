@@ -1,13 +1,16 @@
 use mathlib.Core.Path.{sym, ◌∙◌}
 use native.Mathlib.Omega.{arith}
 use borrow.Author.Tests.{eq-eqb, ne_eqb}
+use Rattle.time_words.specs.Tags.{tag_in}
 use Rattle.time_words.proofs.Digits.{one_more, no-hex, hex-all}
 use Rattle.time_words.proofs.tags.tag_in.Goals as goal
 
 pub returns-then-word-ne16 : goal.returns-then-word-ne16
+unfolding tag_in
 returns-then-word-ne16 c = rw (ne_eqb _ 16 c.if-word-ne16.true)
 
 pub loop-i-init : goal.loop-i-init
+unfolding tag_in
 loop-i-init c =
     let l = c.if-word-ne16.false in
     record { sixteen = l; within = omega arith; fits = omega arith; rest = rw (eq-eqb _ 16 l) }
