@@ -6,12 +6,12 @@ use Rattle.argument.proofs.read_osc_arg.Goals as goal
 pub be_u32-requires : goal.be_u32-requires
 be_u32-requires c =
     let a = c.args in
-    (four-again a.tag a.base a.input.now a.pos a.class c.in-Four.in-Four-own.keys1 c.requires.1).0
+    (four-again a.tag a.base a.input.now a.pos a.class c.in-Four.in-Four-own.keys1 c.requires.arg_read).0
 
 pub returns-in-Four : goal.returns-in-Four
 returns-in-Four c =
     let a = c.args in
-    let w = four-again a.tag a.base a.input.now a.pos a.class c.in-Four.in-Four-own.keys1 c.requires.1 in
+    let w = four-again a.tag a.base a.input.now a.pos a.class c.in-Four.in-Four-own.keys1 c.requires.arg_read in
     with-numbers (w.1 _ c.be_u32.ensures) c.given.ensures
 
 pub returns-in-Text : goal.returns-in-Text
@@ -23,4 +23,4 @@ returns-in-Text c =
 pub returns-in_default : goal.returns-in_default
 returns-in_default c =
     let a = c.args in
-    with-numbers (bare-left a.tag a.base a.input.now a.pos a.class c.in_default.in_default-own.keys5 c.requires.1) c.given-in_default.ensures
+    with-numbers (bare-left a.tag a.base a.input.now a.pos a.class c.in_default.in_default-own.keys5 c.requires.arg_read) c.given-in_default.ensures

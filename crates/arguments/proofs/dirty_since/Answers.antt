@@ -25,4 +25,4 @@ rest-dirt {base} {p} {first} {used} {u} {dirty} {ts} {l} k msg w f =
 
 pub slice_bounds-scan_args-end : goal.slice_bounds-scan_args-end
 slice_bounds-scan_args-end c =
-    sym (length-take-le _ _ (cut-le _ c.requires.1.0.2))
+    sym (length-take-le _ _ (cut-le _ c.requires.cut_after.0.2))
