@@ -22,12 +22,12 @@ none_kept base msg ts l p s w z = by-back (back ts) refl
     by-back (Cut n c d) e = omega (arith, cut-dirt base msg ts l p w s.1 e)
 
 pub returns-then-all-eq0 : goal.returns-then-all-eq0
-returns-then-all-eq0 c =
+returns-then-all-eq0 c = λ base msg w.
     let a = c.args in
     none_kept base msg a.tags.now a.input.now a.pos c.requires.1 w c.if-all-eq0.true
 
 pub returns-in-Uncut : goal.returns-in-Uncut
-returns-in-Uncut c =
+returns-in-Uncut c = λ base msg w.
     let a = c.args in
     closed-dirt base msg a.tags.now a.input.now a.pos w c.requires.1.1
     (all_closed _ (sym c.in-Uncut.is ∙ c.look_back.ensures))
