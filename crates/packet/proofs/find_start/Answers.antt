@@ -1,12 +1,11 @@
+-- A packet that was accepted has a first text, which tells what it is.
 use mathlib.Core.Path.{sym}
 use native.Mathlib.Omega.{arith}
-use borrow.Author.Rules.{rules}
 use Rattle.packet.proofs.FirstText.{start-message, accepted-some, accepted-text, accepted-bundle}
 use Rattle.packet.proofs.find_start.Goals as goal
 
-pub find_osc_string-first-requires : goal.find_osc_string-first-requires
-find_osc_string-first-requires c =
-    (search rules, accepted-text c.args.input.now c.args.pos c.requires.start_accepted)
+pub find_osc_string-first-requires-clause-text_found : goal.find_osc_string-first-requires-clause-text_found
+find_osc_string-first-requires-clause-text_found c = accepted-text c.args.input.now c.args.pos c.requires.start_accepted
 
 pub bounds-input-0 : goal.bounds-input-0
 bounds-input-0 c =

@@ -1,5 +1,8 @@
+-- Each answer is a case of `start_of`.
 use Rattle.packet.proofs.FirstText.{start-empty, start-message, start-bundle, start-other, start-lacks, is_word}
 use Rattle.packet.specs.declared.Start.TheVariants.{Refused}
+use Rattle.text.proofs.Within.{found_in}
+use native.Mathlib.Omega.{arith}
 use mathlib.Core.Path.{ap, sym, ◌∙◌}
 use Rattle.packet.proofs.read_start.Goals as goal
 
@@ -23,3 +26,6 @@ returns-else-same c =
 pub returns-in-Lacks : goal.returns-in-Lacks
 returns-in-Lacks c =
     ap Refused c.fault_in.ensures ∙ start-lacks _ _ c.if-input-eq0.false (sym c.in-Lacks.is ∙ c.read_osc_string.ensures)
+
+pub slice_bounds-same-end : goal.slice_bounds-same-end
+slice_bounds-same-end c = omega (arith, found_in _ _ (sym c.in-Found.is ∙ c.read_osc_string.ensures))

@@ -10,10 +10,10 @@ loop-i-init c = (search rules, refl)
 
 pub returns-then-not-is_value : goal.returns-then-not-is_value
 returns-then-not-is_value c =
-    sym (not-lookable _ _ _ (sym c.is_value.ensures ∙ not-true _ c.if-not-is_value.true) c.loop-i-test.true)
+    sym (not-lookable _ _ _ (sym c.is_value.ensures ∙ c.if-not-is_value.true) c.loop-i-test.true)
 
 pub loop-i-preserved : goal.loop-i-preserved
 loop-i-preserved c = (
   search rules,
-  lookable-more _ _ c.loop-i.invariant.1 (sym c.is_value.ensures ∙ not-false _ c.if-not-is_value.false),
+  lookable-more _ _ c.loop-i.invariant.1 (sym c.is_value.ensures ∙ c.if-not-is_value.false),
 )

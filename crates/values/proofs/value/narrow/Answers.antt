@@ -9,7 +9,7 @@ use Rattle.values.proofs.value.narrow.Goals as goal
 pub returns-in-105 : goal.returns-in-105
 unfolding narrow_of
 returns-in-105 c =
-    rw c.in-105.is (ap Int (to_z-of_z w32 c.signed32.result (record { sfits = c.signed32.type-inv }) ∙ c.signed32.ensures))
+    rw c.in-105.is (ap Int (to_z-of_z w32 c.signed32.result (record { sfits = c.signed32.type_inv }) ∙ c.signed32.ensures))
 
 pub returns-in-102 : goal.returns-in-102
 unfolding narrow_of

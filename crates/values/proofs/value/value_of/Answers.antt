@@ -32,7 +32,7 @@ pub returns-in-104 : goal.returns-in-104
 unfolding value_by
 returns-in-104 c =
     rw c.in-104.is
-    (ap Long (to_z-of_z w64 c.signed64.result (record { sfits = c.signed64.type-inv }) ∙ c.signed64.ensures
+    (ap Long (to_z-of_z w64 c.signed64.result (record { sfits = c.signed64.type_inv }) ∙ c.signed64.ensures
     ∙ ap (to_z w64) c.joined.ensures))
 
 pub returns-in-100 : goal.returns-in-100
