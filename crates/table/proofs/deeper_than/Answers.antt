@@ -1,7 +1,8 @@
+-- What is left of the walk is too deep exactly where the whole is: a closed level, an opened one, a record without a level, the end.
 use mathlib.Core.Path.{refl, sym, ◌∙◌}
-use mathlib.Core.Logic.{⊎_elim}
 use Rattle.table.proofs.Depths.{passed_none, passed-all, passed-end, passed-into, found, passed-level}
 use Rattle.table.proofs.deeper_than.Goals as goal
+use Rattle.table.proofs.deeper_than.Goals.{then-is_level+else-levels-limit, else-is_level}
 
 pub loop-at-init : goal.loop-at-init
 loop-at-init c = passed_none _ c.requires.0 refl refl
@@ -18,11 +19,13 @@ pub loop-at-preserved : goal.loop-at-preserved
 loop-at-preserved c =
     let kind = c.kind_at.ensures in
     let is = c.is_level.ensures in
-    ⊎_elim
-    (λ w. rw (w.3, w.4) (passed-level c.loop-at.invariant kind c.if-ends-levels.false (sym is ∙ w.0.taken) w.2.ensures w.1.left
-    c.requires.1))
-    (λ w. rw (w.1, w.2) (passed-into c.loop-at.invariant kind c.if-ends-levels.false (sym is ∙ w.0.left)))
-    c.if-is_level.branch
+    elim c.if-is_level.branch [
+      then-is_level+else-levels-limit w ↦
+      rw (w.ends-is, w.levels-is) (passed-level c.loop-at.invariant kind c.if-ends-levels.false (sym is ∙ w.if-is_level.true) w.field_at.ensures
+          w.if-levels-limit.false c.requires.1)
+    | else-is_level w ↦
+      rw (w.ends-is, w.levels-is) (passed-into c.loop-at.invariant kind c.if-ends-levels.false (sym is ∙ w.if-is_level.false))
+    ]
 
 pub returns : goal.returns
 returns c = passed-all c.loop-at.invariant c.loop-at-test.false
