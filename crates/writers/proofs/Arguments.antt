@@ -32,6 +32,12 @@ pub record Turn (source t : List ℕ) (lo hi : ℕ) (o₀ o : List ℕ) (at k en
   pub kinded : kind ≡ kind_at t at
   pub sorted : sort ≡ sort_of kind
 
+-- the facts that make a turn
+pub turn : {source t : List ℕ} {lo hi : ℕ} {o₀ o : List ℕ} {at k end kind : ℕ} {sort : Sort}
+    → Going (SoundIn source) (write_data source) (write_data source) t lo hi o₀ o at k → at < hi → end ≡ end_at t at → kind ≡ kind_at t at
+    → sort ≡ sort_of kind → Turn source t lo hi o₀ o at k end kind sort
+turn w h e q s = record { going = w; more = h; ended = e; kinded = q; sorted = s }
+
 module _ {source t : List ℕ} {lo hi : ℕ} {o₀ o : List ℕ} {at k end kind : ℕ} {sort : Sort} (r : Turn source t lo hi o₀ o at k end kind sort)
   where
     -- the record, and its rules

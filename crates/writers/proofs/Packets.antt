@@ -92,6 +92,11 @@ pub record MessageToWrite (source t : List ℕ) (at : ℕ) (o : List ℕ) (end :
   pub ends : end ≡ end_at t at
   pub numbers : item ≡ item_at t at
 
+-- the facts that make it
+pub message : {source t : List ℕ} {at : ℕ} {o : List ℕ} {end : ℕ} {item : Item} → kind_at t at ≡ message_kind → Ready source t at (length o)
+    → end ≡ end_at t at → item ≡ item_at t at → MessageToWrite source t at o end item
+message k r e i = record { kind = k; ready = r; ends = e; numbers = i }
+
 module _ {source t : List ℕ} {at : ℕ} {o : List ℕ} {end : ℕ} {item : Item} (w : MessageToWrite source t at o end item) where
   message-bytes : (F : Forest) → packet_at source t at F ≡ osc_string (part source item.a item.b) ++ (tag_text F ++ write_data source F)
   unfolding write_message
@@ -186,6 +191,11 @@ pub record BundleToWrite (source t : List ℕ) (at : ℕ) (o : List ℕ) (end : 
   pub ready : Ready source t at (length o)
   pub ends : end ≡ end_at t at
   pub numbers : item ≡ item_at t at
+
+-- the facts that make it
+pub bundle : {source t : List ℕ} {at : ℕ} {o : List ℕ} {end : ℕ} {item : Item} → (kind_at t at ≡ message_kind → ⊥)
+    → Ready source t at (length o) → end ≡ end_at t at → item ≡ item_at t at → BundleToWrite source t at o end item
+bundle k r e i = record { kind = k; ready = r; ends = e; numbers = i }
 
 module _ {source t : List ℕ} {at : ℕ} {o : List ℕ} {end : ℕ} {item : Item} (w : BundleToWrite source t at o end item) where
   bundle-bytes : (F : Forest) → packet_at source t at F ≡ write_bundle item [] ++ write_elements source F
