@@ -89,6 +89,24 @@ pub record Reading : Type 0 where
   pub item-read : item ≡ item_at table at
   pub sort-read : sort ≡ sort_of item.kind
 
+-- the facts that make it
+abbrev pub reading : {t : List ℕ} {at : ℕ} (source : List ℕ) (levels : ℕ) {end : ℕ} {item : Item} {sort : Sort} → InTable t at → end ≡ end_at t at
+    → item ≡ item_at t at → sort ≡ sort_of item.kind → Reading
+reading {t} {at} source levels {end} {item} {sort} p ee ie se =
+    record {
+      table = t;
+      source = source;
+      at = at;
+      levels = levels;
+      in_table = p;
+      end = end;
+      item = item;
+      sort = sort;
+      end_read = ee;
+      item-read = ie;
+      sort-read = se;
+    }
+
 module _ (r : Reading) where
   open r use {table as t, source, at, levels, in_table as p, end as e, item, sort}
   open r use {end_read as ee, item-read as ie, sort-read as se}
