@@ -1,13 +1,13 @@
 -- The outcomes of the calls, each by the tests that lead to it.
 use mathlib.Core.Path.{◌≡◌, refl, sym, ap, ◌∙◌}
-use mathlib.Core.Bool.{Bool, true, false, not, false≢true}
+use mathlib.Core.Bool.{Bool, true, false, false≢true}
 use mathlib.Core.Logic.{⊎_elim}
 use mathlib.Core.List.{List}
 use Prim.Native.Nat.{ℕ, ◌+◌, ◌-◌, ◌≤◌, ◌<◌}
 use native.Mathlib.Omega.{arith}
 use lib.Dec.{eqb, ltb}
 use lib.ListN.{length, length-append}
-use borrow.Author.Tests.{le-leb, lt-leb, ltb-true, ltb-false, eq-eqb, ne_eqb, not-true, not-false}
+use borrow.Author.Tests.{le-leb, lt-leb, ltb-true, ltb-false, eq-eqb, ne_eqb}
 use borrow.Rule.Slice.PartMut.{mid_of, put_mid}
 use Rattle.refusal.specs.declared.Refusal.{Refusal}
 use Rattle.refusal.specs.declared.Refusal.TheVariants.{TooLong, Unreadable, TooDeep, BadTable, OutputShort}
@@ -66,14 +66,14 @@ module _ (bs out : List ℕ) where
 
 module _ (text out : List ℕ) {b : Bool} (d : Decides b (Octets text)) where
   -- a text that is not UTF-8 is refusal 4
-  pub not-text : not b ≡ true → refuse (Unreadable NotUtf8) out ≡ string_outcome text out
+  pub not-text : b ≡ false → refuse (Unreadable NotUtf8) out ≡ string_outcome text out
   unfolding string_outcome
-  not-text e = rw (same_answer (octets text) d ∙ not-true b e)
+  not-text e = rw (same_answer (octets text) d ∙ e)
 
   -- any other is written as an OSC-string
-  pub text-outcome : not b ≡ false → {x : Outcome} → x ≡ bytes_outcome (osc_string text) out → x ≡ string_outcome text out
+  pub text-outcome : b ≡ true → {x : Outcome} → x ≡ bytes_outcome (osc_string text) out → x ≡ string_outcome text out
   unfolding string_outcome
-  text-outcome e h = rw (same_answer (octets text) d ∙ not-false b e) h
+  text-outcome e h = rw (same_answer (octets text) d ∙ e) h
 
 -- ---- a packet whose length is known
 
@@ -163,12 +163,12 @@ module _ {t : List ℕ} {count : ℕ} {source : List ℕ} {n : ℕ} (w : Surveys
 
 module _ (t : List ℕ) (count : ℕ) (source : List ℕ) {b : Bool} (d : Decides b (WellFormed t count source)) where
   -- a table that is not well formed is refusal 11
-  pub bad-table : not b ≡ true → AfterNo t count source BadTable
-  bad-table e = after_no.malformed (λ w. false≢true (sym (not-true b e) ∙ d.complete w)) refl
+  pub bad-table : b ≡ false → AfterNo t count source BadTable
+  bad-table e = after_no.malformed (λ w. false≢true (sym e ∙ d.complete w)) refl
 
-  module _ (e : not b ≡ false) where
+  module _ (e : b ≡ true) where
     well : WellFormed t count source
-    well = d.sound (not-false b e)
+    well = d.sound e
 
     -- the tree of the table
     abbrev inside : Forest

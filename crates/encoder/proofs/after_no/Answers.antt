@@ -1,3 +1,4 @@
+-- A well-formed table is one row, whose depth is then compared; what passes both tests is too long.
 use native.Mathlib.Omega.{arith}
 use Rattle.encoder.proofs.Answers.{rooted, too-deep, too_long}
 use Rattle.encoder.proofs.after_no.Goals as goal
