@@ -1,3 +1,4 @@
+-- The size, the content and the zeros stand one after another.
 use mathlib.Core.Path.{refl, sym}
 use mathlib.Core.List.{append_assoc}
 use Rattle.wire.proofs.Numbers.{length-bytes}

@@ -1,3 +1,4 @@
+-- A number is its four bytes.
 use mathlib.Core.Path.{sym}
 use Rattle.wire.proofs.Numbers.{length-bytes}
 use Rattle.strings.proofs.encode_number_into.Goals as goal

@@ -1,3 +1,4 @@
+-- The second number stands after the four bytes of the first.
 use lib.ListN.{length-append}
 use Rattle.wire.proofs.Numbers.{length-bytes}
 use Rattle.wire.proofs.Writers.{wrote-lent}

@@ -1,3 +1,4 @@
+-- Each kind of container is a case of the definition.
 use mathlib.Core.Path.{ap}
 use mathlib.Core.Bool.{not}
 use mathlib.Core.List.{[], ◌∷◌}

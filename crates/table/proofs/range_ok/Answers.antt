@@ -1,3 +1,4 @@
+-- Each kind with a range is a case of the definition, and no other kind is.
 use mathlib.Core.Path.{refl, sym}
 use mathlib.Core.Bool.{true}
 use mathlib.Core.List.{[], ◌∷◌}

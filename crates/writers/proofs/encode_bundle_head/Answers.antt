@@ -1,3 +1,4 @@
+-- The two numbers of the time tag stand after the mark.
 use mathlib.Core.Path.{refl}
 use mathlib.Core.List.{append-nil}
 use Rattle.wire.proofs.Writers.{filled-lent}
