@@ -1,7 +1,7 @@
 -- Examples, computed, that meet the hypotheses of this crate's theorems, and the packets and tables that those of other crates share:
 -- document 01's P3; a bundle in a bundle, with a message that has a text, a blob, a character and a double that is no number; and a
 -- bundle with arrays.
-use mathlib.Core.Path.{◌≡◌, refl, sym}
+use mathlib.Core.Path.{◌≡◌, sym}
 use mathlib.Core.Bool.{Bool, true, false, true≢false, ◌&&◌}
 use mathlib.Core.List.{List, [], ◌∷◌, ◌++◌, append-nil}
 use Prim.Native.Nat.{ℕ, zero, suc, ◌+◌, ◌^◌, ◌≤◌, ◌<◌}

@@ -1,11 +1,9 @@
 -- Each class of arguments has one writer, and there is room for the data of the class that the match found.
-use mathlib.Core.Path.{◌≡◌, refl, ap, subst}
+use mathlib.Core.Path.{◌≡◌, subst}
 use mathlib.Core.List.{List}
 use Prim.Native.Nat.{ℕ, ◌≤◌}
-use native.Mathlib.Omega.{arith}
-use lib.ListN.{length, length-append, length-take}
+use lib.ListN.{length, length-append}
 use Rattle.wire.proofs.Numbers.{length-bytes}
-use Rattle.wire.proofs.Writers.{wrote_none}
 use Rattle.node.specs.declared.record.Item.{Item}
 use Rattle.node.specs.declared.tags.Class.{Class}
 use Rattle.strings.specs.Atomic.{write_argument}

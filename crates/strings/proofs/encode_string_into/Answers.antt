@@ -15,21 +15,15 @@ use Rattle.strings.proofs.encode_string_into.Goals as goal
 
 zeros-left : (r : ℕ) → r < 4 → drop r (bytes 4 0) ≡ replicate (4 - r) 0
 unfolding bytes
-
 zeros-left zero h = refl
-
 zeros-left (suc zero) h = refl
-
 zeros-left (suc (suc zero)) h = refl
-
 zeros-left (suc (suc (suc zero))) h = refl
-
 zeros-left (suc (suc (suc (suc r)))) h = absurd (omega arith)
 
 text-over : {text o p q : List ℕ} (k : ℕ) → k ≡ length text - length text % 4 → k + 4 ≤ length o
     → Wrote (bytes 4 0) (mid_of k (length o - k) o) p → Wrote text (put_mid k (length o - k) o p) q → Filled (osc_string text) o q (k + 4)
 unfolding osc_string
-
 text-over {text} {o} k e h w v =
     let r = length text % 4 in
     let front : length (take k o) ≡ k = length-take-le k o (omega arith) in

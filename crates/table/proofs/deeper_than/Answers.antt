@@ -20,11 +20,11 @@ loop-at-preserved c =
     let kind = c.kind_at.ensures in
     let is = c.is_level.ensures in
     elim c.if-is_level.branch [
-      then-is_level+else-levels-limit w ↦
-      rw (w.ends-is, w.levels-is) (passed-level c.loop-at.invariant kind c.if-ends-levels.false (sym is ∙ w.if-is_level.true) w.field_at.ensures
+      | then-is_level+else-levels-limit w ↦
+          rw (w.ends-is, w.levels-is) (passed-level c.loop-at.invariant kind c.if-ends-levels.false (sym is ∙ w.if-is_level.true) w.field_at.ensures
           w.if-levels-limit.false c.requires.1)
-    | else-is_level w ↦
-      rw (w.ends-is, w.levels-is) (passed-into c.loop-at.invariant kind c.if-ends-levels.false (sym is ∙ w.if-is_level.false))
+      | else-is_level w ↦
+          rw (w.ends-is, w.levels-is) (passed-into c.loop-at.invariant kind c.if-ends-levels.false (sym is ∙ w.if-is_level.false))
     ]
 
 pub returns : goal.returns
