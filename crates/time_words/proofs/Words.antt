@@ -55,4 +55,5 @@ read_below {z} k e h = rw e (to_z-of_z {w = w64} {z = negsuc k} (record { sfits 
 
 -- minus a number that is not 0
 pub minus_one : (s : ℕ) → 0 < s → negsuc (s - 1) ≡ neg_ℤ (pos s)
+minus_one Prim.Native.Nat.zero h = elim h [ ]
 minus_one (suc k) h = let e : suc k - 1 ≡ k = omega arith in rw e

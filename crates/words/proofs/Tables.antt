@@ -1,5 +1,5 @@
 -- The words of a line, one after another, and what stands beside a key of a table, by the place of that key.
-use mathlib.Core.Path.{◌≡◌, refl, sym, ap, ◌∙◌}
+use mathlib.Core.Path.{◌≡◌, refl, sym, ap, subst, ◌∙◌}
 use mathlib.Core.Bool.{Bool, true, false, cond, false≢true}
 use mathlib.Core.List.{List, [], ◌∷◌, ◌++◌, map}
 use Prim.Native.Nat.{ℕ, zero, suc, ◌+◌, ◌-◌, ◌≤◌, ◌<◌}
@@ -152,7 +152,10 @@ paired-from number other (row ∷ rows) from (suc i) e =
     let q : number row.0 ≡ from + suc i → ⊥ = λ h. omega arith in
     let t : eqb (number row.0) (from + suc i) ≡ false = ne_eqb _ _ q in
     let m : from + suc i ≡ suc from + i = omega arith in
-    rw (t, m) (paired-from number other rows (suc from) i (both (eqb (number row.0) from) _ e).1)
+    let rest : paired_with (λ k. eqb (number k) (suc from + i)) other rows ≡ get_or (beside_of rows) i other =
+        paired-from number other rows (suc from) i (both (eqb (number row.0) from) _ e).1
+    in
+    rw t (subst (λ (n : ℕ). paired_with (λ k. eqb (number k) n) other rows ≡ get_or (beside_of rows) i other) (sym m) rest)
 
 pub paired-number : {K A : Type 0} (number : K → ℕ) (other : A) (rows : List (K × A)) (i : ℕ) → counts_up number 0 rows ≡ true
     → paired_with (λ k. eqb (number k) i) other rows ≡ get_or (beside_of rows) i other

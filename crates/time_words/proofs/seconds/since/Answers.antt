@@ -21,5 +21,4 @@ returns-then-seconds-gt-MOST c = by-case since_it c.in-Of.is (rw (lt-ltb _ _ c.i
 pub returns : goal.returns
 unfolding since_it
 returns c =
-    let g = c.plain-1.given in
-    by-case since_it g.1 (rw (le-ltb _ _ c.if-seconds-gt-MOST.false) (ap (λ (z : ℤ). As (Unix z g.0.1.0)) (to_z_pos w64 (omega arith))))
+    by-case since_it c.in-Of.is (rw (le-ltb _ _ c.if-seconds-gt-MOST.false) (ap (λ (z : ℤ). As (Unix z c.in-Of.nanos)) (to_z_pos w64 (omega arith))))

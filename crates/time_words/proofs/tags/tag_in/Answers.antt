@@ -2,7 +2,7 @@ use mathlib.Core.Path.{sym, ◌∙◌}
 use native.Mathlib.Omega.{arith}
 use borrow.Author.Tests.{eq-eqb, ne_eqb}
 use Rattle.time_words.specs.Tags.{tag_in}
-use Rattle.time_words.proofs.Digits.{one_more, no-hex, hex-all}
+use Rattle.time_words.proofs.Digits.{one_more, digit-fits, no-hex, hex-all}
 use Rattle.time_words.proofs.tags.tag_in.Goals as goal
 
 pub returns-then-word-ne16 : goal.returns-then-word-ne16
@@ -31,3 +31,15 @@ returns c =
     let s = c.loop-i.invariant in
     let word = c.args.word.now in
     sym (s.rest ∙ hex-all word c.loop-i.i c.loop-i.tag (omega (arith, s.sixteen, s.within)))
+
+pub overflow_mul-tag : goal.overflow_mul-tag
+overflow_mul-tag c =
+    let s = c.loop-i.invariant in
+    let fit = digit-fits c.loop-i.tag 0 c.loop-i.i s.fits (omega arith) (omega (arith, s.sixteen)) in
+    record { fits = omega arith }
+
+pub overflow_add-tag : goal.overflow_add-tag
+overflow_add-tag c =
+    let s = c.loop-i.invariant in
+    let fit = digit-fits c.loop-i.tag c.hex_value-value.result c.loop-i.i s.fits (omega arith) (omega (arith, s.sixteen)) in
+    record { fits = omega arith }
