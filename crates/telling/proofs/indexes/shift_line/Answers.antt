@@ -8,21 +8,21 @@ use Rattle.telling.proofs.indexes.shift_line.Goals as goal
 
 pub returns-in-Whole : goal.returns-in-Whole
 unfolding said_by filled_in piece_of taken_by
-returns-in-Whole c =
+returns-in-Whole c words =
     let a = c.args in
     same-said words c.formed.ensures
     ∙ sym (ap (λ (why : End). shift_end_line why a.at words) c.in-Whole.is)
 
 pub returns-in-Waiting : goal.returns-in-Waiting
 unfolding said_by filled_in piece_of taken_by
-returns-in-Waiting c =
+returns-in-Waiting c words =
     let a = c.args in
     same-said words c.formed-in-Waiting.ensures
     ∙ sym (ap (λ (why : End). shift_end_line why a.at words) c.in-Waiting.is)
 
 pub returns-in-Refused : goal.returns-in-Refused
 unfolding said_by filled_in piece_of taken_by
-returns-in-Refused c =
+returns-in-Refused c words =
     let a = c.args in
     same-said words c.formed-in-Refused.ensures
     ∙ sym (ap (λ (why : End). shift_end_line why a.at words) c.in-Refused.is)

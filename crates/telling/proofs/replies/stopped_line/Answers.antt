@@ -6,8 +6,8 @@ use Rattle.telling.proofs.replies.stopped_line.Goals as goal
 
 pub returns-then-dirty-eq0 : goal.returns-then-dirty-eq0
 unfolding said_by filled_in piece_of taken_by
-returns-then-dirty-eq0 c = rw (eq-eqb _ _ c.if-dirty-eq0.true) (same-said words c.formed.ensures)
+returns-then-dirty-eq0 c words = rw (eq-eqb _ _ c.if-dirty-eq0.true) (same-said words c.formed.ensures)
 
 pub returns : goal.returns
 unfolding said_by filled_in piece_of taken_by
-returns c = rw (ne_eqb _ _ c.if-dirty-eq0.false) (same-said words c.formed-2.ensures)
+returns c words = rw (ne_eqb _ _ c.if-dirty-eq0.false) (same-said words c.formed-2.ensures)

@@ -6,4 +6,4 @@ use Rattle.telling.proofs.shown.halves.Goals as goal
 
 pub returns : goal.returns
 unfolding said_by filled_in piece_of taken_by
-returns c = same-said (kind ∷ []) c.formed.ensures
+returns c kind = same-said (kind ∷ []) c.formed.ensures

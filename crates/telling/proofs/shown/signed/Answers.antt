@@ -7,12 +7,12 @@ use Rattle.telling.proofs.shown.signed.Goals as goal
 
 pub returns-then-x-lt0 : goal.returns-then-x-lt0
 unfolding said_by filled_in piece_of taken_by
-returns-then-x-lt0 c =
+returns-then-x-lt0 c kind =
     same-said (kind ∷ []) c.formed.ensures
     ∙ with-sign c.args.index kind c.args.end c.ranges.x c.magnitude-number.ensures c.if-x-lt0.true
 
 pub returns : goal.returns
 unfolding said_by filled_in piece_of taken_by
-returns c =
+returns c kind =
     same-said (kind ∷ []) c.formed-2.ensures
     ∙ without_sign c.args.index kind c.args.end c.ranges.x c.magnitude-number.ensures c.if-x-lt0.false
