@@ -1,3 +1,4 @@
+-- `amounts::amount_of` meets its contract. What the word begins with decides how it is read.
 use Rattle.wire.proofs.Parts.{tail}
 use Rattle.wire.proofs.Same.{is_same}
 use Rattle.amounts.proofs.Said.{amount-hex, amount-minus, amount-plain}

@@ -1,3 +1,4 @@
+-- `commands::check_asked` meets its contract, by the count of the words.
 use borrow.Author.Tests.{eq-eqb, ne_eqb}
 use Rattle.commands.specs.Asked.{check_asked}
 use Rattle.commands.proofs.check_asked.Goals as goal

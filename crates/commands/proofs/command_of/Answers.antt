@@ -1,3 +1,4 @@
+-- `commands::command_of` meets its contract: the words that are searched are those of the table, in its order.
 use Rattle.words.specs.Tables.{words_in}
 use Rattle.words.proofs.Tables.{named-at, named-within}
 use Rattle.commands.specs.Words.{command_words, command_of}

@@ -1,3 +1,4 @@
+-- `commands::cue_asked` meets its contract, by the count of the words and the number of the last.
 use mathlib.Core.Path.{sym, ap, ◌∙◌}
 use borrow.Author.Tests.{eq-eqb, ne_eqb}
 use Rattle.words.specs.declared.numeral.Numeral.TheVariants as numeral

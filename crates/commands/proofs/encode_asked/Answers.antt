@@ -1,3 +1,4 @@
+-- `commands::encode_asked` meets its contract, by the count of the words.
 use mathlib.Core.Path.{ap, ◌∙◌}
 use borrow.Author.Tests.{eq-eqb, ne_eqb}
 use Rattle.commands.specs.Asked.{encode_with, encode_asked}

@@ -1,3 +1,4 @@
+-- `commands::index_asked` meets its contract, by the count of the words.
 use borrow.Author.Tests.{eq-eqb, ne_eqb}
 use Rattle.commands.specs.Asked.{index_asked}
 use Rattle.commands.proofs.index_asked.Goals as goal

@@ -1,3 +1,4 @@
+-- `commands::is_word` meets its contract, by what `same` says.
 use Rattle.wire.proofs.Same.{is_same}
 use Rattle.commands.proofs.is_word.Goals as goal
 

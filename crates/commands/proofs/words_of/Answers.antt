@@ -1,3 +1,4 @@
+-- `commands::words_of` meets its contract: by the last word, and by the command.
 use mathlib.Core.Path.{ap}
 use mathlib.Core.Bool.{true}
 use Prim.Native.Nat.{ℕ}

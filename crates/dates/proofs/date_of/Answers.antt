@@ -1,3 +1,4 @@
+-- `dates::date_of` meets its contract.
 use native.Mathlib.Omega.{arith}
 use Rattle.dates.proofs.Months.{begins, goes_further, found, days-least}
 use Rattle.dates.proofs.date_of.Goals as goal

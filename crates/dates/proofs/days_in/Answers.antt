@@ -1,3 +1,4 @@
+-- `dates::days_in` meets its contract, by what the tests on the year and the month say.
 use mathlib.Core.Path.{sym, ◌∙◌}
 use borrow.Author.Tests.{eq-eqb, ne_eqb}
 use Rattle.dates.specs.Dates.{days_in}

@@ -1,3 +1,4 @@
+-- `dates::has_thirty` meets its contract: each return rewrites with the tests that led there.
 use borrow.Author.Tests.{eq-eqb, ne_eqb}
 use Rattle.dates.specs.Dates.{has_thirty}
 use Rattle.dates.proofs.has_thirty.Goals as goal

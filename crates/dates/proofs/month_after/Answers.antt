@@ -1,3 +1,4 @@
+-- `dates::month_after` meets its contract, by whether the month is the last.
 use borrow.Author.Tests.{eq-eqb, ne_eqb}
 use Rattle.dates.specs.Dates.{month_after}
 use Rattle.dates.proofs.month_after.Goals as goal

@@ -1,3 +1,4 @@
+-- `runs::sum_of` meets its contract.
 use Rattle.std.proofs.Common.{ℕ, List, sym, ◌∙◌, mod-lt, arith, rules}
 use Rattle.runs.proofs.Sums.{sum-next, sum-end}
 use Rattle.runs.proofs.sum_of.Goals as goal

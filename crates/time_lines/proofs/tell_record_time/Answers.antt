@@ -1,3 +1,4 @@
+-- `time_lines::tell_record_time` meets its contract, by what `look` answers of the record.
 use mathlib.Core.Path.{sym, ap, ◌∙◌}
 use Rattle.telling.proofs.Told.{says-as, says_none}
 use Rattle.time_lines.specs.TimeLines.{time_in_line, looked_time, record_time}

@@ -1,3 +1,4 @@
+-- `time_lines::tell_time` meets its contract, by the date of the day.
 use mathlib.Core.Path.{ap}
 use mathlib.Core.List.{[]}
 use Rattle.dates.specs.declared.Date.{Date}

@@ -1,3 +1,4 @@
+-- `time_words::look_ruled` meets its contract, by the count of the words, the name of the option and the word after it.
 use mathlib.Core.Path.{sym, ap, ◌∙◌}
 use borrow.Author.Tests.{eq-eqb, ne_eqb}
 use Rattle.wire.proofs.Same.{is_same}

@@ -1,3 +1,4 @@
+-- `time_words::moment_of` meets its contract, by whether the word is a tag.
 use mathlib.Core.Path.{sym, ap, ◌∙◌}
 use Rattle.time_words.specs.Seconds.{seconds_in}
 use Rattle.time_words.specs.Asked.{tag_or, moment_of}

@@ -1,3 +1,4 @@
+-- `time_words::rule_of` meets its contract: the words that are searched are those of the table, in its order.
 use Rattle.words.specs.Tables.{words_in}
 use Rattle.words.proofs.Tables.{named-at, named-within}
 use Rattle.time_words.specs.Asked.{rule_words, rule_named}

@@ -1,3 +1,4 @@
+-- `time_words::time_asked` meets its contract, by the count of the words.
 use mathlib.Core.Path.{ap₂, ◌∙◌}
 use borrow.Author.Tests.{eq-eqb, ne_eqb}
 use Rattle.time_words.specs.Asked.{time_with, time_asked}

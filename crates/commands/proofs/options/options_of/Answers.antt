@@ -1,3 +1,4 @@
+-- `commands::options::options_of` meets its contract, by the count of the words.
 use mathlib.Core.Path.{sym, ap, ◌∙◌}
 use borrow.Author.Tests.{eq-eqb, ne_eqb}
 use Rattle.commands.specs.declared.options.Options.{Options}

@@ -1,3 +1,4 @@
+-- `commands::options::with_option` meets its contract: each name by its test.
 use mathlib.Core.Path.{ap, ◌∙◌}
 use Rattle.troubles.specs.declared.Trouble.TheVariants.{Twice}
 use Rattle.commands.specs.declared.options.Chosen.TheVariants.{Wrong}

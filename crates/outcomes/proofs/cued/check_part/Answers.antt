@@ -1,3 +1,4 @@
+-- `outcomes::cued::check_part` meets its contract: the answer of the check, numbered after the records before.
 use mathlib.Core.Path.{refl, sym, subst}
 use Rattle.outcomes.specs.Cued.{ChecksPart}
 use Rattle.outcomes.proofs.Parts.{part-checks}

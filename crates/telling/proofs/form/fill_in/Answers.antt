@@ -1,3 +1,4 @@
+-- `telling::form::fill_in` meets its contract.
 use mathlib.Core.Path.{◌∙◌}
 use native.Mathlib.Omega.{arith}
 use Rattle.telling.proofs.Told.{mark-told, all_told}

@@ -1,3 +1,4 @@
+-- `telling::form::put_piece` meets its contract, by its keys.
 use borrow.Author.Tests.{ne_eqb}
 use Rattle.telling.specs.Forms.{piece_of}
 use Rattle.telling.proofs.Told.{put_as}

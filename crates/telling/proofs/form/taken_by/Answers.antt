@@ -1,3 +1,4 @@
+-- `telling::form::taken_by` meets its contract, by its keys.
 use borrow.Author.Rules.{rules}
 use borrow.Author.Tests.{ne_eqb}
 use Rattle.telling.specs.Forms.{taken_by}

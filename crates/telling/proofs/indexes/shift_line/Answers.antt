@@ -1,3 +1,4 @@
+-- `telling::indexes::shift_line` meets its contract, by why the shift ends.
 use mathlib.Core.Path.{sym, ap, ◌∙◌}
 use Rattle.results.specs.declared.End.{End}
 use Rattle.telling.specs.Forms.{piece_of, taken_by, filled_in}

@@ -1,3 +1,4 @@
+-- `telling::line::tell` meets its contract: the line of the table that is taken is the form.
 use mathlib.Core.Path.{refl, ap, ◌∙◌}
 use mathlib.Core.List.{List, [], ◌∷◌}
 use Prim.Native.Nat.{ℕ}

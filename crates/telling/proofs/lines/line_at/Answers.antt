@@ -1,3 +1,4 @@
+-- `telling::lines::line_at` meets its contract.
 use mathlib.Core.Path.{◌≡◌, sym, ◌∙◌}
 use native.Mathlib.Omega.{arith}
 use Rattle.telling.proofs.Tables.{line-part, next-line}

@@ -1,3 +1,4 @@
+-- `telling::lines::line_end` meets its contract.
 use mathlib.Core.Path.{◌∙◌}
 use native.Mathlib.Omega.{arith}
 use Rattle.telling.proofs.Tables.{line-ends, line_on, line-none}

@@ -1,3 +1,4 @@
+-- `telling::refusals::tell_numbered` meets its contract: the line of the table that is taken is that of the number.
 use mathlib.Core.Path.{ap, ◌∙◌}
 use mathlib.Core.List.{List, [], ◌∷◌}
 use Prim.Native.Nat.{ℕ}

@@ -1,3 +1,4 @@
+-- `telling::replies::packets_line` meets its contract, by whether there is dirty padding.
 use mathlib.Core.List.{[]}
 use borrow.Author.Tests.{eq-eqb, ne_eqb}
 use Rattle.telling.specs.Forms.{piece_of, taken_by, filled_in}

@@ -1,3 +1,4 @@
+-- `telling::replies::stopped_line` meets its contract, by whether there is dirty padding.
 use borrow.Author.Tests.{eq-eqb, ne_eqb}
 use Rattle.telling.specs.Forms.{piece_of, taken_by, filled_in}
 use Rattle.telling.specs.CodeTable.{said_by}

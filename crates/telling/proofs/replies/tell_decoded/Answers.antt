@@ -1,3 +1,4 @@
+-- `telling::replies::tell_decoded` meets its contract, by the answer.
 use mathlib.Core.List.{[]}
 use Rattle.telling.specs.Forms.{piece_of, taken_by, filled_in}
 use Rattle.telling.specs.Replies.{decoded_line}
@@ -10,4 +11,4 @@ pub returns-in-Waiting : goal.returns-in-Waiting
 unfolding said_by filled_in piece_of taken_by
 returns-in-Waiting c =
     let a = c.args in
-    says_of (decoded_line a.packets a.bytes) c.enum_told-1.given.1 (same-said [] c.formed.ensures) c.tell-in-Waiting.ensures
+    says_of (decoded_line a.packets a.bytes) c.in-Waiting.is (same-said [] c.formed.ensures) c.tell-in-Waiting.ensures

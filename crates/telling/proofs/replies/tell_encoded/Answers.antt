@@ -1,3 +1,4 @@
+-- `telling::replies::tell_encoded` meets its contract, by the answer.
 use mathlib.Core.List.{[]}
 use Rattle.telling.specs.Forms.{piece_of, taken_by, filled_in}
 use Rattle.telling.specs.Replies.{encoded_line}

@@ -1,3 +1,4 @@
+-- `telling::replies::tell_version` meets its contract: by its form.
 use mathlib.Core.List.{[]}
 use Rattle.telling.specs.Forms.{piece_of, taken_by, filled_in}
 use Rattle.telling.specs.CodeTable.{said_by}

@@ -1,3 +1,4 @@
+-- `telling::shown::four` meets its contract: by its form.
 use mathlib.Core.List.{[], ◌∷◌}
 use Rattle.telling.specs.Forms.{piece_of, taken_by, filled_in}
 use Rattle.telling.specs.CodeTable.{said_by}

@@ -1,3 +1,4 @@
+-- `telling::shown::signed` meets its contract, by the number's sign.
 use mathlib.Core.Path.{◌∙◌}
 use mathlib.Core.List.{[], ◌∷◌}
 use Rattle.telling.specs.Forms.{piece_of, taken_by, filled_in}

@@ -1,3 +1,4 @@
+-- `telling::shown::tell_record` meets its contract, by what `look` answers of the record.
 use borrow.Author.Rules.{rules}
 use mathlib.Core.Path.{sym, ap, ◌∙◌}
 use Rattle.node.specs.Records.{kind_at, end_at}

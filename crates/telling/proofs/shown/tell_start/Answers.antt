@@ -1,3 +1,4 @@
+-- `telling::shown::tell_start` meets its contract, by what `look` and `start_of` answer of the record.
 use mathlib.Core.Path.{sym, ap, ◌∙◌}
 use Rattle.values.specs.Look.{started_at}
 use Rattle.telling.specs.Shown.{started_line, after_look, start_line}

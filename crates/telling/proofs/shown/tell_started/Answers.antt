@@ -1,3 +1,4 @@
+-- `telling::shown::tell_started` meets its contract, by what `start_of` answered.
 use mathlib.Core.List.{[]}
 use Rattle.telling.specs.Forms.{piece_of, taken_by, filled_in}
 use Rattle.telling.specs.Shown.{started_line}

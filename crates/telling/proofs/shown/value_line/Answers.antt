@@ -1,3 +1,4 @@
+-- `telling::shown::value_line` meets its contract, by the value's case.
 use mathlib.Core.Path.{◌∙◌}
 use mathlib.Core.List.{[], ◌∷◌}
 use Rattle.telling.specs.Forms.{piece_of, taken_by, filled_in}
@@ -36,6 +37,6 @@ returns-in-Char c =
 
 pub returns-in_default : goal.returns-in_default
 unfolding said_by filled_in piece_of taken_by
-returns-in_default c =
+returns-in_default c kind =
     let a = c.args in
     same-said (kind ∷ []) c.formed-in_default.ensures ∙ bare-shown a.index kind a.end a.value c.in_default.in_default-own.keys13

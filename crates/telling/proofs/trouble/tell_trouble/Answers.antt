@@ -1,3 +1,4 @@
+-- `telling::trouble::tell_trouble` meets its contract: the line of the table that is taken is that of the trouble.
 use mathlib.Core.Path.{ap, ◌∙◌}
 use mathlib.Core.List.{List, [], ◌∷◌}
 use Prim.Native.Nat.{ℕ}

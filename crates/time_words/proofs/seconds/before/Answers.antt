@@ -1,3 +1,4 @@
+-- `time_words::seconds::before` meets its contract, by the numbers of the seconds and the nanoseconds.
 use mathlib.Core.Path.{refl, ap, ap₂, sym, ◌∙◌}
 use native.Mathlib.Omega.{arith}
 use borrow.Author.Tests.{lt-ltb, le-ltb}

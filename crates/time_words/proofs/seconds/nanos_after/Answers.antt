@@ -1,3 +1,4 @@
+-- `time_words::seconds::nanos_after` meets its contract, by how much stands there.
 use mathlib.Core.Path.{ap, ◌∙◌}
 use borrow.Author.Tests.{eq-eqb, ne_eqb, lt-ltb, le-ltb}
 use Rattle.wire.proofs.Parts.{tail}

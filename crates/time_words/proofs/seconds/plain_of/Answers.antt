@@ -1,3 +1,4 @@
+-- `time_words::seconds::plain_of` meets its contract, by what stands before the dot and from there on.
 use mathlib.Core.Path.{refl, sym, ◌∙◌}
 use Rattle.time_words.proofs.Words.{plain_by}
 use Rattle.time_words.proofs.seconds.plain_of.Goals as goal

@@ -1,3 +1,4 @@
+-- `time_words::seconds::seconds_of` meets its contract, by the first byte of the word.
 use mathlib.Core.Path.{ap, ◌∙◌}
 use native.Mathlib.Omega.{arith}
 use Rattle.time_words.specs.Seconds.{since_it, before_it}

@@ -1,3 +1,4 @@
+-- `time_words::seconds::since` meets its contract, by the number of the seconds.
 use mathlib.Core.Path.{refl, ap}
 use native.Mathlib.Omega.{arith}
 use borrow.Author.Tests.{lt-ltb, le-ltb}

@@ -1,3 +1,4 @@
+-- `time_words::tags::hex_value` meets its contract: each return rewrites with the tests that led there.
 use native.Mathlib.Omega.{arith}
 use borrow.Author.Tests.{lt-ltb, le-ltb}
 use Rattle.time_words.specs.Tags.{hex_of}

@@ -1,3 +1,4 @@
+-- `words::line::place_of` meets its contract.
 use native.Mathlib.Omega.{arith}
 use Rattle.wire.proofs.Same.{is_same}
 use Rattle.words.proofs.Tables.{place_found, place-next, place_none}

@@ -1,3 +1,4 @@
+-- `words::line::until` meets its contract.
 use mathlib.Core.Path.{◌∙◌}
 use native.Mathlib.Omega.{arith}
 use Rattle.words.proofs.Tables.{byte-here, byte-on, byte-none}

@@ -1,3 +1,4 @@
+-- `words::numeral::decimal` meets its contract.
 use borrow.Author.Rules.{rules}
 use mathlib.Core.Path.{sym}
 use Prim.Native.Nat.{◌+◌}

@@ -1,3 +1,4 @@
+-- `words::numeral::digit` meets its contract: each return rewrites with the tests that led there.
 use native.Mathlib.Omega.{arith}
 use borrow.Author.Rules.{rules}
 use borrow.Author.Tests.{lt-ltb, le-ltb}
