@@ -1,5 +1,5 @@
 -- A turn of the loop over a bundle's elements: what is left of the bundle, and what its next element is found to be.
-use mathlib.Core.Path.{◌≡◌, sym, ◌∙◌}
+use mathlib.Core.Path.{◌≡◌, refl, sym, ◌∙◌}
 use mathlib.Core.List.{List, ◌++◌}
 use Prim.Native.Nat.{ℕ, ◌+◌, ◌-◌, ◌*◌, ◌<◌, ◌≤◌}
 use native.Mathlib.Omega.{arith}
@@ -105,3 +105,36 @@ module _ (t : Turn) where
         let g = t.inside.going base msg w in
         going_done base msg t.input t.pos (t.room - 1) t.dirt t.rest t.at t.count t.sum g start
         (omega (arith, t.opens)) t.long (sym e ∙ t.finds base msg g.stands)
+
+-- the turn of a loop that has come so far
+module _ {l : List ℕ} {p room dirt : ℕ} {m : List ℕ} {q c d : ℕ} {found : Extent}
+    (short : (p + length l ≤ longest) × (dirt ≤ longest)) (long : 8 ≤ length l) (opens : room ≡ 0 → ⊥)
+    (inside : Inside l p (room - 1) dirt m q c d)
+    (finds : (base : ℕ) (msg : List ℕ) → StandsAt msg (base + q) m
+        → found ≡ extent (room - 1) (q + 4) (node_dirt base msg) (read_element base m q)) where
+  abbrev pub turn_of : Turn
+  turn_of = record {
+    input = l;
+    pos = p;
+    room = room;
+    dirt = dirt;
+    rest = m;
+    at = q;
+    count = c;
+    sum = d;
+    short = short;
+    long = long;
+    opens = opens;
+    inside = inside;
+    found = found;
+    finds = finds;
+  }
+
+-- a turn in which a tree is found
+pub passed : {l : List ℕ} {p room dirt : ℕ} {m : List ℕ} {q c d n next x : ℕ}
+    (short : (p + length l ≤ longest) × (dirt ≤ longest)) (long : 8 ≤ length l) (opens : room ≡ 0 → ⊥)
+    (inside : Inside l p (room - 1) dirt m q c d)
+    (finds : (base : ℕ) (msg : List ℕ) → StandsAt msg (base + q) m
+        → Tree n next x ≡ extent (room - 1) (q + 4) (node_dirt base msg) (read_element base m q))
+    → Passed (turn_of short long opens inside finds) n next x
+passed short long opens inside finds = tree-passed (turn_of short long opens inside finds) refl
