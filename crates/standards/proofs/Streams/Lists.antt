@@ -92,6 +92,7 @@ spoken streams.Frames.ends = record { packets = none; stream = streams.ends; all
   where
     by-stand : (s : List ℕ) (F : Forest) → StandFor s none F → Played s [] F
     by-stand s nil no_packet = streams.Played.ends
+    by-stand s (node item inside rest) x = elim x [ ]
 spoken (streams.Frames.frame {more = more} source item inside w r) =
     let S = packet-is source w.sourced item inside w.obeys w.clean w.fields in
     let R = spoken r in
