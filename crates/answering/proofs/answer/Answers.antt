@@ -1,0 +1,19 @@
+use Rattle.answering.proofs.Order.{depth-over, length_over, decoded-is}
+use Rattle.framing.specs.Framing.{rule_of}
+use Rattle.answering.proofs.answer.Goals as goal
+
+pub returns-then-depth-gt-DEEPEST : goal.returns-then-depth-gt-DEEPEST
+returns-then-depth-gt-DEEPEST c =
+    let a = c.args in
+    depth-over (rule_of a.framing a.depth) _ _ _ c.if-depth-gt-DEEPEST.true
+
+pub returns-then-msg-gt-LONGEST : goal.returns-then-msg-gt-LONGEST
+returns-then-msg-gt-LONGEST c =
+    let a = c.args in
+    length_over (rule_of a.framing a.depth) _ _ _ c.if-depth-gt-DEEPEST.false c.if-msg-gt-LONGEST.true
+
+pub returns : goal.returns
+returns c =
+    let a = c.args in
+    decoded-is (rule_of a.framing a.depth) _ _ _ c.if-depth-gt-DEEPEST.false c.if-msg-gt-LONGEST.false c.within.ensures
+    c.measure_input.ensures

@@ -1,0 +1,8 @@
+use lib.Seq.{length-take-le}
+use Rattle.slide_steps.proofs.Frames.{step-slides}
+use Rattle.slide_steps.proofs.slide_step.Goals as goal
+
+pub returns : goal.returns
+returns c =
+    step-slides c.slide_frames.ensures c.if-bytes-gt-LONGEST.false (length-take-le 65520 c.args.table.now c.if-table-lt-TABLE_SIZE.false)
+    c.if-table-lt-TABLE_SIZE.false

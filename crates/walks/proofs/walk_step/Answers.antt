@@ -1,0 +1,20 @@
+use Rattle.walks.proofs.Steps.{step-low, walks-on, walk_ends, too_long}
+use Rattle.walks.proofs.walk_step.Goals as goal
+
+pub keep_rest-kept-requires : goal.keep_rest-kept-requires
+keep_rest-kept-requires c =
+    ((step-low c.requires c.index_step.ensures c.in-Written.is).within, c.requires.there)
+
+pub returns-then-reads_on : goal.returns-then-reads_on
+returns-then-reads_on c =
+    walks-on c.requires c.index_step.ensures c.in-Written.is c.keep_rest-kept.ensures c.reads_on.ensures
+    c.if-reads_on.true
+
+pub returns-else-reads_on : goal.returns-else-reads_on
+returns-else-reads_on c =
+    walk_ends c.requires c.index_step.ensures c.in-Written.is c.keep_rest-kept.ensures c.reads_on.ensures
+    c.if-reads_on.false
+
+pub returns-in-Refused : goal.returns-in-Refused
+returns-in-Refused c =
+    too_long c.requires c.index_step.ensures c.in-Refused.is
