@@ -1,15 +1,112 @@
-use Rattle.rosc_inputs.proofs.ListTotals.{empty-list, none-counted, all-counted}
+-- A turn: the frame at `at` is measured, and counted or refused.
+use mathlib.Core.Path.{◌≡◌, ap, ◌∙◌}
+use mathlib.Core.Bool.{Bool}
+use mathlib.Core.List.{List}
+use Prim.Native.Nat.{ℕ, ◌-◌, ◌<◌}
+use native.Mathlib.Omega.{arith}
 use borrow.Author.Rules.{rules}
+use lib.ListN.{length, take, drop}
+use Rattle.argument.specs.CodeParts.{StandsAt}
+use Rattle.measure.specs.CodeMeasure.{node_dirt}
+use Rattle.framing.specs.Framing.{read_frame}
+use Rattle.rosc_inputs.specs.CodeTotals.{frame_extent}
+use Rattle.rosc_inputs.specs.declared.FrameExtent.{FrameExtent}
+use Rattle.rosc_inputs.specs.declared.FrameExtent.TheVariants.{Packet}
+use Rattle.rosc_inputs.proofs.ListTotals.{FramesCounted, Turn, empty-list, none-counted, all-counted}
+use Rattle.rosc_inputs.proofs.ListTotals.{tree-passed, deep-passed, waits-here, fault-low, refused-here}
 use Rattle.rosc_inputs.proofs.measure_tcp_vec.Goals as goal
 
+abbrev turn : (limit : ℕ) (msg : List ℕ) (at count dirt : ℕ) (deep : Bool) → FramesCounted limit msg at count dirt deep → at < length msg
+    → (found : FrameExtent)
+    → ((base : ℕ) (m : List ℕ) → StandsAt m base (take (length msg - at) (drop at msg))
+    → found ≡ frame_extent limit (node_dirt base m) (read_frame base (take (length msg - at) (drop at msg))))
+    → Turn
+turn limit msg at count dirt deep w h found finds =
+    record {
+      limit = limit;
+      msg = msg;
+      at = at;
+      count = count;
+      dirt = dirt;
+      deep = deep;
+      so_far = w;
+      more = h;
+      found = found;
+      finds = finds;
+    }
+
 pub returns-then-msg-eq0 : goal.returns-then-msg-eq0
-returns-then-msg-eq0 c =
-    empty-list _ _ c.if-msg-eq0.true
+returns-then-msg-eq0 c = empty-list _ _ c.if-msg-eq0.true
 
 pub loop-at-init : goal.loop-at-init
-loop-at-init c =
-    none-counted _ _ c.if-msg-eq0.false
+loop-at-init c = none-counted _ _ c.if-msg-eq0.false
 
 pub returns : goal.returns
-returns c =
-    all-counted c.loop-at.invariant (search rules) c.counted-2.ensures
+returns c = all-counted c.loop-at.invariant (search rules) c.counted-2.ensures
+
+pub returns-in-Waiting : goal.returns-in-Waiting
+returns-in-Waiting c =
+    let t = turn c.args.depth c.args.msg.now c.loop-at.at c.loop-at.count c.loop-at.dirt c.loop-at.deep c.loop-at.invariant c.loop-at-test.true
+    c.measure_frame.result c.measure_frame.ensures in
+    waits-here t c.in-Waiting.is c.counted.ensures
+
+pub overflow_add-count : goal.overflow_add-count
+overflow_add-count c =
+    let t = turn c.args.depth c.args.msg.now c.loop-at.at c.loop-at.count c.loop-at.dirt c.loop-at.deep c.loop-at.invariant c.loop-at-test.true
+    c.measure_frame.result c.measure_frame.ensures in
+    omega (arith, tree-passed t (c.in-Packet.is ∙ ap Packet c.in-Tree.is))
+
+pub overflow_add-dirt : goal.overflow_add-dirt
+overflow_add-dirt c =
+    let t = turn c.args.depth c.args.msg.now c.loop-at.at c.loop-at.count c.loop-at.dirt c.loop-at.deep c.loop-at.invariant c.loop-at-test.true
+    c.measure_frame.result c.measure_frame.ensures in
+    omega (arith, tree-passed t (c.in-Packet.is ∙ ap Packet c.in-Tree.is))
+
+pub overflow_add-at : goal.overflow_add-at
+overflow_add-at c =
+    let t = turn c.args.depth c.args.msg.now c.loop-at.at c.loop-at.count c.loop-at.dirt c.loop-at.deep c.loop-at.invariant c.loop-at-test.true
+    c.measure_frame.result c.measure_frame.ensures in
+    omega (arith, tree-passed t (c.in-Packet.is ∙ ap Packet c.in-Tree.is))
+
+pub loop-at-smaller-in-Tree : goal.loop-at-smaller-in-Tree
+loop-at-smaller-in-Tree c =
+    let t = turn c.args.depth c.args.msg.now c.loop-at.at c.loop-at.count c.loop-at.dirt c.loop-at.deep c.loop-at.invariant c.loop-at-test.true
+    c.measure_frame.result c.measure_frame.ensures in
+    omega (arith, tree-passed t (c.in-Packet.is ∙ ap Packet c.in-Tree.is))
+
+pub loop-at-preserved-in-Tree : goal.loop-at-preserved-in-Tree
+loop-at-preserved-in-Tree c =
+    let t = turn c.args.depth c.args.msg.now c.loop-at.at c.loop-at.count c.loop-at.dirt c.loop-at.deep c.loop-at.invariant c.loop-at-test.true
+    c.measure_frame.result c.measure_frame.ensures in
+    (tree-passed t (c.in-Packet.is ∙ ap Packet c.in-Tree.is)).1
+
+pub overflow_add-at-in-Deep : goal.overflow_add-at-in-Deep
+overflow_add-at-in-Deep c =
+    let t = turn c.args.depth c.args.msg.now c.loop-at.at c.loop-at.count c.loop-at.dirt c.loop-at.deep c.loop-at.invariant c.loop-at-test.true
+    c.measure_frame.result c.measure_frame.ensures in
+    omega (arith, deep-passed t (c.in-Packet.is ∙ ap Packet c.in-Deep.is))
+
+pub loop-at-smaller : goal.loop-at-smaller
+loop-at-smaller c =
+    let t = turn c.args.depth c.args.msg.now c.loop-at.at c.loop-at.count c.loop-at.dirt c.loop-at.deep c.loop-at.invariant c.loop-at-test.true
+    c.measure_frame.result c.measure_frame.ensures in
+    omega (arith, deep-passed t (c.in-Packet.is ∙ ap Packet c.in-Deep.is))
+
+pub loop-at-preserved : goal.loop-at-preserved
+loop-at-preserved c =
+    let t = turn c.args.depth c.args.msg.now c.loop-at.at c.loop-at.count c.loop-at.dirt c.loop-at.deep c.loop-at.invariant c.loop-at-test.true
+    c.measure_frame.result c.measure_frame.ensures in
+    (deep-passed t (c.in-Packet.is ∙ ap Packet c.in-Deep.is)).1
+
+pub moved-requires : goal.moved-requires
+moved-requires c =
+    let t = turn c.args.depth c.args.msg.now c.loop-at.at c.loop-at.count c.loop-at.dirt c.loop-at.deep c.loop-at.invariant c.loop-at-test.true
+    c.measure_frame.result c.measure_frame.ensures in
+    let low = fault-low t (c.in-Packet.is ∙ ap Packet c.in-Refused.is) in
+    omega arith
+
+pub returns-in-Refused : goal.returns-in-Refused
+returns-in-Refused c =
+    let t = turn c.args.depth c.args.msg.now c.loop-at.at c.loop-at.count c.loop-at.dirt c.loop-at.deep c.loop-at.invariant c.loop-at-test.true
+    c.measure_frame.result c.measure_frame.ensures in
+    refused-here t (c.in-Packet.is ∙ ap Packet c.in-Refused.is) c.moved.ensures
