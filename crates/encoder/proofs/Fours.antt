@@ -4,7 +4,7 @@ use mathlib.Core.Bool.{Bool, true, false, cond}
 use mathlib.Core.List.{List, ◌++◌}
 use Prim.Native.Nat.{ℕ, ◌%◌}
 use native.Mathlib.Omega.{arith}
-use lib.Dec.{eqb, leb}
+use lib.Dec.{leb}
 use lib.ListN.{length, drop}
 use Rattle.refusal.specs.declared.Refusal.{Refusal}
 use Rattle.refusal.specs.declared.Refusal.TheVariants.{TooLong, Unreadable, TooDeep, BadTable, OutputShort}
@@ -19,7 +19,6 @@ use Rattle.encoder.specs.Outcome.{Encodes, malformed, formed, InFours}
 use Rattle.results.specs.declared.Encoded.TheVariants.{Written}
 use Rattle.strings.proofs.Lengths.{string-even}
 use Rattle.writers.proofs.Lengths.{packet-even, element-even}
-use Rattle.node.specs.Tags.{message_kind}
 use Rattle.wire.specs.Limits.{longest, deepest}
 use Rattle.node.specs.declared.record.Item.{Item}
 use Rattle.wire.proofs.Choices.{by-test}

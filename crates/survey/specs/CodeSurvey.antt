@@ -1,9 +1,9 @@
 -- Describes code, and no part of the document: what one reading of a table finds. The words are those of Formed.antt and Tree.antt of
 -- `table`, and of Osc.antt of `writers`.
-use Rattle.std.specs.Prelude.{◌≡◌, Bool, true, false, cond, List, ℕ, ◌+◌, ◌*◌, ◌≤◌, ◌<◌, eqb, leb, ltb, length}
+use Rattle.std.specs.Prelude.{◌≡◌, Bool, true, false, cond, List, ℕ, ◌*◌, ◌≤◌, ◌<◌, eqb, leb, ltb, length}
 use Rattle.node.specs.Forest.{Forest, depth}
 use Rattle.node.specs.Tags.{message_kind, bundle_kind}
-use Rattle.node.specs.Records.{record_size, most_records, zeros_at, end_at, item_at}
+use Rattle.node.specs.Records.{record_size, most_records, zeros_at, end_at}
 use Rattle.node.specs.Rules.{leaf_rules}
 use Rattle.node.specs.declared.tags.Class.{Class}
 use Rattle.node.specs.declared.tags.Class.TheVariants.{Four, Eight, Bare, Text, Blob, Scalar, Unknown}

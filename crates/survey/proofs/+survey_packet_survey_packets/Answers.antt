@@ -12,19 +12,17 @@ survey_packet-returns-then-levels-eq0 t c =
     (bundle-too-deep (sym c.kind_at.ensures ∙ c.in-35.is) c.requires c.if-levels-eq0.true, omega arith)
 
 pub survey_packet-returns-else-levels-eq0 : goal.survey_packet-returns-else-levels-eq0
-survey_packet-returns-else-levels-eq0 t c =
-    (
-      bundle-found (sym c.kind_at.ensures ∙ c.in-35.is) c.requires c.if-levels-eq0.false c.field_at-end.ensures c.survey_packets.ensures.0,
-      omega (arith, c.survey_packets.ensures.1),
-    )
+survey_packet-returns-else-levels-eq0 t c = (
+  bundle-found (sym c.kind_at.ensures ∙ c.in-35.is) c.requires c.if-levels-eq0.false c.field_at-end.ensures c.survey_packets.ensures.0,
+  omega (arith, c.survey_packets.ensures.1),
+)
 
 pub survey_packet-returns-in_default : goal.survey_packet-returns-in_default
-survey_packet-returns-in_default t c =
-    (
-      not-packet c.requires c.kind_at.ensures
-          (rw (ne_eqb _ _ c.in_default.in_default-own.rest.0.1, ne_eqb _ _ c.in_default.in_default-own.rest.1)),
-      omega arith,
-    )
+survey_packet-returns-in_default t c = (
+  not-packet c.requires c.kind_at.ensures
+      (rw (ne_eqb _ _ c.in_default.in_default-own.rest.0.1, ne_eqb _ _ c.in_default.in_default-own.rest.1)),
+  omega arith,
+)
 
 pub survey_packets-loop-at-init : goal.survey_packets-loop-at-init
 survey_packets-loop-at-init t c =
@@ -35,11 +33,10 @@ survey_packets-returns-then-not-is_placed t c =
     (packets-unplaced c.loop-at.invariant c.loop-at-test.true (sym c.is_placed.ensures ∙ c.if-not-is_placed.true), omega arith)
 
 pub survey_packets-returns-then-total-gt-LONGEST_ELEMENT : goal.survey_packets-returns-then-total-gt-LONGEST_ELEMENT
-survey_packets-returns-then-total-gt-LONGEST_ELEMENT t c =
-    (
-      packets-long c.loop-at.invariant c.survey_packet-total.ensures.0 c.loop-at-test.true c.if-total-gt-LONGEST_ELEMENT.true,
-      omega arith,
-    )
+survey_packets-returns-then-total-gt-LONGEST_ELEMENT t c = (
+  packets-long c.loop-at.invariant c.survey_packet-total.ensures.0 c.loop-at-test.true c.if-total-gt-LONGEST_ELEMENT.true,
+  omega arith,
+)
 
 pub survey_packets-loop-at-preserved : goal.survey_packets-loop-at-preserved
 survey_packets-loop-at-preserved t c =

@@ -2,7 +2,7 @@
 use native.Mathlib.Omega.{arith}
 use Rattle.writers.proofs.Classed.{data-none}
 use Rattle.writers.proofs.Rows.{ended}
-use Rattle.writers.proofs.Arguments.{turn, turn-fits, data-inside, array-after, array-gone, closes-gone, leaf-asked, leaf-after}
+use Rattle.writers.proofs.Arguments.{turn, turn-fits, data-inside, array-after, array-gone, closes-gone, leaf-asked}
 use Rattle.writers.proofs.Arguments.{leaf-gone}
 use Rattle.writers.proofs.+encode_arg_data.Goals as goal
 

@@ -34,16 +34,16 @@ slice_bounds-encode_arg_types-start t c =
 
 pub encode_arg_types-written-requires : goal.encode_arg_types-written-requires
 encode_arg_types-written-requires t c = (
-      omega (arith, tag-fits c.loop-at.invariant c.loop-at-test.true c.field_at-end.ensures),
-      tags-inside c.loop-at.invariant c.loop-at-test.true c.kind_at-kind.ensures c.field_at-end.ensures c.if-kind-eq-ARRAY.true,
-    )
+  omega (arith, tag-fits c.loop-at.invariant c.loop-at-test.true c.field_at-end.ensures),
+  tags-inside c.loop-at.invariant c.loop-at-test.true c.kind_at-kind.ensures c.field_at-end.ensures c.if-kind-eq-ARRAY.true,
+)
 
 pub overflow_add-written-then-kind-eq-ARRAY : goal.overflow_add-written-then-kind-eq-ARRAY
 overflow_add-written-then-kind-eq-ARRAY t c =
     omega (
       arith,
       close-room c.loop-at.invariant c.loop-at-test.true c.kind_at-kind.ensures c.field_at-end.ensures c.if-kind-eq-ARRAY.true
-      c.encode_arg_types-written.ensures,
+          c.encode_arg_types-written.ensures,
     )
 
 pub bounds-out-written-then-kind-eq-ARRAY : goal.bounds-out-written-then-kind-eq-ARRAY
@@ -51,7 +51,7 @@ bounds-out-written-then-kind-eq-ARRAY t c =
     omega (
       arith,
       close-room c.loop-at.invariant c.loop-at-test.true c.kind_at-kind.ensures c.field_at-end.ensures c.if-kind-eq-ARRAY.true
-      c.encode_arg_types-written.ensures,
+          c.encode_arg_types-written.ensures,
     )
 
 pub overflow_add-written-then-kind-eq-ARRAY-2 : goal.overflow_add-written-then-kind-eq-ARRAY-2
@@ -59,7 +59,7 @@ overflow_add-written-then-kind-eq-ARRAY-2 t c =
     omega (
       arith,
       close-room c.loop-at.invariant c.loop-at-test.true c.kind_at-kind.ensures c.field_at-end.ensures c.if-kind-eq-ARRAY.true
-      c.encode_arg_types-written.ensures,
+          c.encode_arg_types-written.ensures,
     )
 
 pub loop-at-smaller-then-kind-eq-ARRAY : goal.loop-at-smaller-then-kind-eq-ARRAY

@@ -1,5 +1,4 @@
 -- A turn of the bundle's loop writes one element: a gap for its size, the packet, and then the size into the gap.
-use mathlib.Core.Path.{sym, ◌∙◌}
 use native.Mathlib.Omega.{arith}
 use Rattle.wire.proofs.Parts.{length-lent}
 use Rattle.writers.proofs.Rows.{next, ends}

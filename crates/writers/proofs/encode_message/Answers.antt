@@ -1,6 +1,6 @@
 -- Three writers stand one after another: of the address, of the type tag text, of the data.
 use native.Mathlib.Omega.{arith}
-use Rattle.writers.proofs.Packets.{before-end, message, address-asked, address-fits, text-asked, head-room, data-asked, message-filled}
+use Rattle.writers.proofs.Packets.{before-end, message, address-asked, address-fits, text-asked, data-asked, message-filled}
 use Rattle.writers.proofs.encode_message.Goals as goal
 
 pub field_at-end-requires : goal.field_at-end-requires
