@@ -1,7 +1,7 @@
 -- One packet is a message, a bundle, or of a kind that is no packet's; the packets of a row are passed one after another.
 use mathlib.Core.Path.{sym, ◌∙◌}
 use native.Mathlib.Omega.{arith}
-use borrow.Author.Tests.{ne_eqb}
+use Rattle.std.proofs.Common.{rules, tests}
 use Rattle.survey.proofs.Rows.{placed-is}
 use Rattle.survey.proofs.Packets.{not-packet, bundle-too-deep, bundle-found}
 use Rattle.survey.proofs.Packets.{ahead_none, ahead_more, packets-unplaced, packets-long, packets-all}
@@ -19,8 +19,7 @@ survey_packet-returns-else-levels-eq0 t c = (
 
 pub survey_packet-returns-in_default : goal.survey_packet-returns-in_default
 survey_packet-returns-in_default t c = (
-  not-packet c.requires c.kind_at.ensures
-      (rw (ne_eqb _ _ c.in_default.in_default-own.rest.0.1, ne_eqb _ _ c.in_default.in_default-own.rest.1)),
+  not-packet c.requires c.kind_at.ensures (search (rules, tests)),
   omega arith,
 )
 

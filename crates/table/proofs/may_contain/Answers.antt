@@ -1,11 +1,12 @@
 -- Each kind of container is a case of the definition.
 use mathlib.Core.Path.{ap}
+use native.Mathlib.Omega.{arith}
+use Rattle.std.proofs.lemmas.Bool.Decides.{nat_tests}
 use mathlib.Core.Bool.{not}
 use mathlib.Core.List.{[], ◌∷◌}
 use Prim.Native.Nat.{ℕ}
-use borrow.Author.Tests.{ne_eqb}
 use Rattle.node.specs.Tags.{message_kind, array_kind}
-use Rattle.node.proofs.Keys.{by-keys, not-among}
+use Rattle.node.proofs.Keys.{by-keys}
 use Rattle.table.specs.Formed.{allowed}
 use Rattle.table.proofs.may_contain.Goals as goal
 
@@ -23,4 +24,4 @@ returns-in-47 c =
 
 pub returns-in_default : goal.returns-in_default
 unfolding allowed
-returns-in_default c = rw (ne_eqb _ _ c.in_default.in_default-own.rest.0.1, not-among (message_kind ∷ array_kind ∷ []) _ c.in_default.in_default-own.rest.1)
+returns-in_default c = grind (arith, nat_tests)

@@ -1,11 +1,11 @@
 -- Each kind with a range is a case of the definition, and no other kind is.
 use mathlib.Core.Path.{refl, sym}
+use Rattle.std.proofs.Common.{rules, tests}
 use mathlib.Core.Bool.{true}
 use mathlib.Core.List.{[], ◌∷◌}
 use Prim.Native.Nat.{ℕ}
-use borrow.Author.Tests.{ne_eqb}
 use Rattle.node.specs.Tags.{message_kind, among}
-use Rattle.node.proofs.Keys.{by-keys, not-among}
+use Rattle.node.proofs.Keys.{by-keys}
 use Rattle.table.specs.Formed.{range_ok}
 use Rattle.table.proofs.range_ok.Goals as goal
 
@@ -22,4 +22,4 @@ returns-in-98 c = rw c.in-98.is c.lies_in.ensures
 
 pub returns-in_default : goal.returns-in_default
 unfolding range_ok
-returns-in_default c = rw (not-among (message_kind ∷ 115 ∷ []) _ c.in_default.in_default-own.rest.0.1, ne_eqb _ _ c.in_default.in_default-own.rest.1)
+returns-in_default c = search (rules, tests)
