@@ -23,6 +23,14 @@ root_count-packets-requires c =
     records-in (leaves c.decode-answer.result (forest_of (rule msg)) _ _ e.left)
     (answer-fits rule a.options.depth msg a.table.now c.least-records.result (search rules) e.answered) c.kept_count-count.ensures
 
+pub overflow_mul-bytes : goal.overflow_mul-bytes
+overflow_mul-bytes c =
+    let a = c.args in
+    let h : c.least-records.result * record_size ≤ length a.table.now = omega (arith, c.requires, c.least-records.ensures) in
+    let rule = rule_of a.framing a.options.depth in
+    let x = answer-fits rule a.options.depth a.msg.now a.table.now c.least-records.result h c.decode-answer.ensures.answered in
+    record { fits = omega (arith, x.few, c.kept_count-count.ensures, c.least-records.ensures) }
+
 pub returns : goal.returns
 returns c =
     let a = c.args in
