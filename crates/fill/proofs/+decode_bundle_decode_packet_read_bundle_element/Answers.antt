@@ -36,7 +36,7 @@ decode_bundle-overflow_cast-end t c = omega (arith, filling-fits c.loop-n.invari
 pub decode_bundle-read_bundle_element-requires : goal.decode_bundle-read_bundle_element-requires
 decode_bundle-read_bundle_element-requires t c =
     let r = rest-is-shorter c.loop-n.invariant in
-    (omega (arith, r, c.decreases), record { input_bound = r.0; table_room = next_fits c.loop-n.invariant })
+    (omega (arith, r, c.decreases), (r.0, next_fits c.loop-n.invariant))
 
 pub decode_bundle-overflow_add-count : goal.decode_bundle-overflow_add-count
 decode_bundle-overflow_add-count t c = omega (arith, turn-fits c.loop-n.invariant c.in-Wrote.ensures refl)
@@ -95,11 +95,7 @@ pub decode_packet-decode_bundle-requires : goal.decode_packet-decode_bundle-requ
 decode_packet-decode_bundle-requires t c =
     let b = bundle-in c.in-Bundle.ensures c.requires.input_bound in (
       omega (arith, b, c.decreases),
-      record {
-        input_bound = omega (arith, b);
-        table_room = past_room (bundle-past b) c.requires.table_room;
-        start_le_longest = omega (arith, b);
-      },
+      (omega (arith, b), (past_room (bundle-past b) c.requires.table_room, omega (arith, b))),
     )
 
 pub decode_packet-returns-in-Message : goal.decode_packet-returns-in-Message
@@ -122,7 +118,7 @@ read_bundle_element-slice_bounds-decode_packet-end t c = omega (arith, element-i
 pub read_bundle_element-decode_packet-requires : goal.read_bundle_element-decode_packet-requires
 read_bundle_element-decode_packet-requires t c =
     let e = element-in c.in-Holds.ensures c.requires.input_bound in
-    (omega (arith, e, c.decreases), record { input_bound = omega (arith, e); table_room = held-room e c.requires.table_room })
+    (omega (arith, e, c.decreases), (omega (arith, e), held-room e c.requires.table_room))
 
 pub read_bundle_element-returns-in-Wrote : goal.read_bundle_element-returns-in-Wrote
 read_bundle_element-returns-in-Wrote t c = element-fills (element-in c.in-Holds.ensures c.requires.input_bound) refl c.in-Wrote.ensures
