@@ -82,6 +82,23 @@ pub fills-tail : {p i : ℕ} {x : Reread} {T Y : List ℕ} (msg : List ℕ) (at 
     → Fills (frame_packet (read_frame at (drop at msg))) p i T x Y
 fills-tail msg at f = rw (tail msg at) at f
 
+-- the turn in which what is written so far is this
+abbrev pub rosc_turn : {msg T₀ T : List ℕ} {at c : ℕ} {x : Reread} {Y : List ℕ} → Listing remaining (forest_of (tcp_vec msg)) msg T₀ T at c
+    → at < length msg → Fills (frame_packet (read_frame at (take (length msg - at) (drop at msg)))) 0 c (lent T c) x Y → RoscTurn
+rosc_turn {msg} {T₀} {T} {at} {c} {x} {Y} w h f = record {
+  limit = 0;
+  msg = msg;
+  blank = T₀;
+  table = T;
+  at = at;
+  count = c;
+  so_far = w;
+  more = h;
+  wrote = x;
+  last = Y;
+  fills = fills-tail msg at f;
+}
+
 module _ (t : RoscTurn) where
   -- the frame is written
   pub rosc-written : {n next : ℕ} → t.wrote ≡ Wrote n next → RoscWritten t n next

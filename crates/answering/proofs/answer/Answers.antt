@@ -1,5 +1,6 @@
-use Rattle.answering.proofs.Order.{depth-over, length_over, decoded-is}
+-- The limits come first, then the first reading.
 use Rattle.framing.specs.Framing.{rule_of}
+use Rattle.answering.proofs.Order.{depth-over, length_over, decoded-is}
 use Rattle.answering.proofs.answer.Goals as goal
 
 pub returns-then-depth-gt-DEEPEST : goal.returns-then-depth-gt-DEEPEST
