@@ -2,7 +2,7 @@
 use mathlib.Core.Path.{◌≡◌, refl, ap, sym, ◌∙◌, subst}
 use mathlib.Core.Bool.{Bool, false, cond}
 use mathlib.Core.List.{List}
-use Prim.Native.Nat.{ℕ, ◌+◌, ◌-◌, ◌*◌, ◌<◌, ◌≤◌}
+use Prim.Native.Nat.{ℕ, ◌+◌, ◌-◌, ◌*◌, ◌≤◌}
 use native.Mathlib.Nat.{zero-add, add-zero}
 use native.Mathlib.Omega.{arith}
 use borrow.Author.Tests.{le-leb, leb-true}
@@ -164,23 +164,6 @@ FramesCounted = counting.FramesCounted cut_frame stops tcp_vec2
 
 abbrev pub Turn : Type 0
 Turn = counting.Turn cut_frame stops tcp_vec2 (λ _ dirt x. cut_extent dirt x)
-
--- the turn in which what is counted so far is this
-abbrev pub turn_of : {limit : ℕ} {msg : List ℕ} {at c d : ℕ} {found : CutExtent} → FramesCounted limit msg at c d false → at < length msg
-    → ((base : ℕ) (m : List ℕ) → StandsAt m base (take (length msg - at) (drop at msg))
-    → found ≡ cut_extent (node_dirt base m) (cut_frame limit base (take (length msg - at) (drop at msg)))) → Turn
-turn_of {limit} {msg} {at} {c} {d} {found} w h e = record {
-  limit = limit;
-  msg = msg;
-  at = at;
-  count = c;
-  dirt = d;
-  deep = false;
-  so_far = w;
-  more = h;
-  found = found;
-  finds = e;
-}
 
 no-trees-stopped : (limit : ℕ) (msg : List ℕ) (left : ℕ) (k : Refusal) (at : ℕ)
     → total.Stopped 0 left 0 k at ≡ total_of limit (dirty_in msg) (stopped nil left k at)
