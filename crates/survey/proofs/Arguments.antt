@@ -90,8 +90,8 @@ pub record Reading : Type 0 where
   pub sort-read : sort ≡ sort_of item.kind
 
 -- the facts that make it
-abbrev pub reading : {t : List ℕ} {at : ℕ} (source : List ℕ) (levels : ℕ) {end : ℕ} {item : Item} {sort : Sort} → InTable t at → end ≡ end_at t at
-    → item ≡ item_at t at → sort ≡ sort_of item.kind → Reading
+abbrev pub reading : {t : List ℕ} {at : ℕ} (source : List ℕ) (levels : ℕ) {end : ℕ} {item : Item} {sort : Sort} → InTable t at
+    → end ≡ end_at t at → item ≡ item_at t at → sort ≡ sort_of item.kind → Reading
 reading {t} {at} source levels {end} {item} {sort} p ee ie se =
     record {
       table = t;

@@ -21,8 +21,8 @@ loop-at-preserved c =
     let is = c.is_level.ensures in
     elim c.if-is_level.branch [
       | then-is_level+else-levels-limit w ↦
-          rw (w.ends-is, w.levels-is) (passed-level c.loop-at.invariant kind c.if-ends-levels.false (sym is ∙ w.if-is_level.true) w.field_at.ensures
-          w.if-levels-limit.false c.requires.1)
+          rw (w.ends-is, w.levels-is) (passed-level c.loop-at.invariant kind c.if-ends-levels.false (sym is ∙ w.if-is_level.true)
+          w.field_at.ensures w.if-levels-limit.false c.requires.1)
       | else-is_level w ↦
           rw (w.ends-is, w.levels-is) (passed-into c.loop-at.invariant kind c.if-ends-levels.false (sym is ∙ w.if-is_level.false))
     ]
