@@ -1,3 +1,4 @@
+-- A frame that is a cue is counted, and the others end the count.
 use Rattle.cues.proofs.Passes.{counting_more, counting-waits, counting-refused, counting-end}
 use Rattle.wire.proofs.Parts.{tail}
 use native.Mathlib.Omega.{arith}
@@ -32,3 +33,10 @@ returns-in-Refused c =
 pub returns : goal.returns
 returns c =
     counting-end _ c.loop-at.at c.loop-at.records c.loop-at.invariant (search rules)
+
+pub overflow_add-at : goal.overflow_add-at
+overflow_add-at c =
+    let l = c.args.bytes.now in
+    let w = counting_more l c.loop-at.at c.loop-at.records c.loop-at.invariant c.loop-at-test.true
+    (tail l c.loop-at.at) c.cue_of.ensures c.in-Given.is in
+    omega (arith, w.0, w.1.few, c.requires)

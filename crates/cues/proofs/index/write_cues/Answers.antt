@@ -1,3 +1,4 @@
+-- A frame that is a cue gets its entry after those before it.
 use Rattle.cues.proofs.Passes.{writing-given, writing_more, writing-waits, writing-refused, writing-end}
 use Rattle.wire.proofs.Parts.{tail, length-lent}
 use native.Mathlib.Omega.{arith}
@@ -41,3 +42,11 @@ returns c =
     let i = c.loop-written in
     writing-end c.args.bytes.now c.args.base c.args.out.now i.at i.written i.out i.invariant c.args.records c.requires
     (search rules)
+
+pub overflow_add-at : goal.overflow_add-at
+overflow_add-at c =
+    let l = c.args.bytes.now in
+    let i = c.loop-written in
+    let v = writing-given l c.args.base c.args.out.now i.at i.written i.out i.invariant (tail l i.at)
+    c.cue_of.ensures c.in-Given.is in
+    omega (arith, v.1, c.requires.short)
