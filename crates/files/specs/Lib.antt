@@ -4,3 +4,4 @@ pub mod Rest
 pub mod Fits
 pub mod Shown
 pub mod Numbers
+pub mod Names

@@ -23,22 +23,14 @@ pub fn put_name(path: &[u8], digits: &[u8; 16], out: &mut [u8]) -> usize
 pub const LONGEST_NAME: usize = 4_074;
 
 // A number for a process's name beside: its own, and after its digits two that tell apart the names that it tries.
-pub fn number_with(pid: i32, k: u64) -> u64
+pub fn number_with(pid: u32, k: u64) -> u64
     requires { k ≤ 100 }
 {
-    number_of(pid) % 0x1_0000_0000 * 0x100 + k
+    pid as u64 * 0x100 + k
 }
 
 // A number of the system's, which has none that is negative.
 pub fn number_of(x: i32) -> u64 {
-    if x < 0 {
-        return 0;
-    }
-    x as u64
-}
-
-// The same of a number of 64 bits.
-pub fn long_number_of(x: i64) -> u64 {
     if x < 0 {
         return 0;
     }

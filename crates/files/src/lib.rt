@@ -10,7 +10,9 @@ mod links; // links.rt: the file that a name leads to
 mod places; // places.rt: whether a new file may take a name
 mod output; // output.rt: a file written or removed
 mod beside; // beside.rt: the name under which a file is written first
+mod names; // names.rt: calls of the system by a file's name
 mod shown; // shown.rt: a name as it is shown
+mod reason; // reason.rt: what is said of an error
 
 pub use fit::Kind;
 pub use input::{Got, read, read_apart};
@@ -19,12 +21,25 @@ pub use output::{Begun, Stored, abandon, add, begin, finish, finish_both, remove
 pub use pieces::{Opened, close, is_shorter, length_of, open, open_apart, read_at, read_on};
 pub use places::{Place, place_of};
 pub use shown::show;
+use reason::put_reason;
+use std::io::Error;
 use words::line::front;
 
+// The number of standard error.
+const STDERR: i32 = 2;
+
+// The longest name that is shown whole.
+const LONGEST_SHOWN: usize = 4096;
+
 // Says why a call of the system failed, and of which file.
-pub fn fail(path: &[u8]) {
+pub fn fail(path: &[u8], error: &Error) {
     let mut name = io::buffer();
-    let n = show(front(path, libc::PATH_MAX), &mut name);
-    io::write_all(libc::STDERR_FILENO, b"osc: ");
-    os::fail(front(&name, n));
+    let n = show(front(path, LONGEST_SHOWN), &mut name);
+    let mut reason = [0u8; 256];
+    let m = put_reason(error, &mut reason);
+    io::write_all(STDERR, b"osc: ");
+    io::write_all(STDERR, front(&name, n));
+    io::write_all(STDERR, b": ");
+    io::write_all(STDERR, front(&reason, m));
+    io::write_all(STDERR, b"\n");
 }

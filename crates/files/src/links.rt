@@ -1,34 +1,14 @@
 // The file that a name leads to by symbolic links: an output takes the place of that file, and the links stay.
 ghost use Rattle.std.specs.Prelude.{◌≡◌, ◌≤◌, length};
 ghost use Rattle.io.specs.Counts.{IsPrefixLen};
-ghost use Rattle.libc.specs.Io.{Ended};
 ghost use Rattle.files.specs.Beside.{longest_name};
 
 use crate::beside::LONGEST_NAME;
+use crate::names::{is_link, link_at};
 use wire::copy;
 
 // How many links are followed at most, as by the system.
 const MOST_LINKS: usize = 40;
-
-// A name as the system reads it, up to its first zero.
-fn ended(path: &[u8]) -> [u8; libc::PATH_MAX]
-    requires { length path.now ≤ longest_name }
-    ensures { Ended result }
-{
-    let mut name = io::buffer();
-    copy(path, &mut name);
-    name[4095] = 0;
-    name
-}
-
-// Puts the text of a link at the start of `text`, and answers how long it is; 0 where the name is that of no link.
-fn link_at(path: &[u8], text: &mut [u8]) -> usize
-    requires { length path.now ≤ longest_name }
-    ensures { IsPrefixLen result text.new }
-{
-    let name = ended(path);
-    io::count(libc::readlink(&name, text), text)
-}
 
 // Where the name of a file begins, after that of its folder.
 fn folder_end(path: &[u8]) -> usize
@@ -70,9 +50,9 @@ fn lead(name: &mut [u8], n: usize, text: &[u8]) -> usize
     at + text.len()
 }
 
-// Puts the name of the file that a name leads to at the start of `name`, and answers its length; 0 where it is too long, or no end is
-// reached.
-pub fn follow(path: &[u8], name: &mut [u8]) -> usize
+// Puts the name of the file that a name leads to at the start of `name`, and answers its length; 0 where it is too long, no end is
+// reached, or a link's text is not told.
+pub fn follow(rt: &HostRuntime, path: &[u8], name: &mut [u8]) -> usize
     requires { (length path.now ≤ longest_name) × (longest_name ≤ length name.old) }
     ensures { IsPrefixLen result name.new × (result ≤ longest_name) }
 {
@@ -80,10 +60,13 @@ pub fn follow(path: &[u8], name: &mut [u8]) -> usize
     let mut n = path.len();
     let mut left = MOST_LINKS;
     while 0 < left {
-        let mut text = io::buffer();
-        let m = link_at(&name[..n], &mut text);
-        if m == 0 {
+        if !is_link(rt, &name[..n]) {
             return n;
+        }
+        let mut text = io::buffer();
+        let m = link_at(rt, &name[..n], &mut text);
+        if m == 0 {
+            return 0;
         }
         n = lead(name, n, &text[..m]);
         left -= 1;

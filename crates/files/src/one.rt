@@ -2,13 +2,17 @@
 // file by links and by folders are told; two names that it has in its own right (hard links) are not, and there the other name keeps
 // the bytes.
 ghost use Rattle.io.specs.Counts.{IsPrefixLen};
-ghost use Rattle.libc.specs.Io.{Ended};
+ghost use Rattle.files.specs.Names.{Ended};
 
 use crate::beside::{number_of, target_of};
+use crate::names::{link_at, open_update};
+use std::fs::File;
+use std::os::fd::AsRawFd;
 use wire::copy;
+use words::line::{front, until};
 
 // The name of the link for a descriptor, whose digits are given, with zeros after them.
-fn link_with(digits: &[u8; 20]) -> [u8; libc::PATH_MAX]
+fn link_with(digits: &[u8; 20]) -> [u8; 4096]
     ensures { Ended result }
 {
     let mut path = io::buffer();
@@ -18,29 +22,30 @@ fn link_with(digits: &[u8; 20]) -> [u8; libc::PATH_MAX]
     path
 }
 
-// The name of the link for a descriptor.
-fn link_of(fd: i32) -> [u8; libc::PATH_MAX]
+// The name of the link for an open file's descriptor.
+fn link_of(file: &File) -> [u8; 4096]
     ensures { Ended result }
 {
     let mut digits = [0u8; 20];
-    io::decimal(number_of(fd), &mut digits);
+    io::decimal(number_of(file.as_raw_fd()), &mut digits);
     link_with(&digits)
 }
 
 // Puts the name that the system has for an open file at the start of `name`, and answers how long it is; 0 where it is not told.
-fn own_name(fd: i32, name: &mut [u8]) -> usize
+fn own_name(rt: &HostRuntime, file: &File, name: &mut [u8]) -> usize
     ensures { IsPrefixLen result name.new }
 {
-    let link = link_of(fd);
-    io::count(libc::readlink(&link, name), name)
+    let link = link_of(file);
+    let n = until(&link, 0, 0);
+    link_at(rt, front(&link, n), name)
 }
 
 // Whether two open files are one, or cannot be told apart.
-fn is_one(a: i32, b: i32) -> bool {
+fn is_one(rt: &HostRuntime, a: &File, b: &File) -> bool {
     let mut name = io::buffer();
-    let n = own_name(a, &mut name);
+    let n = own_name(rt, a, &mut name);
     let mut other = io::buffer();
-    let m = own_name(b, &mut other);
+    let m = own_name(rt, b, &mut other);
     if n == 0 {
         return true;
     }
@@ -52,22 +57,19 @@ fn is_one(a: i32, b: i32) -> bool {
 
 // Whether an open file is the one that would be written under a name, or cannot be told from it. A name that cannot be opened to be
 // written is none that will be.
-pub fn is_output(fd: i32, output: &[u8]) -> bool {
-    let other = os::open_update(output);
-    if other < 0 {
-        return false;
+pub fn is_output(rt: &HostRuntime, file: &File, output: &[u8]) -> bool {
+    match open_update(rt, output) {
+        Ok(other) => is_one(rt, file, &other),
+        Err(_) => false,
     }
-    let is_same = is_one(fd, other);
-    libc::close(other);
-    is_same
 }
 
 // Whether two open files that are written beside others are beside the same one, or cannot be told apart: their names differ in their last
 // digits alone.
-pub fn is_beside(a: i32, b: i32) -> bool {
+pub fn is_beside(rt: &HostRuntime, a: &File, b: &File) -> bool {
     let mut name = io::buffer();
-    let n = own_name(a, &mut name);
+    let n = own_name(rt, a, &mut name);
     let mut other = io::buffer();
-    let m = own_name(b, &mut other);
+    let m = own_name(rt, b, &mut other);
     check::same(target_of(&name[..n]), target_of(&other[..m]))
 }

@@ -4,16 +4,18 @@ ghost use Rattle.io.specs.Counts.{IsPrefixLen};
 ghost use Rattle.files.specs.Numbers.{place_of, ends_early, has_lost};
 ghost use Rattle.files.specs.Rest.{ReadsOn};
 
-use crate::beside::long_number_of;
 use crate::fail;
 use crate::input::{Got, read_up, unread};
+use crate::names::open_read;
 use crate::one::is_output;
+use std::fs::File;
+use std::io::{Result, Seek, SeekFrom};
 
 // What became of a file that was to be opened.
-#[derive(Clone, Copy)]
+#[derive(Drop)]
 pub enum Opened {
-    // Its descriptor.
-    At(i32),
+    // The file, which is closed where it is let go.
+    At(File),
     // It is the one to be written, or cannot be told from it.
     Output,
     // A call of the system failed, and it was said why.
@@ -21,24 +23,24 @@ pub enum Opened {
 }
 
 // Opens a file to read it.
-pub fn open(path: &[u8]) -> Opened {
-    let fd = os::open_read(path);
-    if fd < 0 {
-        fail(path);
-        return Opened::Failed;
+pub fn open(rt: &HostRuntime, path: &[u8]) -> Opened {
+    match open_read(rt, path) {
+        Ok(file) => Opened::At(file),
+        Err(error) => {
+            fail(path, &error);
+            Opened::Failed
+        }
     }
-    Opened::At(fd)
 }
 
 // The same of a file that is not the one to be written, or can be told from it.
-pub fn open_apart(path: &[u8], output: &[u8]) -> Opened {
-    match open(path) {
-        Opened::At(fd) => {
-            if is_output(fd, output) {
-                libc::close(fd);
+pub fn open_apart(rt: &HostRuntime, path: &[u8], output: &[u8]) -> Opened {
+    match open(rt, path) {
+        Opened::At(file) => {
+            if is_output(rt, &file, output) {
                 return Opened::Output;
             }
-            Opened::At(fd)
+            Opened::At(file)
         }
         Opened::Output => Opened::Output,
         Opened::Failed => Opened::Failed,
@@ -49,14 +51,11 @@ pub fn open_apart(path: &[u8], output: &[u8]) -> Opened {
 // bytes that stand there then, so that the file has ended where it is less than the buffer's length.
 //
 // Ruled out: bytes that were kept and are read over; a count that leaves them out, or goes past the buffer's end.
-pub fn read_on(fd: i32, path: &[u8], buf: &mut [u8], kept: usize) -> Got
+pub fn read_on(file: &File, path: &[u8], buf: &mut [u8], kept: usize) -> Got
     requires { kept ≤ length buf.old }
     ensures { ReadsOn kept buf.old buf.new result.count }
 {
-    let got = read_up(fd, &mut buf[kept..]);
-    if !got.is_read {
-        fail(path);
-    }
+    let got = read_up(file, path, &mut buf[kept..]);
     Got {
         is_read: got.is_read,
         count: kept + got.count,
@@ -67,14 +66,21 @@ pub fn read_on(fd: i32, path: &[u8], buf: &mut [u8], kept: usize) -> Got
 // Reads from an offset of the file until the buffer is full or the file ends, or says why it cannot.
 //
 // Ruled out: a count past the buffer's end; the offset counted with the bytes that are read.
-pub fn read_at(fd: i32, path: &[u8], offset: u64, buf: &mut [u8]) -> Got
+pub fn read_at(file: &File, path: &[u8], offset: u64, buf: &mut [u8]) -> Got
     ensures { IsPrefixLen result.count buf.new }
 {
-    if libc::lseek(fd, place_of(offset), libc::SEEK_SET) < 0 {
-        fail(path);
-        return unread(false);
+    match seek(file, SeekFrom::Start(place_of(offset).cast_unsigned())) {
+        Ok(_) => read_on(file, path, buf, 0),
+        Err(error) => {
+            fail(path, &error);
+            unread(false)
+        }
     }
-    read_on(fd, path, buf, 0)
+}
+
+// Moves to where the next read begins, and answers the offset.
+fn seek(mut file: &File, to: SeekFrom) -> Result<u64> {
+    file.seek(to)
 }
 
 // An offset as the system has it, which has none that is negative or over 2^63 - 1.
@@ -90,10 +96,13 @@ fn place_of(offset: u64) -> i64
 }
 
 // How long an open file is; 0 where the system does not tell. The next read begins at its start.
-pub fn length_of(fd: i32) -> u64 {
-    let end = libc::lseek(fd, 0, libc::SEEK_END);
-    libc::lseek(fd, 0, libc::SEEK_SET);
-    long_number_of(end)
+pub fn length_of(file: &File) -> u64 {
+    let end = seek(file, SeekFrom::End(0));
+    let _ = seek(file, SeekFrom::Start(0));
+    match end {
+        Ok(length) => length,
+        Err(_) => 0,
+    }
 }
 
 // Whether a file that had `size` bytes ended after `total` of them, which are fewer.
@@ -126,11 +135,9 @@ fn has_lost(size: u64, now: u64, total: u64, is_end: bool) -> bool
 }
 
 // The same of an open file.
-pub fn is_shorter(fd: i32, size: u64, total: u64, is_end: bool) -> bool {
-    has_lost(size, length_of(fd), total, is_end)
+pub fn is_shorter(file: &File, size: u64, total: u64, is_end: bool) -> bool {
+    has_lost(size, length_of(file), total, is_end)
 }
 
-// Closes it.
-pub fn close(fd: i32) {
-    libc::close(fd);
-}
+// Closes it: a file is closed where it is let go.
+pub fn close(_file: File) {}

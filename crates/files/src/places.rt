@@ -1,7 +1,10 @@
 // Whether an output may take its name.
 use crate::fail;
 use crate::fit::{Fit, Kind, allowed_by, fit_of};
+use crate::names::open_update;
 use crate::pieces::{length_of, read_on};
+use std::fs::File;
+use std::io::ErrorKind;
 use troubles::Trouble;
 use words::line::front;
 
@@ -21,13 +24,13 @@ pub enum Place {
 }
 
 // The place of an open file. A device cannot be synced, so that no device's name is taken.
-fn place_at(fd: i32, path: &[u8], kind: Kind, is_replacing: bool) -> Place {
-    if libc::fsync(fd) != 0 {
+fn place_at(file: &File, path: &[u8], kind: Kind, is_replacing: bool) -> Place {
+    if file.sync_all().is_err() {
         return Place::NoFile;
     }
-    let size = length_of(fd);
+    let size = length_of(file);
     let mut head = [0u8; 8];
-    let got = read_on(fd, path, &mut head, 0);
+    let got = read_on(file, path, &mut head, 0);
     if !got.is_read {
         return Place::Failed;
     }
@@ -39,16 +42,15 @@ fn place_at(fd: i32, path: &[u8], kind: Kind, is_replacing: bool) -> Place {
 
 // Whether a new file may take the name: nothing has it, or a file that can be written and may be replaced. Where the system does not tell,
 // it is said why.
-pub fn place_of(path: &[u8], kind: Kind, is_replacing: bool) -> Place {
-    let fd = os::open_update(path);
-    if fd < 0 {
-        if os::errno() == libc::ENOENT {
-            return Place::Free;
+pub fn place_of(rt: &HostRuntime, path: &[u8], kind: Kind, is_replacing: bool) -> Place {
+    match open_update(rt, path) {
+        Ok(file) => place_at(&file, path, kind, is_replacing),
+        Err(error) => {
+            if error.kind() == ErrorKind::NotFound {
+                return Place::Free;
+            }
+            fail(path, &error);
+            Place::Failed
         }
-        fail(path);
-        return Place::Failed;
     }
-    let place = place_at(fd, path, kind, is_replacing);
-    libc::close(fd);
-    place
 }

@@ -4,3 +4,4 @@
 pub mod named; // named.rt: the files that words name
 pub mod say; // say.rt: lines written
 pub mod space; // space.rt: the buffers that are lent
+pub mod typed; // typed.rt: the words of the command

@@ -4,16 +4,19 @@ ghost use Rattle.io.specs.Counts.{IsPrefixLen};
 ghost use Rattle.tool_files.specs.CodeRecords.{WholeTable, InRoom};
 
 use crate::say;
+use crate::typed::{reason_of, word};
 use files::{Begun, Got, Kind, Opened, Place, Stored};
 use node::record::RECORD_SIZE;
 use outcomes::Told;
+use std::env::Env;
+use std::fs::File;
 use troubles::Trouble;
 use words::line::front;
 
-// A file that was begun: the descriptor of the file beside it, and how long its name is.
-#[derive(Clone, Copy)]
+// A file that was begun: the file beside it, and how long its name is.
+#[derive(Drop)]
 pub struct Draft {
-    pub fd: i32,
+    pub file: File,
     pub length: usize,
 }
 
@@ -21,29 +24,33 @@ pub struct Draft {
 // says why.
 //
 // Ruled out: a length past the end of `path`; the whole length of a word for which `path` has no room.
-pub fn name_word(i: usize, path: &mut [u8]) -> usize
+pub fn name_word(rt: &HostRuntime, i: usize, path: &mut [u8]) -> usize
     ensures { IsPrefixLen result path.new }
 {
-    let n = os::arg(i, path);
-    if os::errno() != 0 {
-        files::fail(b"the name of a file");
-    } else if n == 0 {
-        say::trouble(Trouble::NoName, i, 0);
+    match rt.arg(i, path) {
+        Ok(n) => {
+            if n == 0 {
+                say::trouble(rt, Trouble::NoName, i, 0);
+            }
+            n
+        }
+        Err(error) => {
+            files::fail(b"the name of a file", &reason_of(error));
+            0
+        }
     }
-    n
 }
 
-// Opens the file that word `i` names, and answers its descriptor; -1 where it cannot, or where word `output` names the same file, and then
-// says why.
-pub fn open_word(i: usize, output: usize, path: &[u8]) -> i32 {
+// Opens the file that word `i` names; none where it cannot, or where word `output` names the same file, and then says why.
+pub fn open_word(rt: &HostRuntime, i: usize, output: usize, path: &[u8]) -> Option<File> {
     let mut other = io::buffer();
-    let m = os::arg(output, &mut other);
-    match files::open_apart(path, &other[..m]) {
-        Opened::At(fd) => return fd,
-        Opened::Output => say::trouble(Trouble::OneFile, i, 0),
+    let m = word(rt, output, &mut other);
+    match files::open_apart(rt, path, &other[..m]) {
+        Opened::At(file) => return Some(file),
+        Opened::Output => say::trouble(rt, Trouble::OneFile, i, 0),
         Opened::Failed => {}
     }
-    -1
+    None
 }
 
 // Nothing was read.
@@ -60,19 +67,19 @@ fn unread() -> Got
 // Reads the file that word `i` names, as much of it as the buffer holds; not where word `output` names the same file.
 //
 // Ruled out: a count past the buffer's end; the length of the whole file where the buffer holds less of it.
-pub fn read_word(i: usize, output: usize, buf: &mut [u8]) -> Got
+pub fn read_word(rt: &HostRuntime, i: usize, output: usize, buf: &mut [u8]) -> Got
     ensures { IsPrefixLen result.count buf.new }
 {
     let mut path = io::buffer();
-    let n = name_word(i, &mut path);
+    let n = name_word(rt, i, &mut path);
     if n == 0 {
         return unread();
     }
     let mut other = io::buffer();
-    let m = os::arg(output, &mut other);
-    let got = files::read_apart(&path[..n], &other[..m], buf);
+    let m = word(rt, output, &mut other);
+    let got = files::read_apart(rt, &path[..n], &other[..m], buf);
     if got.is_output {
-        say::trouble(Trouble::OneFile, i, 0);
+        say::trouble(rt, Trouble::OneFile, i, 0);
     }
     got
 }
@@ -80,94 +87,106 @@ pub fn read_word(i: usize, output: usize, buf: &mut [u8]) -> Got
 // Reads all of the file that word `i` names: it has to leave the buffer's last byte free.
 //
 // Ruled out: a count past the buffer's end; bytes counted of a file that is too large.
-pub fn read_whole(i: usize, output: usize, buf: &mut [u8]) -> Got
+pub fn read_whole(rt: &HostRuntime, i: usize, output: usize, buf: &mut [u8]) -> Got
     ensures { IsPrefixLen result.count buf.new × ((0 < length buf.new) → result.count < length buf.new) }
 {
-    let got = read_word(i, output, buf);
+    let got = read_word(rt, i, output, buf);
     if got.count < buf.len() {
         return got;
     }
-    say::trouble(Trouble::TooLarge, i, got.count);
+    say::trouble(rt, Trouble::TooLarge, i, got.count);
     unread()
 }
 
 // How the reading of a table into a room went.
-#[derive(Clone, Copy)]
+#[derive(Drop)]
 pub enum Records {
     // It is read whole: so many bytes.
     Whole(usize),
     // The room is full, and the file, which is open yet, may have more.
-    More(i32),
+    More(File),
     // It was said what went wrong.
     Failed,
 }
 
 // A file of so many bytes as a table: whole records.
-fn records_of(count: usize, i: usize) -> Records
+fn records_of(rt: &HostRuntime, count: usize, i: usize) -> Records
     ensures { WholeTable count result }
 {
     if count % RECORD_SIZE == 0 {
         return Records::Whole(count);
     }
-    say::trouble(Trouble::NoTable, i, count);
+    say::trouble(rt, Trouble::NoTable, i, count);
     Records::Failed
 }
 
-// Reads on an open table, of which `kept` bytes are in the room.
-fn read_records(fd: i32, i: usize, name: &[u8], room: &mut [u8], kept: usize) -> Records
+// Reads on an open table, of which `kept` bytes are in the room, and closes it where no more is to be read.
+fn read_records(
+    rt: &HostRuntime,
+    file: File,
+    i: usize,
+    name: &[u8],
+    room: &mut [u8],
+    kept: usize,
+) -> Records
     requires { kept ≤ length room.old }
     ensures { InRoom room.new result }
 {
-    let got = files::read_on(fd, name, room, kept);
+    let got = files::read_on(&file, name, room, kept);
     let count = got.count;
     if count == room.len() {
-        return Records::More(fd);
+        return Records::More(file);
     }
-    files::close(fd);
+    files::close(file);
     if got.is_read {
-        return records_of(count, i);
+        return records_of(rt, count, i);
     }
     Records::Failed
 }
 
-// Opens the table that word `i` names, and answers its descriptor; -1 where it cannot, or where word `output` names the same file, and
-// then says why.
-pub fn open_table(i: usize, output: usize) -> i32 {
+// Opens the table that word `i` names; none where it cannot, or where word `output` names the same file, and then says why.
+pub fn open_table(rt: &HostRuntime, i: usize, output: usize) -> Option<File> {
     let mut name = io::buffer();
-    let n = name_word(i, &mut name);
+    let n = name_word(rt, i, &mut name);
     if n == 0 {
-        return -1;
+        return None;
     }
-    open_word(i, output, &name[..n])
+    open_word(rt, i, output, &name[..n])
 }
 
 // Reads an open table, which word `i` names, into a room that may be too small for it.
 //
 // Ruled out: a count past the room's end; bytes counted of a file that is no table.
-pub fn read_table(fd: i32, i: usize, room: &mut [u8]) -> Records
+pub fn read_table(rt: &HostRuntime, file: File, i: usize, room: &mut [u8]) -> Records
     ensures { InRoom room.new result }
 {
     let mut name = io::buffer();
-    let n = name_word(i, &mut name);
-    read_records(fd, i, &name[..n], room, 0)
+    let n = name_word(rt, i, &mut name);
+    read_records(rt, file, i, &name[..n], room, 0)
 }
 
 // Reads the rest of that table, after its first bytes, into a room that holds any table.
 //
 // Ruled out: a count past the room's end; bytes counted of a file that is too large.
-pub fn read_rest(fd: i32, i: usize, first: &[u8], room: &mut [u8]) -> Records
+pub fn read_rest(
+    rt: &HostRuntime,
+    file: File,
+    i: usize,
+    first: &[u8],
+    room: &mut [u8],
+) -> Records
     requires { length first.now ≤ length room.old }
     ensures { InRoom room.new result }
 {
     wire::copy(first, room);
     let mut name = io::buffer();
-    let n = name_word(i, &mut name);
+    let n = name_word(rt, i, &mut name);
     let kept = first.len();
-    match read_records(fd, i, &name[..n], room, kept) {
+    match read_records(rt, file, i, &name[..n], room, kept) {
         Records::Whole(count) => Records::Whole(count),
-        Records::More(fd) => {
-            files::close(fd);
-            say::trouble(Trouble::TooLarge, i, room.len());
+        Records::More(file) => {
+            files::close(file);
+            say::trouble(rt, Trouble::TooLarge, i, room.len());
             Records::Failed
         }
         Records::Failed => Records::Failed,
@@ -175,99 +194,123 @@ pub fn read_rest(fd: i32, i: usize, first: &[u8], room: &mut [u8]) -> Records
 }
 
 // Whether an open file, which word `i` names, is not the one that word `output` names; where it is, or cannot be told from it, says so.
-pub fn is_apart(fd: i32, i: usize, output: usize) -> bool {
+pub fn is_apart(rt: &HostRuntime, file: &File, i: usize, output: usize) -> bool {
     let mut other = io::buffer();
-    let m = os::arg(output, &mut other);
-    if files::is_output(fd, &other[..m]) {
-        say::trouble(Trouble::OneFile, i, 0);
+    let m = word(rt, output, &mut other);
+    if files::is_output(rt, file, &other[..m]) {
+        say::trouble(rt, Trouble::OneFile, i, 0);
         return false;
     }
     true
 }
 
 // Whether a file was written or removed. What is wrong with its name, or with the file that has it, is said here.
-fn is_done(stored: Stored, i: usize) -> bool {
+fn is_done(rt: &HostRuntime, stored: Stored, i: usize) -> bool {
     match stored {
         Stored::Whole => return true,
-        Stored::LongName => say::trouble(Trouble::LongName, i, 0),
-        Stored::NoFile => say::trouble(Trouble::NoFile, i, 0),
-        Stored::Unfit(trouble, size) => say::trouble(trouble, i, size as usize),
+        Stored::LongName => say::trouble(rt, Trouble::LongName, i, 0),
+        Stored::NoFile => say::trouble(rt, Trouble::NoFile, i, 0),
+        Stored::Unfit(trouble, size) => say::trouble(rt, trouble, i, size as usize),
         Stored::Failed => {}
     }
     false
 }
 
-// Begins the file that word `i` names, and answers its descriptor and how long the name of the file beside is, which is at the start of
-// `part`; -1 and 0 where it cannot, and then says why.
-pub fn begin_word(i: usize, path: &[u8], kind: Kind, is_replacing: bool, part: &mut [u8]) -> Draft
+// Begins the file that word `i` names, and answers the file beside and how long its name is, which is at the start of `part`; none where it
+// cannot, and then says why.
+pub fn begin_word(
+    rt: &HostRuntime,
+    i: usize,
+    path: &[u8],
+    kind: Kind,
+    is_replacing: bool,
+    part: &mut [u8],
+) -> Option<Draft>
     requires { 4095 ≤ length part.old }
 {
-    match files::begin(path, kind, is_replacing, part) {
-        Begun::At(fd, length) => return Draft { fd, length },
-        Begun::LongName => say::trouble(Trouble::LongName, i, 0),
-        Begun::NoFile => say::trouble(Trouble::NoFile, i, 0),
-        Begun::Unfit(trouble, size) => say::trouble(trouble, i, size as usize),
+    match files::begin(rt, path, kind, is_replacing, part) {
+        Begun::At(file, length) => return Some(Draft { file, length }),
+        Begun::LongName => say::trouble(rt, Trouble::LongName, i, 0),
+        Begun::NoFile => say::trouble(rt, Trouble::NoFile, i, 0),
+        Begun::Unfit(trouble, size) => say::trouble(rt, trouble, i, size as usize),
         Begun::Failed => {}
     }
-    Draft { fd: -1, length: 0 }
+    None
 }
 
 // Whether the file that word `i` names may be written or removed; where it may not, says why. Nothing is changed.
-pub fn may_take(i: usize, kind: Kind, is_replacing: bool) -> bool {
+pub fn may_take(rt: &HostRuntime, i: usize, kind: Kind, is_replacing: bool) -> bool {
     let mut path = io::buffer();
-    let n = name_word(i, &mut path);
+    let n = name_word(rt, i, &mut path);
     if n == 0 {
         return false;
     }
-    match files::place_of(&path[..n], kind, is_replacing) {
+    match files::place_of(rt, &path[..n], kind, is_replacing) {
         Place::Free => return true,
         Place::Held => return true,
-        Place::NoFile => say::trouble(Trouble::NoFile, i, 0),
-        Place::Unfit(trouble, size) => say::trouble(trouble, i, size as usize),
+        Place::NoFile => say::trouble(rt, Trouble::NoFile, i, 0),
+        Place::Unfit(trouble, size) => say::trouble(rt, trouble, i, size as usize),
         Place::Failed => {}
     }
     false
 }
 
 // Writes the file that word `i` names, or removes it where nothing is kept; whether that was done.
-fn store(i: usize, kind: Kind, is_replacing: bool, is_kept: bool, bytes: &[u8]) -> bool {
+fn store(
+    rt: &HostRuntime,
+    i: usize,
+    kind: Kind,
+    is_replacing: bool,
+    is_kept: bool,
+    bytes: &[u8],
+) -> bool {
     let mut path = io::buffer();
-    let n = name_word(i, &mut path);
+    let n = name_word(rt, i, &mut path);
     if n == 0 {
         return false;
     }
     if is_kept {
-        return is_done(files::write(&path[..n], kind, is_replacing, bytes), i);
+        return is_done(rt, files::write(rt, &path[..n], kind, is_replacing, bytes), i);
     }
-    is_done(files::remove(&path[..n], kind, is_replacing), i)
+    is_done(rt, files::remove(rt, &path[..n], kind, is_replacing), i)
 }
 
 // Leaves what is told to be kept in the file that word `i` names, and then says the line.
-pub fn keep(i: usize, kind: Kind, is_replacing: bool, told: Told, bytes: &[u8], line: &[u8]) {
+pub fn keep(
+    rt: &HostRuntime,
+    i: usize,
+    kind: Kind,
+    is_replacing: bool,
+    told: Told,
+    bytes: &[u8],
+    line: &[u8],
+) {
     if store(
+        rt,
         i,
         kind,
         is_replacing,
         told.is_kept,
         front(bytes, told.bytes),
     ) {
-        say::answer(front(line, told.line));
+        say::answer(rt, front(line, told.line));
     }
 }
 
 // Removes the files that two words name, a table and a packet; neither where one may not be removed.
-fn remove_both(table: usize, packet: usize, is_replacing: bool) -> bool {
-    if !may_take(packet, Kind::Packet, is_replacing) {
+fn remove_both(rt: &HostRuntime, table: usize, packet: usize, is_replacing: bool) -> bool {
+    if !may_take(rt, packet, Kind::Packet, is_replacing) {
         return false;
     }
-    if store(table, Kind::Table, is_replacing, false, b"") {
-        return store(packet, Kind::Packet, is_replacing, false, b"");
+    if store(rt, table, Kind::Table, is_replacing, false, b"") {
+        return store(rt, packet, Kind::Packet, is_replacing, false, b"");
     }
     false
 }
 
 // Writes two files that were begun, and names them; whether they have their names.
 fn write_both(
+    rt: &HostRuntime,
     first: Draft,
     path: &[u8],
     part: &[u8],
@@ -277,18 +320,21 @@ fn write_both(
     other_part: &[u8],
     other_bytes: &[u8],
 ) -> bool {
-    if files::add(first.fd, path, bytes) {
-        if files::add(second.fd, other, other_bytes) {
-            return files::finish_both(first.fd, path, part, second.fd, other, other_part);
+    if files::add(&first.file, path, bytes) {
+        if files::add(&second.file, other, other_bytes) {
+            return files::finish_both(
+                rt, first.file, path, part, second.file, other, other_part,
+            );
         }
     }
-    files::abandon(first.fd, part);
-    files::abandon(second.fd, other_part);
+    files::abandon(rt, first.file, part);
+    files::abandon(rt, second.file, other_part);
     false
 }
 
 // Writes the two files, of which the first was begun.
 fn store_second(
+    rt: &HostRuntime,
     first: Draft,
     path: &[u8],
     part: &[u8],
@@ -298,27 +344,28 @@ fn store_second(
     other_bytes: &[u8],
 ) -> bool {
     let mut other = io::buffer();
-    let n = name_word(packet, &mut other);
+    let n = name_word(rt, packet, &mut other);
     let mut other_part = io::buffer();
-    let second = begin_word(
+    let Some(second) = begin_word(
+        rt,
         packet,
         &other[..n],
         Kind::Packet,
         is_replacing,
         &mut other_part,
-    );
-    if second.fd < 0 {
-        files::abandon(first.fd, part);
+    ) else {
+        files::abandon(rt, first.file, part);
         return false;
-    }
+    };
     let named = front(&other_part, second.length);
-    if files::is_beside(first.fd, second.fd) {
-        say::trouble(Trouble::TwoNames, packet, 0);
-        files::abandon(first.fd, part);
-        files::abandon(second.fd, named);
+    if files::is_beside(rt, &first.file, &second.file) {
+        say::trouble(rt, Trouble::TwoNames, packet, 0);
+        files::abandon(rt, first.file, part);
+        files::abandon(rt, second.file, named);
         return false;
     }
     write_both(
+        rt,
         first,
         path,
         part,
@@ -332,6 +379,7 @@ fn store_second(
 
 // Writes the files that two words name, a table and a packet, both or neither; whether that was done.
 fn store_both(
+    rt: &HostRuntime,
     table: usize,
     bytes: &[u8],
     packet: usize,
@@ -339,19 +387,20 @@ fn store_both(
     is_replacing: bool,
 ) -> bool {
     let mut path = io::buffer();
-    let n = name_word(table, &mut path);
+    let n = name_word(rt, table, &mut path);
     if n == 0 {
         return false;
     }
     let mut part = io::buffer();
-    let first = begin_word(table, &path[..n], Kind::Table, is_replacing, &mut part);
-    if first.fd < 0 {
+    let Some(first) = begin_word(rt, table, &path[..n], Kind::Table, is_replacing, &mut part) else {
         return false;
-    }
+    };
+    let length = first.length;
     store_second(
+        rt,
         first,
         &path[..n],
-        front(&part, first.length),
+        front(&part, length),
         bytes,
         packet,
         is_replacing,
@@ -361,6 +410,7 @@ fn store_both(
 
 // Leaves what is told to be kept, a table and its packet, in the files that two words name, both or neither, and then says the line.
 pub fn keep_both(
+    rt: &HostRuntime,
     table: usize,
     packet: usize,
     is_replacing: bool,
@@ -371,6 +421,7 @@ pub fn keep_both(
 ) {
     let is_done = if told.is_kept {
         store_both(
+            rt,
             table,
             front(bytes, told.bytes),
             packet,
@@ -378,9 +429,9 @@ pub fn keep_both(
             is_replacing,
         )
     } else {
-        remove_both(table, packet, is_replacing)
+        remove_both(rt, table, packet, is_replacing)
     };
     if is_done {
-        say::answer(front(line, told.line));
+        say::answer(rt, front(line, told.line));
     }
 }

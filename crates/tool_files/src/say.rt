@@ -1,41 +1,48 @@
 // Lines written: an answer on standard output, trouble on standard error.
-use libc::{STDERR_FILENO, STDOUT_FILENO};
+use crate::typed::word;
+use std::io::IsTerminal;
 use telling::{tell_progress, tell_trouble, tell_version};
 use troubles::Trouble;
 use words::line::front;
 
+// The number of standard error.
+const STDERR: i32 = 2;
+
+// The longest word that is shown whole.
+const LONGEST_SHOWN: usize = 4096;
+
 // An answer. What it speaks of is done by then, so that only the line is lost where standard output is full or closed.
-pub fn answer(line: &[u8]) {
-    if !io::write_all(STDOUT_FILENO, line) {
-        files::fail(b"standard output");
+pub fn answer(rt: &HostRuntime, line: &[u8]) {
+    if let Err(error) = rt.write_all(line) {
+        files::fail(b"standard output", &error);
     }
 }
 
 // Trouble with word `i`, or with the file that it names and a number of its bytes.
-pub fn trouble(trouble: Trouble, i: usize, number: usize) {
-    let mut word = io::buffer();
-    let n = os::arg(i, &mut word);
+pub fn trouble(rt: &HostRuntime, trouble: Trouble, i: usize, number: usize) {
+    let mut typed = io::buffer();
+    let n = word(rt, i, &mut typed);
     let mut shown = io::buffer();
-    let name = front(&word, n);
-    let s = files::show(front(name, libc::PATH_MAX), &mut shown);
+    let name = front(&typed, n);
+    let s = files::show(front(name, LONGEST_SHOWN), &mut shown);
     let mut line = io::large_buffer();
     let m = tell_trouble(trouble, number as u64, front(&shown, s), &mut line);
-    io::write_all(STDERR_FILENO, &line[..m]);
+    io::write_all(STDERR, &line[..m]);
 }
 
 // Writes to standard error where that is a terminal.
-fn show(bytes: &[u8]) {
-    if libc::isatty(STDERR_FILENO) == 1 {
-        io::write_all(STDERR_FILENO, bytes);
+fn show(rt: &HostRuntime, bytes: &[u8]) {
+    if rt.stderr().is_terminal() {
+        io::write_all(STDERR, bytes);
     }
 }
 
 // How much of a recording is read. The next line is written over it: progress over what was said before, or trouble.
-pub fn progress(mebibytes: u64) {
+pub fn progress(rt: &HostRuntime, mebibytes: u64) {
     let mut line = io::buffer();
     let n = tell_progress(mebibytes, &mut line);
-    show(until_end(&line[..n]));
-    show(b"\r");
+    show(rt, until_end(&line[..n]));
+    show(rt, b"\r");
 }
 
 // A line without its end.
@@ -48,15 +55,15 @@ fn until_end(line: &[u8]) -> &[u8] {
 }
 
 // Takes away what was said of how much is read.
-pub fn no_progress() {
-    show(b"                                        \r");
+pub fn no_progress(rt: &HostRuntime) {
+    show(rt, b"                                        \r");
 }
 
 // The version. It is handed over by `osc_tool`, so that a version that is raised leaves this crate, and those over it, as they are.
-pub fn version(major: u16, minor: u16, patch: u16) {
+pub fn version(rt: &HostRuntime, major: u16, minor: u16, patch: u16) {
     let mut line = io::buffer();
     let n = tell_version(major as u64, minor as u64, patch as u64, &mut line);
-    answer(&line[..n]);
+    answer(rt, &line[..n]);
 }
 
 // What the commands are.
@@ -97,6 +104,6 @@ and OUT is as it was. After 5 the files are as the answer says, which is on stan
 ";
 
 // Says what the commands are.
-pub fn help() {
-    answer(&HELP);
+pub fn help(rt: &HostRuntime) {
+    answer(rt, &HELP);
 }
