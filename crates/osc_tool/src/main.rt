@@ -8,35 +8,41 @@
 use commands::{Command, Worded, command_of, last_of, words_of};
 use tool_cues::{checking, cue, index};
 use tool_files::say;
+use tool_files::typed::{word, word_count};
 use tool_packets::{decode, encode, look, time};
 use troubles::Trouble;
 
 // Runs a command, of whose words there are `count`, --replace not counted.
-fn run(command: Command, count: usize, is_replacing: bool) {
+fn run(rt: &HostRuntime, command: Command, count: usize, is_replacing: bool) {
     match command {
-        Command::Decode => decode::run(count, is_replacing),
-        Command::Encode => encode::run(count, is_replacing),
-        Command::Look => look::run(count),
-        Command::Index => index::run(count, is_replacing),
-        Command::Check => checking::run(count),
-        Command::Cue => cue::run(count, is_replacing),
-        Command::Time => time::run(count),
-        Command::Shift => tool_shifts::run(count, is_replacing),
-        Command::Help => say::help(),
-        Command::Version => say::version(version::MAJOR, version::MINOR, version::PATCH),
-        Command::Unclear => say::trouble(Trouble::NoCommand, 1, 0),
+        Command::Decode => decode::run(rt, count, is_replacing),
+        Command::Encode => encode::run(rt, count, is_replacing),
+        Command::Look => look::run(rt, count),
+        Command::Index => index::run(rt, count, is_replacing),
+        Command::Check => checking::run(rt, count),
+        Command::Cue => cue::run(rt, count, is_replacing),
+        Command::Time => time::run(rt, count),
+        Command::Shift => tool_shifts::run(rt, count, is_replacing),
+        Command::Help => say::help(rt),
+        Command::Version => say::version(
+            rt,
+            version::MAJOR,
+            version::MINOR,
+            version::PATCH,
+        ),
+        Command::Unclear => say::trouble(rt, Trouble::NoCommand, 1, 0),
     }
 }
 
-fn main() {
-    let mut word = io::buffer();
-    let n = os::arg(1, &mut word);
-    let command = command_of(&word[..n]);
-    let count = os::arg_count();
+fn main(rt: HostRuntime) {
+    let mut name = io::buffer();
+    let n = word(&rt, 1, &mut name);
+    let command = command_of(&name[..n]);
+    let count = word_count(&rt);
     let mut last = io::buffer();
-    let m = os::arg(last_of(count), &mut last);
+    let m = word(&rt, last_of(count), &mut last);
     match words_of(command, count, &last[..m]) {
-        Worded::As(count, is_replacing) => run(command, count, is_replacing),
-        Worded::Wrong(trouble, i) => say::trouble(trouble, i, 0),
+        Worded::As(count, is_replacing) => run(&rt, command, count, is_replacing),
+        Worded::Wrong(trouble, i) => say::trouble(&rt, trouble, i, 0),
     }
 }

@@ -138,9 +138,9 @@ fn report(file: &[u8]) {
     fault(file.len(), end, tally[ANSWERS]);
 }
 
-fn main() {
+fn main(rt: HostRuntime) {
     let mut space = file_space();
-    let got = files::read(b"answers.bin", &mut space);
+    let got = files::read(&rt, b"answers.bin", &mut space);
     if !got.is_read {
         io::write_all(1, b"answers.bin cannot be read\n");
         return;

@@ -7,6 +7,8 @@ use cues::{ENTRY_SIZE, cue_at};
 use files::Kind;
 use outcomes::{Jump, cue_told, frame_told};
 use results::CueAt;
+use std::fs::File;
+use tool_files::typed::word;
 use tool_files::{named, say};
 use tool_recordings::{Judged, judge};
 use troubles::Trouble;
@@ -14,11 +16,11 @@ use words::line::front;
 
 // Decodes a packet, whose frame begins at an offset of the recording, to the file that word 5 names, and writes it to the one that word 6
 // names.
-fn decode_packet(packet: &[u8], at: u64, is_replacing: bool) {
+fn decode_packet(rt: &HostRuntime, packet: &[u8], at: u64, is_replacing: bool) {
     let mut table = io::large_buffer();
     let mut line = io::buffer();
     let told = frame_told(packet, at, &mut table, &mut line);
-    named::keep_both(5, 6, is_replacing, told, &table, packet, &line);
+    named::keep_both(rt, 5, 6, is_replacing, told, &table, packet, &line);
 }
 
 // The packet of a frame, which has so many bytes after its prefix.
@@ -34,18 +36,30 @@ fn packet_in(frame: &[u8], size: usize) -> &[u8]
 }
 
 // Decodes the frame at an offset of an open recording, of so many bytes without its prefix.
-fn decode_at(fd: i32, name: &[u8], offset: u64, size: u32, is_replacing: bool) {
+fn decode_at(
+    rt: &HostRuntime,
+    file: &File,
+    name: &[u8],
+    offset: u64,
+    size: u32,
+    is_replacing: bool,
+) {
     let mut bytes = io::large_buffer();
-    let got = files::read_at(fd, name, offset, &mut bytes);
+    let got = files::read_at(file, name, offset, &mut bytes);
     if !got.is_read {
         return;
     }
     let n = got.count;
     if n < size as usize + 4 {
-        say::trouble(Trouble::Shorter, 2, 0);
+        say::trouble(rt, Trouble::Shorter, 2, 0);
         return;
     }
-    decode_packet(packet_in(&bytes[..n], size as usize), offset, is_replacing);
+    decode_packet(
+        rt,
+        packet_in(&bytes[..n], size as usize),
+        offset,
+        is_replacing,
+    );
 }
 
 // Where record `k` of an index begins.
@@ -58,7 +72,15 @@ fn entry_start(k: u32) -> u64
 }
 
 // Decodes the frame of record `k` of an index that was checked.
-fn decode_cue(fd: i32, name: &[u8], index: i32, index_name: &[u8], k: u32, is_replacing: bool) {
+fn decode_cue(
+    rt: &HostRuntime,
+    file: &File,
+    name: &[u8],
+    index: &File,
+    index_name: &[u8],
+    k: u32,
+    is_replacing: bool,
+) {
     let mut entry = [0u8; ENTRY_SIZE];
     let got = files::read_at(index, index_name, entry_start(k), &mut entry);
     if !got.is_read {
@@ -69,74 +91,110 @@ fn decode_cue(fd: i32, name: &[u8], index: i32, index_name: &[u8], k: u32, is_re
             offset,
             size,
             records: _,
-        } => decode_at(fd, name, offset, size, is_replacing),
-        CueAt::Refused(_) => say::trouble(Trouble::Shorter, 3, 0),
+        } => decode_at(rt, file, name, offset, size, is_replacing),
+        CueAt::Refused(_) => say::trouble(rt, Trouble::Shorter, 3, 0),
     }
 }
 
 // Checks an open index, and then decodes cue `k`.
-fn cue_open(fd: i32, name: &[u8], index: i32, index_name: &[u8], k: u32, is_replacing: bool) {
-    if let Judged::As(checked, _, _) = judge(fd, name, index, index_name) {
+fn cue_open(
+    rt: &HostRuntime,
+    file: &File,
+    name: &[u8],
+    index: &File,
+    index_name: &[u8],
+    k: u32,
+    is_replacing: bool,
+) {
+    if let Judged::As(checked, _, _) = judge(rt, file, name, index, index_name) {
         let mut line = io::buffer();
         match cue_told(checked, k, &mut line) {
-            Jump::To(k) => decode_cue(fd, name, index, index_name, k, is_replacing),
-            Jump::Not(told) => named::keep_both(5, 6, is_replacing, told, b"", b"", &line),
+            Jump::To(k) => decode_cue(
+                rt,
+                file,
+                name,
+                index,
+                index_name,
+                k,
+                is_replacing,
+            ),
+            Jump::Not(told) => named::keep_both(rt, 5, 6, is_replacing, told, b"", b"", &line),
         }
     }
 }
 
 // The same where both outputs may be written: that is seen first, since a check may take long.
-fn cue_apart(fd: i32, name: &[u8], index: i32, index_name: &[u8], k: u32, is_replacing: bool) {
-    if !named::is_apart(index, 3, 6) {
+fn cue_apart(
+    rt: &HostRuntime,
+    file: &File,
+    name: &[u8],
+    index: &File,
+    index_name: &[u8],
+    k: u32,
+    is_replacing: bool,
+) {
+    if !named::is_apart(rt, index, 3, 6) {
         return;
     }
-    if !named::may_take(5, Kind::Table, is_replacing) {
+    if !named::may_take(rt, 5, Kind::Table, is_replacing) {
         return;
     }
-    if !named::may_take(6, Kind::Packet, is_replacing) {
+    if !named::may_take(rt, 6, Kind::Packet, is_replacing) {
         return;
     }
-    cue_open(fd, name, index, index_name, k, is_replacing);
+    cue_open(
+        rt,
+        file,
+        name,
+        index,
+        index_name,
+        k,
+        is_replacing,
+    );
 }
 
 // Decodes cue `k` of an open recording by the index that word 3 names.
-fn cue_with(fd: i32, name: &[u8], k: u32, is_replacing: bool) {
+fn cue_with(rt: &HostRuntime, file: &File, name: &[u8], k: u32, is_replacing: bool) {
     let mut index_name = io::buffer();
-    let m = named::name_word(3, &mut index_name);
+    let m = named::name_word(rt, 3, &mut index_name);
     if m == 0 {
         return;
     }
-    let index = named::open_word(3, 5, &index_name[..m]);
-    if index < 0 {
-        return;
+    if let Some(index) = named::open_word(rt, 3, 5, &index_name[..m]) {
+        cue_apart(
+            rt,
+            file,
+            name,
+            &index,
+            &index_name[..m],
+            k,
+            is_replacing,
+        );
+        files::close(index);
     }
-    cue_apart(fd, name, index, &index_name[..m], k, is_replacing);
-    files::close(index);
 }
 
 // Decodes cue `k` of the recording that word 2 names.
-fn cue_file(k: u32, is_replacing: bool) {
+fn cue_file(rt: &HostRuntime, k: u32, is_replacing: bool) {
     let mut name = io::buffer();
-    let n = named::name_word(2, &mut name);
+    let n = named::name_word(rt, 2, &mut name);
     if n == 0 {
         return;
     }
-    let fd = named::open_word(2, 5, &name[..n]);
-    if fd < 0 {
-        return;
+    if let Some(file) = named::open_word(rt, 2, 5, &name[..n]) {
+        if named::is_apart(rt, &file, 2, 6) {
+            cue_with(rt, &file, &name[..n], k, is_replacing);
+        }
+        files::close(file);
     }
-    if named::is_apart(fd, 2, 6) {
-        cue_with(fd, &name[..n], k, is_replacing);
-    }
-    files::close(fd);
 }
 
 // Of its words there are `count`, --replace not counted.
-pub fn run(count: usize, is_replacing: bool) {
-    let mut word = io::buffer();
-    let n = os::arg(4, &mut word);
-    match cue_asked(count, &word[..n]) {
-        CueAsked::As(k) => cue_file(k, is_replacing),
-        CueAsked::Wrong(trouble, i) => say::trouble(trouble, i, 0),
+pub fn run(rt: &HostRuntime, count: usize, is_replacing: bool) {
+    let mut number = io::buffer();
+    let n = word(rt, 4, &mut number);
+    match cue_asked(count, &number[..n]) {
+        CueAsked::As(k) => cue_file(rt, k, is_replacing),
+        CueAsked::Wrong(trouble, i) => say::trouble(rt, trouble, i, 0),
     }
 }

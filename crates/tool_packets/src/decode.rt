@@ -8,19 +8,28 @@ use commands::{DecodeAsked, Options, decode_asked, options_of};
 use edition::Framing;
 use files::Kind;
 use outcomes::{Tried, decode_told, decode_tried};
+use tool_files::typed::word;
 use tool_files::{named, say};
 
 // Decodes bytes to the file that word 4 names, in a room for any table.
-pub fn go_on(framing: Framing, options: Options, is_replacing: bool, input: &[u8], room: &mut [u8])
+pub fn go_on(
+    rt: &HostRuntime,
+    framing: Framing,
+    options: Options,
+    is_replacing: bool,
+    input: &[u8],
+    room: &mut [u8],
+)
     requires { record_size * most_records ≤ length room.old }
 {
     let mut line = io::buffer();
     let told = decode_told(framing, options, input, room, &mut line);
-    named::keep(4, Kind::Table, is_replacing, told, room, &line);
+    named::keep(rt, 4, Kind::Table, is_replacing, told, room, &line);
 }
 
 // The same in a room that may be too small; whether it was enough.
 pub fn begin(
+    rt: &HostRuntime,
     framing: Framing,
     options: Options,
     is_replacing: bool,
@@ -30,7 +39,7 @@ pub fn begin(
     let mut line = io::buffer();
     match decode_tried(framing, options, input, room, &mut line) {
         Tried::With(told) => {
-            named::keep(4, Kind::Table, is_replacing, told, room, &line);
+            named::keep(rt, 4, Kind::Table, is_replacing, told, room, &line);
             true
         }
         Tried::Full => false,
@@ -38,47 +47,47 @@ pub fn begin(
 }
 
 // Decodes the file that word 3 names. Of a file that is too large the library sees a byte too many, and refuses it.
-fn decode_file(framing: Framing, options: Options, is_replacing: bool) {
+fn decode_file(rt: &HostRuntime, framing: Framing, options: Options, is_replacing: bool) {
     let mut input = io::large_buffer();
-    let got = named::read_word(3, 4, &mut input);
+    let got = named::read_word(rt, 3, 4, &mut input);
     if !got.is_read {
         return;
     }
     let n = got.count;
     if !rooms::begin(
+        rt,
         Work::Decode(framing, options, is_replacing),
-        -1,
         &input[..n],
     ) {
         rooms::go_on(
+            rt,
             Work::Decode(framing, options, is_replacing),
-            -1,
             &input[..n],
         );
     }
 }
 
 // Of its words there are `count`, --replace not counted.
-pub fn run(count: usize, is_replacing: bool) {
+pub fn run(rt: &HostRuntime, count: usize, is_replacing: bool) {
     let mut framing = io::buffer();
     let mut name = io::buffer();
-    let mut word = io::buffer();
+    let mut number = io::buffer();
     let mut second = io::buffer();
-    let mut second_word = io::buffer();
-    let f = os::arg(2, &mut framing);
-    let n = os::arg(5, &mut name);
-    let w = os::arg(6, &mut word);
-    let s = os::arg(7, &mut second);
-    let t = os::arg(8, &mut second_word);
+    let mut second_number = io::buffer();
+    let f = word(rt, 2, &mut framing);
+    let n = word(rt, 5, &mut name);
+    let w = word(rt, 6, &mut number);
+    let s = word(rt, 7, &mut second);
+    let t = word(rt, 8, &mut second_number);
     let chosen = options_of(
         count,
         &name[..n],
-        &word[..w],
+        &number[..w],
         &second[..s],
-        &second_word[..t],
+        &second_number[..t],
     );
     match decode_asked(chosen, &framing[..f]) {
-        DecodeAsked::As(framing, options) => decode_file(framing, options, is_replacing),
-        DecodeAsked::Wrong(trouble, i) => say::trouble(trouble, i, 0),
+        DecodeAsked::As(framing, options) => decode_file(rt, framing, options, is_replacing),
+        DecodeAsked::Wrong(trouble, i) => say::trouble(rt, trouble, i, 0),
     }
 }

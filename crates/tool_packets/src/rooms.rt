@@ -7,64 +7,79 @@ ghost use Rattle.node.specs.Records.{record_size, most_records};
 use crate::{decode, encode, look};
 use commands::{Options, Writing};
 use edition::Framing;
+use std::fs::File;
 use time_words::LookRuled;
 use tool_files::space;
 
-// What the words of a command ask. The `bool` says whether any file may be replaced.
-#[derive(Clone, Copy)]
+// What the words of a command ask, and the open table that it reads. The `bool` says whether any file may be replaced.
+#[derive(Drop)]
 pub enum Work {
     Decode(Framing, Options, bool),
-    Encode(Writing, bool),
-    Look(usize, LookRuled),
+    Encode(Writing, bool, File),
+    Look(usize, LookRuled, File),
 }
 
-// Runs a command in the small room: decode with the bytes that it read, the others with an open table. Whether decode has room; the
-// others go on by themselves.
-pub fn begin(work: Work, fd: i32, bytes: &[u8]) -> bool {
+// Runs a command in the small room: decode with the bytes that it read, the others with their table. Whether decode has room; the others go
+// on by themselves.
+pub fn begin(rt: &HostRuntime, work: Work, bytes: &[u8]) -> bool {
     let mut room = space::small_table();
     match work {
         Work::Decode(framing, options, is_replacing) => {
-            return decode::begin(framing, options, is_replacing, bytes, &mut room);
+            return decode::begin(rt, framing, options, is_replacing, bytes, &mut room);
         }
-        Work::Encode(writing, is_replacing) => encode::begin(writing, is_replacing, fd, &mut room),
-        Work::Look(index, ruled) => look::begin(index, ruled, fd, &mut room),
+        Work::Encode(writing, is_replacing, file) => encode::begin(
+            rt,
+            writing,
+            is_replacing,
+            file,
+            &mut room,
+        ),
+        Work::Look(index, ruled, file) => look::begin(rt, index, ruled, file, &mut room),
     }
     true
 }
 
-// Runs a command in the large room: decode with the bytes that it read, the others with an open table and those first bytes of it that were
+// Runs a command in the large room: decode with the bytes that it read, the others with their table and those first bytes of it that were
 // read before.
-pub fn go_on(work: Work, fd: i32, bytes: &[u8])
+pub fn go_on(rt: &HostRuntime, work: Work, bytes: &[u8])
     requires { length bytes.now ≤ record_size * most_records }
 {
     let mut room = space::table();
     match work {
         Work::Decode(framing, options, is_replacing) => decode::go_on(
+            rt,
             framing,
             options,
             is_replacing,
             bytes,
             &mut room,
         ),
-        Work::Encode(writing, is_replacing) => encode::go_on(
+        Work::Encode(writing, is_replacing, file) => encode::go_on(
+            rt,
             writing,
             is_replacing,
-            fd,
+            file,
             bytes,
             &mut room,
         ),
-        Work::Look(index, ruled) => look::go_on(index, ruled, fd, bytes, &mut room),
+        Work::Look(index, ruled, file) => look::go_on(rt, index, ruled, file, bytes, &mut room),
     }
 }
 
-// Runs a command on an open table, in the room that its length needs. A pipe has no length, so its table begins in the small one.
-pub fn run(work: Work, fd: i32) {
-    if fd < 0 {
-        return;
+// How long the table is that a command reads; 0 where the system does not tell, or it reads none.
+fn size_of(work: &Work) -> u64 {
+    match work {
+        Work::Decode(_, _, _) => 0,
+        Work::Encode(_, _, file) => files::length_of(file),
+        Work::Look(_, _, file) => files::length_of(file),
     }
-    if space::is_small(files::length_of(fd)) {
-        begin(work, fd, b"");
+}
+
+// Runs a command on its table, in the room that its length needs. A pipe has no length, so its table begins in the small one.
+pub fn run(rt: &HostRuntime, work: Work) {
+    if space::is_small(size_of(&work)) {
+        begin(rt, work, b"");
     } else {
-        go_on(work, fd, b"");
+        go_on(rt, work, b"");
     }
 }

@@ -14,6 +14,7 @@ ghost use Rattle.tool_recordings.specs.Loops.{ComparedOn, HandedOn, TurnsTo, Loo
 use cues::{ENTRY_SIZE, MOST_ENTRIES};
 use outcomes::check_part;
 use results::{Checked, End};
+use std::fs::File;
 use tool_files::say;
 use troubles::Trouble;
 use walks::{Position, Walked, walk_step};
@@ -24,9 +25,9 @@ const OFTEN: u64 = 0x100_0000;
 
 // What becomes of the index: it is written to an open file, or compared with one.
 #[derive(Clone, Copy)]
-pub enum Aim {
-    Write(i32),
-    Compare(i32),
+pub enum Aim<'a> {
+    Write(&'a File),
+    Compare(&'a File),
 }
 
 // How a walk over a recording stands.
@@ -68,7 +69,7 @@ fn entries() -> [u8; ENTRY_SIZE * MOST_ENTRIES]
 
 // Compares records, before which stand `before` others, with as many bytes of an open index, or those that it still has.
 fn compare(
-    fd: i32,
+    file: &File,
     index_name: &[u8],
     before: usize,
     fresh: &[u8],
@@ -79,7 +80,7 @@ fn compare(
     ensures { ComparedOn before fresh.now given.new next result }
 {
     let m = fresh.len();
-    let got = files::read_on(fd, index_name, &mut given[..m], 0);
+    let got = files::read_on(file, index_name, &mut given[..m], 0);
     if !got.is_read {
         return Came::Failed;
     }
@@ -91,7 +92,7 @@ fn compare(
 
 // Writes or compares the records of a buffer, before which stand `before` others: where that is done, the walk stands as `next` says.
 fn hand_on(
-    aim: Aim,
+    aim: Aim<'_>,
     index_name: &[u8],
     before: usize,
     fresh: &[u8],
@@ -102,32 +103,38 @@ fn hand_on(
     ensures { HandedOn aim before fresh.now given.new next result }
 {
     match aim {
-        Aim::Write(fd) => {
-            if files::add(fd, index_name, fresh) {
+        Aim::Write(file) => {
+            if files::add(file, index_name, fresh) {
                 return next;
             }
             Came::Failed
         }
-        Aim::Compare(fd) => compare(fd, index_name, before, fresh, given, next),
+        Aim::Compare(file) => compare(file, index_name, before, fresh, given, next),
     }
 }
 
 // Says how much is read, where another 16 MiB are.
-pub fn tell_read(before: u64, now: u64) {
+pub fn tell_read(rt: &HostRuntime, before: u64, now: u64) {
     if before / OFTEN < now / OFTEN {
-        say::progress(now / 0x10_0000);
+        say::progress(rt, now / 0x10_0000);
     }
 }
 
 // A walk whose last buffer has `count` bytes, of a recording that had `size` bytes: it has ended, unless bytes were lost since.
-pub fn unless_shorter(fd: i32, size: u64, count: usize, came: Came) -> Came
+pub fn unless_shorter(
+    rt: &HostRuntime,
+    file: &File,
+    size: u64,
+    count: usize,
+    came: Came,
+) -> Came
     requires { LowCame 0 came }
     ensures { StaysOrFails came result }
 {
     if let Came::Ended(last, _) = came {
         let total = last.at + last.kept as u64;
-        if files::is_shorter(fd, size, total, count < wire::LONGEST) {
-            say::trouble(Trouble::Shorter, 2, 0);
+        if files::is_shorter(file, size, total, count < wire::LONGEST) {
+            say::trouble(rt, Trouble::Shorter, 2, 0);
             return Came::Failed;
         }
     }
@@ -136,10 +143,11 @@ pub fn unless_shorter(fd: i32, size: u64, count: usize, came: Came) -> Came
 
 // Goes over one buffer more of an open recording, which had `size` bytes.
 fn walk_on(
-    fd: i32,
+    rt: &HostRuntime,
+    file: &File,
     name: &[u8],
     size: u64,
-    aim: Aim,
+    aim: Aim<'_>,
     index_name: &[u8],
     from: Position,
     buf: &mut [u8],
@@ -149,7 +157,7 @@ fn walk_on(
     requires { Room buf.old out.old given.old × LowPosition from }
     ensures { TurnsTo aim from buf.old buf.new out.old out.new given.new result }
 {
-    let got = files::read_on(fd, name, buf, from.kept);
+    let got = files::read_on(file, name, buf, from.kept);
     if !got.is_read {
         return Came::Failed;
     }
@@ -165,7 +173,8 @@ fn walk_on(
             Came::On(next),
         ),
         Walked::Ended { written, last, end } => unless_shorter(
-            fd,
+            rt,
+            file,
             size,
             count,
             hand_on(
@@ -178,7 +187,7 @@ fn walk_on(
             ),
         ),
         Walked::TooLong => {
-            say::trouble(Trouble::TooLarge, 2, count);
+            say::trouble(rt, Trouble::TooLarge, 2, count);
             Came::Failed
         }
     }
@@ -186,10 +195,11 @@ fn walk_on(
 
 // Walks over an open recording, which had `size` bytes, to where its index ends.
 fn walk_in(
-    fd: i32,
+    rt: &HostRuntime,
+    file: &File,
     name: &[u8],
     size: u64,
-    aim: Aim,
+    aim: Aim<'_>,
     index_name: &[u8],
     buf: &mut [u8],
     out: &mut [u8],
@@ -200,11 +210,13 @@ fn walk_in(
 {
     let mut walk = walks::start();
     loop {
-        let came = walk_on(fd, name, size, aim, index_name, walk, buf, out, given);
+        let came = walk_on(
+            rt, file, name, size, aim, index_name, walk, buf, out, given,
+        );
         let Came::On(next) = came else {
             return came;
         };
-        tell_read(walk.at, next.at);
+        tell_read(rt, walk.at, next.at);
         walk = next;
     }
 }
@@ -212,27 +224,33 @@ fn walk_in(
 // Walks over an open recording, and lends the buffers.
 //
 // Ruled out: records compared with those of another buffer, or under another number; a walk that goes on elsewhere than it stood.
-pub fn walk_over(fd: i32, name: &[u8], aim: Aim, index_name: &[u8]) -> Came
+pub fn walk_over(
+    rt: &HostRuntime,
+    file: &File,
+    name: &[u8],
+    aim: Aim<'_>,
+    index_name: &[u8],
+) -> Came
     ensures { LoopsFrom aim begun result × LowCame 0 result }
 {
     let mut buf = bytes();
     let mut out = entries();
     let mut given = entries();
-    let size = files::length_of(fd);
+    let size = files::length_of(file);
     let came = walk_in(
-        fd, name, size, aim, index_name, &mut buf, &mut out, &mut given,
+        rt, file, name, size, aim, index_name, &mut buf, &mut out, &mut given,
     );
-    say::no_progress();
+    say::no_progress(rt);
     came
 }
 
 // Checks what an open index still has after the records of a walk, which ended so: it should be nothing.
-fn judge_rest(fd: i32, index_name: &[u8], last: Position, end: End) -> Judged
+fn judge_rest(file: &File, index_name: &[u8], last: Position, end: End) -> Judged
     requires { LowLast last end }
     ensures { JudgedAt last end result × LowJudged result }
 {
     let mut more = [0u8; 1];
-    let got = files::read_on(fd, index_name, &mut more, 0);
+    let got = files::read_on(file, index_name, &mut more, 0);
     if !got.is_read {
         return Judged::Failed;
     }
@@ -241,10 +259,16 @@ fn judge_rest(fd: i32, index_name: &[u8], last: Position, end: End) -> Judged
 }
 
 // Checks an open index against an open recording.
-fn judge_open(fd: i32, name: &[u8], index: i32, index_name: &[u8]) -> Judged
+fn judge_open(
+    rt: &HostRuntime,
+    file: &File,
+    name: &[u8],
+    index: &File,
+    index_name: &[u8],
+) -> Judged
     ensures { Judges result × LowJudged result }
 {
-    match walk_over(fd, name, Aim::Compare(index), index_name) {
+    match walk_over(rt, file, name, Aim::Compare(index), index_name) {
         Came::Ended(last, end) => judge_rest(index, index_name, last, end),
         Came::Differs(k) => Judged::As(Checked::Differs(k), 0, End::Whole),
         Came::On(_) => Judged::Failed,
@@ -255,13 +279,19 @@ fn judge_open(fd: i32, name: &[u8], index: i32, index_name: &[u8]) -> Judged
 // The same of an index that is as long after it as it was before.
 //
 // Ruled out: a count of records that leaves out those of earlier buffers; a refused frame whose field begins behind the longest recording.
-pub fn judge(fd: i32, name: &[u8], index: i32, index_name: &[u8]) -> Judged
+pub fn judge(
+    rt: &HostRuntime,
+    file: &File,
+    name: &[u8],
+    index: &File,
+    index_name: &[u8],
+) -> Judged
     ensures { Judges result × LowJudged result }
 {
     let size = files::length_of(index);
-    let judged = judge_open(fd, name, index, index_name);
+    let judged = judge_open(rt, file, name, index, index_name);
     if files::is_shorter(index, size, 0, false) {
-        say::trouble(Trouble::Shorter, 3, 0);
+        say::trouble(rt, Trouble::Shorter, 3, 0);
         return Judged::Failed;
     }
     judged

@@ -15,7 +15,10 @@ use files::Kind;
 use results::End;
 use slide_steps::TABLE_SIZE;
 use slide_walks::{Turn, slide_turn};
+use std::fs::File;
 use telling::tell_shift;
+use tool_files::named::Draft;
+use tool_files::typed::word;
 use tool_files::{named, say};
 use tool_recordings::{Came, bytes, tell_read, unless_shorter};
 use troubles::Trouble;
@@ -57,11 +60,12 @@ fn stand_after(from: Position, buf: &mut [u8], count: usize, turn: Turn) -> Came
 
 // Slides one buffer more of an open recording, which had `size` bytes, and writes what is slid to an open file.
 fn slide_on(
-    fd: i32,
+    rt: &HostRuntime,
+    file: &File,
     name: &[u8],
     size: u64,
     by: u64,
-    out: i32,
+    out: &File,
     out_name: &[u8],
     from: Position,
     buf: &mut [u8],
@@ -70,29 +74,36 @@ fn slide_on(
     requires { SlideRoom buf.old table.old × LowPosition from }
     ensures { SlidesTo by from buf.old buf.new result }
 {
-    let got = files::read_on(fd, name, buf, from.kept);
+    let got = files::read_on(file, name, buf, from.kept);
     if !got.is_read {
         return Came::Failed;
     }
     let count = got.count;
     if LONGEST_RECORDING - from.at < count as u64 {
-        say::trouble(Trouble::TooLarge, 2, count);
+        say::trouble(rt, Trouble::TooLarge, 2, count);
         return Came::Failed;
     }
     let turn = slide_turn(buf, count, by, table);
     if !files::add(out, out_name, front(buf, slid_by(turn))) {
         return Came::Failed;
     }
-    unless_shorter(fd, size, count, stand_after(from, buf, count, turn))
+    unless_shorter(
+        rt,
+        file,
+        size,
+        count,
+        stand_after(from, buf, count, turn),
+    )
 }
 
 // Slides an open recording, which had `size` bytes, to where it ends.
 fn slide_in(
-    fd: i32,
+    rt: &HostRuntime,
+    file: &File,
     name: &[u8],
     size: u64,
     by: u64,
-    out: i32,
+    out: &File,
     out_name: &[u8],
     buf: &mut [u8],
     table: &mut [u8],
@@ -102,92 +113,118 @@ fn slide_in(
 {
     let mut walk = walks::start();
     loop {
-        let came = slide_on(fd, name, size, by, out, out_name, walk, buf, table);
+        let came = slide_on(
+            rt, file, name, size, by, out, out_name, walk, buf, table,
+        );
         let Came::On(next) = came else {
             return came;
         };
-        tell_read(walk.at, next.at);
+        tell_read(rt, walk.at, next.at);
         walk = next;
     }
 }
 
 // The same, and lends the buffers.
-fn slide_over(fd: i32, name: &[u8], by: u64, out: i32, out_name: &[u8]) -> Came
+fn slide_over(
+    rt: &HostRuntime,
+    file: &File,
+    name: &[u8],
+    by: u64,
+    out: &File,
+    out_name: &[u8],
+) -> Came
     ensures { LowCame 0 result }
 {
     let mut buf = bytes();
     let mut table = [0u8; TABLE_SIZE];
-    let size = files::length_of(fd);
-    let came = slide_in(fd, name, size, by, out, out_name, &mut buf, &mut table);
-    say::no_progress();
+    let size = files::length_of(file);
+    let came = slide_in(
+        rt, file, name, size, by, out, out_name, &mut buf, &mut table,
+    );
+    say::no_progress(rt);
     came
 }
 
 // Gives the output of a whole recording its name, and leaves nothing of one that stopped; whether that was done.
-fn settle(end: End, fd: i32, out_name: &[u8], part: &[u8]) -> bool {
+fn settle(rt: &HostRuntime, end: End, out: File, out_name: &[u8], part: &[u8]) -> bool {
     if let End::Whole = end {
-        return files::finish(fd, out_name, part);
+        return files::finish(rt, out, out_name, part);
     }
-    files::abandon(fd, part);
+    files::abandon(rt, out, part);
     true
 }
 
 // Settles the output, and says what became of it.
-fn end_shift(came: Came, fd: i32, out_name: &[u8], part: &[u8])
+fn end_shift(rt: &HostRuntime, came: Came, out: File, out_name: &[u8], part: &[u8])
     requires { LowCame 0 came }
 {
     if let Came::Ended(last, end) = came {
-        if settle(end, fd, out_name, part) {
+        if settle(rt, end, out, out_name, part) {
             let mut line = io::buffer();
             let n = tell_shift(last.at, end, &mut line);
-            say::answer(&line[..n]);
+            say::answer(rt, &line[..n]);
         }
         return;
     }
-    files::abandon(fd, part);
+    files::abandon(rt, out, part);
 }
 
 // Shifts an open recording to the file that word 3 names. That is taken for a packet: no file is known by its bytes to be a recording.
-fn shift_open(fd: i32, name: &[u8], by: u64, out_name: &[u8], is_replacing: bool) {
+fn shift_open(
+    rt: &HostRuntime,
+    file: &File,
+    name: &[u8],
+    by: u64,
+    out_name: &[u8],
+    is_replacing: bool,
+) {
     let mut part = io::buffer();
-    let draft = named::begin_word(3, out_name, Kind::Packet, is_replacing, &mut part);
-    if draft.fd < 0 {
-        return;
-    }
-    end_shift(
-        slide_over(fd, name, by, draft.fd, out_name),
-        draft.fd,
+    let Some(draft) = named::begin_word(
+        rt,
+        3,
         out_name,
-        front(&part, draft.length),
-    );
+        Kind::Packet,
+        is_replacing,
+        &mut part,
+    ) else {
+        return;
+    };
+    let came = slide_over(rt, file, name, by, &draft.file, out_name);
+    let Draft { file: out, length } = draft;
+    end_shift(rt, came, out, out_name, front(&part, length));
 }
 
 // Shifts the file that word 2 names to the one that word 3 names.
-fn shift_file(by: u64, is_replacing: bool) {
+fn shift_file(rt: &HostRuntime, by: u64, is_replacing: bool) {
     let mut name = io::buffer();
-    let n = named::name_word(2, &mut name);
+    let n = named::name_word(rt, 2, &mut name);
     if n == 0 {
         return;
     }
     let mut out_name = io::buffer();
-    let m = named::name_word(3, &mut out_name);
+    let m = named::name_word(rt, 3, &mut out_name);
     if m == 0 {
         return;
     }
-    let fd = named::open_word(2, 3, &name[..n]);
-    if fd < 0 {
-        return;
+    if let Some(file) = named::open_word(rt, 2, 3, &name[..n]) {
+        shift_open(
+            rt,
+            &file,
+            &name[..n],
+            by,
+            &out_name[..m],
+            is_replacing,
+        );
+        files::close(file);
     }
-    shift_open(fd, &name[..n], by, &out_name[..m], is_replacing);
-    files::close(fd);
 }
 
 // Of its words there are `count`, --replace not counted.
-pub fn run(count: usize, is_replacing: bool) {
-    let mut word = io::buffer();
-    let n = os::arg(4, &mut word);
-    match shift_asked(count, &word[..n]) {
-        ShiftAsked::By(by) => shift_file(by, is_replacing),
-        ShiftAsked::Wrong(trouble, i) => say::trouble(trouble, i, 0),
+pub fn run(rt: &HostRuntime, count: usize, is_replacing: bool) {
+    let mut amount = io::buffer();
+    let n = word(rt, 4, &mut amount);
+    match shift_asked(count, &amount[..n]) {
+        ShiftAsked::By(by) => shift_file(rt, by, is_replacing),
+        ShiftAsked::Wrong(trouble, i) => say::trouble(rt, trouble, i, 0),
     }
 }
