@@ -2,8 +2,9 @@
 use mathlib.Core.Path.{refl}
 use mathlib.Core.List.{[], ◌∷◌}
 use native.Mathlib.Omega.{arith}
-use lib.IntN.{pos}
+use denote.Ref.{Bor}
 use lib.ListN.{replicate}
+use Rattle.std.specs.declared.fs.File.{File}
 use Rattle.folding.proofs.Examples.{whole-number}
 use Rattle.cues.specs.Checks.{compared_at}
 use Rattle.results.specs.declared.End.TheVariants as end
@@ -16,24 +17,24 @@ use Rattle.tool_recordings.specs.declared.Aim.TheVariants.{Write, Compare}
 use Rattle.tool_recordings.specs.declared.Came.TheVariants.{Ended, Differs}
 
 -- its record is written
-writes : Looped (Write (pos 3)) (Ended last end.Whole) begun [] (entry 0 ∷ [])
-writes =
+writes : (file : Bor File) → Looped (Write file) (Ended last end.Whole) begun [] (entry 0 ∷ [])
+writes file =
     turns_last {there = []}
     (turned {portion = whole-number} {count = 16} {step = walked.Ended 16 last end.Whole} (omega arith) (record { is = refl }) the_step refl
     (written refl refl)) tt
 
 -- it fits the index
-fits : Looped (Compare (pos 3)) (Ended last end.Whole) begun [] (entry 0 ∷ [])
+fits : (file : Bor File) → Looped (Compare file) (Ended last end.Whole) begun [] (entry 0 ∷ [])
 unfolding compared_at
-fits =
+fits file =
     turns_last {there = entry 0}
     (turned {portion = whole-number} {count = 16} {step = walked.Ended 16 last end.Whole} (omega arith) (record { is = refl }) the_step refl
     (compared_on refl (compared_with 16 (omega arith) refl))) tt
 
 -- and differs from one that says another offset
-differs : Looped (Compare (pos 3)) (Differs 0) begun [] (entry 0 ∷ [])
+differs : (file : Bor File) → Looped (Compare file) (Differs 0) begun [] (entry 0 ∷ [])
 unfolding compared_at
-differs =
+differs file =
     turns_last {there = entry 1}
     (turned {portion = whole-number} {count = 16} {step = walked.Ended 16 last end.Whole} (omega arith) (record { is = refl }) the_step refl
     (compared_on refl (compared_with 16 (omega arith) refl))) tt

@@ -100,7 +100,7 @@ fn hand_on(
     next: Came,
 ) -> Came
     requires { (before ≤ longest_recording) × (length fresh.now ≤ length given.old) }
-    ensures { HandedOn aim before fresh.now given.new next result }
+    ensures { HandedOn aim.entry before fresh.now given.new next result }
 {
     match aim {
         Aim::Write(file) => {
@@ -155,7 +155,7 @@ fn walk_on(
     given: &mut [u8],
 ) -> Came
     requires { Room buf.old out.old given.old × LowPosition from }
-    ensures { TurnsTo aim from buf.old buf.new out.old out.new given.new result }
+    ensures { TurnsTo aim.entry from buf.old buf.new out.old out.new given.new result }
 {
     let got = files::read_on(file, name, buf, from.kept);
     if !got.is_read {
@@ -206,7 +206,7 @@ fn walk_in(
     given: &mut [u8],
 ) -> Came
     requires { Room buf.old out.old given.old }
-    ensures { LoopsAt aim begun buf.old result × LowCame 0 result }
+    ensures { LoopsAt aim.entry begun buf.old result × LowCame 0 result }
 {
     let mut walk = walks::start();
     loop {
@@ -231,7 +231,7 @@ pub fn walk_over(
     aim: Aim<'_>,
     index_name: &[u8],
 ) -> Came
-    ensures { LoopsFrom aim begun result × LowCame 0 result }
+    ensures { LoopsFrom aim.entry begun result × LowCame 0 result }
 {
     let mut buf = bytes();
     let mut out = entries();

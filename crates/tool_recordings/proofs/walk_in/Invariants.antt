@@ -1,0 +1,17 @@
+-- `tool_recordings::walk_in` meets its contract. The invariant: the buffers keep their lengths and the walk its numbers, and whatever the
+-- loop comes to from here, it comes to from the start; what is left of the longest recording falls.
+use Prim.Native.Nat.{◌-◌}
+use Rattle.cues.specs.Cues.{longest_recording}
+use Rattle.walks.specs.Walks.{LowPosition}
+use Rattle.tool_walks.specs.Runs.{begun}
+use Rattle.tool_recordings.specs.CodeCame.{Room}
+use Rattle.tool_recordings.specs.Loops.{LoopsAt}
+use Rattle.tool_recordings.specs.declared.Came.{Came}
+use Rattle.tool_recordings.proofs.walk_in.Given as goal
+
+abbrev pub invariant-loop-next : goal.invariant-loop-next
+invariant-loop-next l =
+    Room l.buf l.out l.given × LowPosition l.walk × ((r : Came) → LoopsAt l.aim l.walk l.buf r → LoopsAt l.aim begun l.initial.buf r)
+
+abbrev pub decreases-loop-next : goal.decreases-loop-next
+decreases-loop-next l = longest_recording - l.walk.at
