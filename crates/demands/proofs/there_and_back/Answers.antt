@@ -1,15 +1,16 @@
+-- The round trip; the other answers are not given where the contract speaks.
 use native.Mathlib.Nat.{sub-zero}
 use Rattle.demands.proofs.There.{not-refused, within-output, comes_back}
 use Rattle.demands.proofs.there_and_back.Goals as goal
 
 pub returns-then-n-out : goal.returns-then-n-out
 returns-then-n-out c =
-    comes_back _ _ _ _ c.encode.ensures _ _ _ c.n-1.given.1 (rw sub-zero at c.decode_udp.ensures)
+    comes_back _ _ _ _ c.encode.ensures _ _ _ c.in-Written.is (rw sub-zero at c.decode_udp.ensures)
 
 pub returns-else-n-out : goal.returns-else-n-out
 returns-else-n-out c =
     let a = c.args in
-    within-output _ _ _ _ c.encode.ensures a.back.now _ c.in-Written.is c.encode.auto.1.1.1.0 c.if-n-out.false
+    within-output _ _ _ _ c.encode.ensures a.back.now _ c.in-Written.is c.encode.auto.out c.if-n-out.false
 
 pub returns-in-Refused : goal.returns-in-Refused
 returns-in-Refused c =
