@@ -1,8 +1,18 @@
+-- `slide_steps::slide_frames` meets its contract: what the answer on the frame at the front says of the fold of what is left.
 use native.Mathlib.Omega.{arith}
 use borrow.Author.Rules.{rules}
 use Rattle.slide_steps.proofs.Frames.{now-long, lent_is, going_end}
 use Rattle.slide_steps.proofs.Frames.{going-waits, going-refused, going-in, going_on}
 use Rattle.slide_steps.proofs.slide_frames.Goals as goal
+
+pub overflow_add-at : goal.overflow_add-at
+overflow_add-at c =
+    let i = c.loop-at in
+    let e = lent_is c.args.by c.args.bytes.now i.at i.bytes i.table i.invariant in
+    let v = going-in c.args.by c.args.bytes.now i.at i.bytes i.table i.invariant e (search rules) c.slide_front.ensures
+    c.in-Done.is in
+    let n = now-long c.args.by c.args.bytes.now i.at i.bytes i.table i.invariant in
+    omega (arith, v.0, v.1, n)
 
 pub loop-at-smaller : goal.loop-at-smaller
 loop-at-smaller c =

@@ -1,21 +1,28 @@
+-- `slide_steps::slide_front` meets its contract: the answer of the decoder of one frame, whose records are those of the frame's tree.
 use native.Mathlib.Omega.{arith}
+use borrow.Author.Rules.{rules}
 use Prim.Native.Nat.{◌-◌}
 use lib.ListN.{length}
 use Rattle.wire.proofs.Parts.{tail}
-use Rattle.slide_steps.proofs.Fronts.{first_part, front-can, front-done, front-waits, front-refused, front-never}
+use Rattle.slide_steps.proofs.Fronts.{first_part, front-left, front-can, front-done, front-waits, front-refused, front-never}
 use Rattle.slide_steps.proofs.slide_front.Goals as goal
+
+pub overflow_sub-size : goal.overflow_sub-size
+overflow_sub-size c =
+    front-left c.args.by c.args.bytes.now c.args.table.now c.requires.0 c.requires.1 (tail _ 0) c.decode_tcp.ensures
+    (λ i. search rules) c.in-Packets.is
 
 pub slide_records-requires : goal.slide_records-requires
 slide_records-requires c =
     front-can c.args.by c.args.bytes.now c.args.table.now c.requires.0 c.requires.1 (tail _ 0) c.decode_tcp.ensures
-    (λ i. omega (arith, c.slice_known-1.given i)) c.count-1.given.1
-    (first_part (length c.args.bytes.now - c.count-1.given.0.1.0) c.args.bytes.now) (tail _ 0)
+    (λ i. search rules) c.in-Packets.is
+    (first_part (length c.args.bytes.now - c.in-Packets.left) c.args.bytes.now) (tail _ 0)
 
 pub returns-in-Packets : goal.returns-in-Packets
 returns-in-Packets c =
     front-done c.args.by c.args.bytes.now c.args.table.now c.requires.0 c.requires.1 (tail _ 0) c.decode_tcp.ensures
-    (λ i. omega (arith, c.slice_known-1.given i)) c.count-1.given.1
-    (first_part (length c.args.bytes.now - c.count-1.given.0.1.0) c.args.bytes.now) (tail _ 0)
+    (λ i. search rules) c.in-Packets.is
+    (first_part (length c.args.bytes.now - c.in-Packets.left) c.args.bytes.now) (tail _ 0)
     c.slide_records.ensures
 
 pub returns-in-Waiting : goal.returns-in-Waiting

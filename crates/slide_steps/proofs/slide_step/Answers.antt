@@ -1,3 +1,4 @@
+-- `slide_steps::slide_step` meets its contract: 1, then 12, then the frames.
 use lib.Seq.{length-take-le}
 use Rattle.slide_steps.proofs.Frames.{step-slides}
 use Rattle.slide_steps.proofs.slide_step.Goals as goal

@@ -1,4 +1,5 @@
-use Rattle.slide_walks.proofs.Turned.{turned, reads_more, reads-no-more}
+-- `slide_walks::slide_turn` meets its contract: the step over the bytes that are there, and whether it is read on.
+use Rattle.slide_walks.proofs.Turned.{turn-never, turned, reads_more, reads-no-more}
 use Rattle.slide_walks.proofs.slide_turn.Goals as goal
 
 pub returns-then-reads_on : goal.returns-then-reads_on
@@ -14,3 +15,9 @@ returns-else-reads_on c =
     turned a.buf.now a.count a.by c.requires.0 c.requires.1 a.table.now c.requires.2 c.slide_step.ensures
     c.in-Done.is _
     (reads-no-more _ _ c.reads_on.ensures c.if-reads_on.false)
+
+pub returns-in-Refused : goal.returns-in-Refused
+returns-in-Refused c =
+    let a = c.args in
+    turn-never a.buf.now a.count a.by c.requires.0 c.requires.1 a.table.now c.requires.2 c.slide_step.ensures
+    c.in-Refused.is

@@ -1,9 +1,26 @@
+-- `walks::walk_step` meets its contract: by the case of the step's answer.
+use native.Mathlib.Omega.{arith}
 use Rattle.walks.proofs.Steps.{step-low, walks-on, walk_ends, too_long}
 use Rattle.walks.proofs.walk_step.Goals as goal
 
 pub keep_rest-kept-requires : goal.keep_rest-kept-requires
 keep_rest-kept-requires c =
     ((step-low c.requires c.index_step.ensures c.in-Written.is).within, c.requires.there)
+
+pub overflow_mul-written : goal.overflow_mul-written
+overflow_mul-written c =
+    let s = step-low c.requires c.index_step.ensures c.in-Written.is in
+    omega (arith, s.few, s.near)
+
+pub overflow_add-next : goal.overflow_add-next
+overflow_add-next c =
+    let s = step-low c.requires c.index_step.ensures c.in-Written.is in
+    omega (arith, s.near)
+
+pub overflow_add-next-in-Written : goal.overflow_add-next-in-Written
+overflow_add-next-in-Written c =
+    let s = step-low c.requires c.index_step.ensures c.in-Written.is in
+    omega (arith, s.few, s.near, c.requires.low.few)
 
 pub returns-then-reads_on : goal.returns-then-reads_on
 returns-then-reads_on c =
