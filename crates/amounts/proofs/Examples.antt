@@ -1,5 +1,5 @@
 -- Words and the amounts that they say, computed.
-use Rattle.std.proofs.Common.{◌≡◌, ℕ, ◌+◌, ◌-◌, ◌*◌, ◌^◌, List, [], ◌∷◌, refl}
+use Rattle.std.proofs.Common.{◌≡◌, ◌+◌, ◌-◌, ◌*◌, ◌^◌, [], ◌∷◌, refl}
 use Rattle.words.specs.Numeral.{digit_of, all_more, numeral_of}
 use Rattle.words.specs.Tables.{until_byte}
 use Rattle.words.specs.declared.numeral.Numeral.TheVariants.{Is, Unclear}

@@ -2,13 +2,11 @@
 use Rattle.std.specs.Prelude.{cond, List, ℕ, eqb}
 use Rattle.words.specs.declared.numeral.Numeral.{Numeral}
 use Rattle.words.specs.declared.numeral.Numeral.TheVariants as numeral
-use Rattle.edition.specs.declared.Framing.{Framing}
 use Rattle.edition.specs.declared.Framing.TheVariants.{Udp, Tcp, TcpVec}
 use Rattle.troubles.specs.declared.Trouble.TheVariants.{DecodeWords, EncodeWords, LookWords, NoFraming, OnePacket, NoNumber}
 use Rattle.troubles.specs.declared.Trouble.TheVariants.{IndexWords, CheckWords, CueWords}
 use Rattle.commands.specs.Words.{framing_of, number_of_word}
 use Rattle.commands.specs.Options.{no_options, chosen_by}
-use Rattle.commands.specs.declared.options.Options.{Options}
 use Rattle.commands.specs.declared.Framed.{Framed}
 use Rattle.commands.specs.declared.Framed.TheVariants as framed
 use Rattle.commands.specs.declared.options.Chosen.{Chosen}

@@ -2,7 +2,7 @@
 use mathlib.Core.Path.{◌≡◌, refl}
 use native.Mathlib.Omega.{arith}
 use Rattle.dates.specs.Dates.{has_thirty, days_in, date, month_after, day_after, date_of}
-use Rattle.dates.specs.DayNumbers.{years_before, months_before, day_of, IsDate}
+use Rattle.dates.specs.DayNumbers.{years_before, months_before, day_of}
 use Rattle.dates.proofs.Inverse.{date-again}
 
 -- 2000 is a leap year

@@ -1,13 +1,13 @@
 -- Each day has one date, and each date one day.
-use mathlib.Core.Path.{◌≡◌, refl, sym, ap, ap₂, ◌∙◌}
+use mathlib.Core.Path.{◌≡◌, refl, sym, ap, ◌∙◌}
 use mathlib.Core.Bool.{Bool, true, false, cond}
-use Prim.Native.Nat.{ℕ, zero, suc, ◌+◌, ◌-◌, ◌≤◌, ◌<◌}
-use native.Mathlib.Nat.{add-zero, add-suc, add_assoc}
+use Prim.Native.Nat.{ℕ, zero, suc, ◌+◌, ◌-◌, ◌<◌}
+use native.Mathlib.Nat.{add-zero, add_assoc}
 use native.Mathlib.Numerals.{add-one}
 use native.Mathlib.Omega.{arith}
 use borrow.Author.Tests.{ltb-true, ltb-false, ne_eqb}
 use lib.Dec.{ltb}
-use Rattle.dates.specs.Dates.{is_leap, has_thirty, days_in, date, month_after, day_after, date_of}
+use Rattle.dates.specs.Dates.{is_leap, has_thirty, days_in, date, month_after, date_of}
 use Rattle.dates.specs.DayNumbers.{year_days, years_before, months_before, day_of, IsDate}
 use Rattle.dates.specs.declared.Date.{Date}
 use Rattle.dates.proofs.Months.{days-least, in-month, next-month}

@@ -1,5 +1,5 @@
 -- What is said in one line: a text that is put byte by byte, and one text after another.
-use Rattle.std.proofs.Common.{◌≡◌, ℕ, zero, suc, ◌+◌, ◌-◌, ◌<◌, ◌≤◌, List, [], ◌∷◌, ◌++◌, length, get_or, take, set, sym, refl, ap, ◌∙◌, subst, append_assoc, add-one, arith, length-take-le, take_all, take-suc, take-suc-set}
+use Rattle.std.proofs.Common.{◌≡◌, ℕ, zero, suc, ◌+◌, ◌-◌, ◌<◌, ◌≤◌, List, [], ◌∷◌, ◌++◌, length, get_or, take, set, sym, refl, ap, ◌∙◌, subst, append_assoc, add-one, arith, length-take-le, take-suc, take-suc-set}
 use lib.Seq.{take-append-add}
 use Rattle.io.specs.Digits.{last_digits, IsDigitCount}
 use Rattle.runs.specs.Said.{Adds, Decimal}

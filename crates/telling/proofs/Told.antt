@@ -5,7 +5,7 @@ use Prim.Native.Nat.{ℕ, zero, suc, ◌+◌, ◌≤◌, ◌<◌}
 use native.Mathlib.Nat.{add-zero}
 use native.Mathlib.Numerals.{add-one}
 use native.Mathlib.Omega.{arith}
-use lib.ListN.{length, get_or, take, drop, set, length-append, length-drop}
+use lib.ListN.{length, get_or, take, drop, set, length-append}
 use lib.Seq.{take_all, take-suc, take-suc-set, length-take-le, take-append-add, drop-cons, drop-drop, get_or-drop, drop-length}
 use Rattle.telling.specs.Forms.{piece_of, taken_by, filled_in, Says}
 use Rattle.telling.specs.CodePut.{PutAfter}

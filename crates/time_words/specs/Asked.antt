@@ -1,7 +1,6 @@
 -- What the words of `osc time` ask, and the option --rule of `osc look`.
 use Rattle.std.specs.Prelude.{cond, List, [], ◌∷◌, ℕ, eqb}
 use Prim.Native.String.{String}
-use Rattle.clock.specs.declared.Rule.{Rule}
 use Rattle.clock.specs.declared.Rule.TheVariants.{A, B}
 use Rattle.words.specs.Tables.{paired_with, is_word}
 use Rattle.words.specs.declared.numeral.Numeral.{Numeral}

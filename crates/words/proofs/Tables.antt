@@ -153,7 +153,7 @@ paired-from number other (row ∷ rows) from (suc i) e =
     let t : eqb (number row.0) (from + suc i) ≡ false = ne_eqb _ _ q in
     let m : from + suc i ≡ suc from + i = omega arith in
     let rest : paired_with (λ k. eqb (number k) (suc from + i)) other rows ≡ get_or (beside_of rows) i other =
-        paired-from number other rows (suc from) i (both (eqb (number row.0) from) _ e).1
+    paired-from number other rows (suc from) i (both (eqb (number row.0) from) _ e).1
     in
     rw t (subst (λ (n : ℕ). paired_with (λ k. eqb (number k) n) other rows ≡ get_or (beside_of rows) i other) (sym m) rest)
 

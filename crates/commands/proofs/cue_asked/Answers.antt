@@ -1,7 +1,6 @@
 -- `commands::cue_asked` meets its contract, by the count of the words and the number of the last.
 use mathlib.Core.Path.{sym, ap, ◌∙◌}
 use borrow.Author.Tests.{eq-eqb, ne_eqb}
-use Rattle.words.specs.declared.numeral.Numeral.TheVariants as numeral
 use Rattle.commands.specs.Asked.{cue_with, cue_asked}
 use Rattle.commands.proofs.cue_asked.Goals as goal
 
