@@ -20,8 +20,8 @@ pub use one::{is_beside, is_output};
 pub use output::{Begun, Stored, abandon, add, begin, finish, finish_both, remove, write};
 pub use pieces::{Opened, close, is_shorter, length_of, open, open_apart, read_at, read_on};
 pub use places::{Place, place_of};
-pub use shown::show;
 use reason::put_reason;
+pub use shown::show;
 use std::io::Error;
 use words::line::front;
 

@@ -32,7 +32,10 @@ pub fn open_update(rt: &HostRuntime, path: &[u8]) -> Result<File> {
 // Makes a file to write it, under a name that nothing has.
 pub fn create(rt: &HostRuntime, path: &[u8]) -> Result<File> {
     let name = text_of(path)?;
-    OpenOptions::new().write(true).create_new(true).open(rt, name)
+    OpenOptions::new()
+        .write(true)
+        .create_new(true)
+        .open(rt, name)
 }
 
 // Gives a file another name.

@@ -175,13 +175,7 @@ pub fn abandon(rt: &HostRuntime, file: File, part: &[u8]) {
 }
 
 // Gives two files their names. Where that fails, it says why, and neither is left.
-fn take_both(
-    rt: &HostRuntime,
-    path: &[u8],
-    part: &[u8],
-    other: &[u8],
-    other_part: &[u8],
-) -> bool {
+fn take_both(rt: &HostRuntime, path: &[u8], part: &[u8], other: &[u8], other_part: &[u8]) -> bool {
     if take_name(rt, other, other_part) {
         if take_name(rt, path, part) {
             return true;
@@ -226,13 +220,7 @@ fn write_begun(rt: &HostRuntime, file: File, path: &[u8], part: &[u8], bytes: &[
 // Writes a file whole or not at all.
 //
 // Ruled out: a file said to be written under a name of 4,075 bytes; a name of 4,074 bytes refused for its length.
-pub fn write(
-    rt: &HostRuntime,
-    path: &[u8],
-    kind: Kind,
-    is_replacing: bool,
-    bytes: &[u8],
-) -> Stored
+pub fn write(rt: &HostRuntime, path: &[u8], kind: Kind, is_replacing: bool, bytes: &[u8]) -> Stored
     ensures { ToldName path.now result }
 {
     let mut part = io::buffer();

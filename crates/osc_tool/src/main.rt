@@ -24,12 +24,7 @@ fn run(rt: &HostRuntime, command: Command, count: usize, is_replacing: bool) {
         Command::Time => time::run(rt, count),
         Command::Shift => tool_shifts::run(rt, count, is_replacing),
         Command::Help => say::help(rt),
-        Command::Version => say::version(
-            rt,
-            version::MAJOR,
-            version::MINOR,
-            version::PATCH,
-        ),
+        Command::Version => say::version(rt, version::MAJOR, version::MINOR, version::PATCH),
         Command::Unclear => say::trouble(rt, Trouble::NoCommand, 1, 0),
     }
 }

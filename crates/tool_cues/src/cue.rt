@@ -109,15 +109,7 @@ fn cue_open(
     if let Judged::As(checked, _, _) = judge(rt, file, name, index, index_name) {
         let mut line = io::buffer();
         match cue_told(checked, k, &mut line) {
-            Jump::To(k) => decode_cue(
-                rt,
-                file,
-                name,
-                index,
-                index_name,
-                k,
-                is_replacing,
-            ),
+            Jump::To(k) => decode_cue(rt, file, name, index, index_name, k, is_replacing),
             Jump::Not(told) => named::keep_both(rt, 5, 6, is_replacing, told, b"", b"", &line),
         }
     }
@@ -142,15 +134,7 @@ fn cue_apart(
     if !named::may_take(rt, 6, Kind::Packet, is_replacing) {
         return;
     }
-    cue_open(
-        rt,
-        file,
-        name,
-        index,
-        index_name,
-        k,
-        is_replacing,
-    );
+    cue_open(rt, file, name, index, index_name, k, is_replacing);
 }
 
 // Decodes cue `k` of an open recording by the index that word 3 names.
@@ -161,15 +145,7 @@ fn cue_with(rt: &HostRuntime, file: &File, name: &[u8], k: u32, is_replacing: bo
         return;
     }
     if let Some(index) = named::open_word(rt, 3, 5, &index_name[..m]) {
-        cue_apart(
-            rt,
-            file,
-            name,
-            &index,
-            &index_name[..m],
-            k,
-            is_replacing,
-        );
+        cue_apart(rt, file, name, &index, &index_name[..m], k, is_replacing);
         files::close(index);
     }
 }

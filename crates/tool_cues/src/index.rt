@@ -28,14 +28,8 @@ fn end_index(rt: &HostRuntime, came: Came, file: File, index_name: &[u8], part: 
 // Writes the index of an open recording.
 fn index_open(rt: &HostRuntime, file: &File, name: &[u8], index_name: &[u8], is_replacing: bool) {
     let mut part = io::buffer();
-    let Some(draft) = named::begin_word(
-        rt,
-        3,
-        index_name,
-        Kind::Index,
-        is_replacing,
-        &mut part,
-    ) else {
+    let Some(draft) = named::begin_word(rt, 3, index_name, Kind::Index, is_replacing, &mut part)
+    else {
         return;
     };
     let came = walk_over(rt, file, name, Aim::Write(&draft.file), index_name);

@@ -168,13 +168,7 @@ pub fn read_table(rt: &HostRuntime, file: File, i: usize, room: &mut [u8]) -> Re
 // Reads the rest of that table, after its first bytes, into a room that holds any table.
 //
 // Ruled out: a count past the room's end; bytes counted of a file that is too large.
-pub fn read_rest(
-    rt: &HostRuntime,
-    file: File,
-    i: usize,
-    first: &[u8],
-    room: &mut [u8],
-) -> Records
+pub fn read_rest(rt: &HostRuntime, file: File, i: usize, first: &[u8], room: &mut [u8]) -> Records
     requires { length first.now ≤ length room.old }
     ensures { InRoom room.new result }
 {
@@ -270,7 +264,11 @@ fn store(
         return false;
     }
     if is_kept {
-        return is_done(rt, files::write(rt, &path[..n], kind, is_replacing, bytes), i);
+        return is_done(
+            rt,
+            files::write(rt, &path[..n], kind, is_replacing, bytes),
+            i,
+        );
     }
     is_done(rt, files::remove(rt, &path[..n], kind, is_replacing), i)
 }
@@ -322,9 +320,7 @@ fn write_both(
 ) -> bool {
     if files::add(&first.file, path, bytes) {
         if files::add(&second.file, other, other_bytes) {
-            return files::finish_both(
-                rt, first.file, path, part, second.file, other, other_part,
-            );
+            return files::finish_both(rt, first.file, path, part, second.file, other, other_part);
         }
     }
     files::abandon(rt, first.file, part);

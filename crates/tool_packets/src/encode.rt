@@ -44,13 +44,7 @@ pub fn go_on(
 }
 
 // Encodes an open table in a room that may be too small for it.
-pub fn begin(
-    rt: &HostRuntime,
-    writing: Writing,
-    is_replacing: bool,
-    file: File,
-    room: &mut [u8],
-)
+pub fn begin(rt: &HostRuntime, writing: Writing, is_replacing: bool, file: File, room: &mut [u8])
     requires { length room.old ≤ record_size * most_records }
 {
     match named::read_table(rt, file, 3, room) {

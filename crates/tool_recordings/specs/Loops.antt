@@ -1,6 +1,8 @@
 -- The program's loop over a recording, document 02, Ticket 5: a buffer is read, walked over (crates/walks), and its records are written or
 -- compared; then the next buffer comes. What is said here is what each turn of it hands on.
-use Rattle.std.specs.Prelude.{◌≡◌, List, [], ◌∷◌, ℕ, ◌≤◌, ℤ, length, take}
+use Rattle.std.specs.Prelude.{◌≡◌, List, [], ◌∷◌, ℕ, ◌≤◌, length, take}
+use denote.Ref.{Bor}
+use Rattle.std.specs.declared.fs.File.{File}
 use Rattle.wire.specs.Limits.{longest}
 use Rattle.folding.specs.Folding.{joined_bytes}
 use Rattle.cues.specs.Checks.{compared, numbered_from}
@@ -47,8 +49,8 @@ pub data ComparedOn (before : ℕ) (fresh there : List ℕ) (next r : Came) : Ty
 -- records are handed on: they are written, or compared
 pub data HandedOn (aim : Aim) (before : ℕ) (fresh there : List ℕ) (next r : Came) : Type 0 where
   write_fails : r ≡ Failed → HandedOn aim before fresh there next r
-  written : {fd : ℤ} → aim ≡ Write fd → r ≡ next → HandedOn aim before fresh there next r
-  compared_on : {fd : ℤ} → aim ≡ Compare fd → ComparedOn before fresh there next r → HandedOn aim before fresh there next r
+  written : {file : Bor File} → aim ≡ Write file → r ≡ next → HandedOn aim before fresh there next r
+  compared_on : {file : Bor File} → aim ≡ Compare file → ComparedOn before fresh there next r → HandedOn aim before fresh there next r
 
 -- a turn of the loop: a portion is read after what was kept, the step goes over both, and its records are handed on, numbered after those
 -- that stand before them
@@ -101,7 +103,7 @@ JudgedBy Failed r = r ≡ judged.Failed
 -- a check of an open index: its loop compares, and it says what that came to; or it failed
 pub data Judges (r : Judged) : Type 0 where
   judge_fails : r ≡ judged.Failed → Judges r
-  judges : {fd : ℤ} {came : Came} → LoopsFrom (Compare fd) begun came → JudgedBy came r → Judges r
+  judges : {file : Bor File} {came : Came} → LoopsFrom (Compare file) begun came → JudgedBy came r → Judges r
 
 -- ---- what follows
 

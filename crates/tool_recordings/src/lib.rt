@@ -121,13 +121,7 @@ pub fn tell_read(rt: &HostRuntime, before: u64, now: u64) {
 }
 
 // A walk whose last buffer has `count` bytes, of a recording that had `size` bytes: it has ended, unless bytes were lost since.
-pub fn unless_shorter(
-    rt: &HostRuntime,
-    file: &File,
-    size: u64,
-    count: usize,
-    came: Came,
-) -> Came
+pub fn unless_shorter(rt: &HostRuntime, file: &File, size: u64, count: usize, came: Came) -> Came
     requires { LowCame 0 came }
     ensures { StaysOrFails came result }
 {
@@ -210,9 +204,7 @@ fn walk_in(
 {
     let mut walk = walks::start();
     loop {
-        let came = walk_on(
-            rt, file, name, size, aim, index_name, walk, buf, out, given,
-        );
+        let came = walk_on(rt, file, name, size, aim, index_name, walk, buf, out, given);
         let Came::On(next) = came else {
             return came;
         };
@@ -259,13 +251,7 @@ fn judge_rest(file: &File, index_name: &[u8], last: Position, end: End) -> Judge
 }
 
 // Checks an open index against an open recording.
-fn judge_open(
-    rt: &HostRuntime,
-    file: &File,
-    name: &[u8],
-    index: &File,
-    index_name: &[u8],
-) -> Judged
+fn judge_open(rt: &HostRuntime, file: &File, name: &[u8], index: &File, index_name: &[u8]) -> Judged
     ensures { Judges result × LowJudged result }
 {
     match walk_over(rt, file, name, Aim::Compare(index), index_name) {
@@ -279,13 +265,7 @@ fn judge_open(
 // The same of an index that is as long after it as it was before.
 //
 // Ruled out: a count of records that leaves out those of earlier buffers; a refused frame whose field begins behind the longest recording.
-pub fn judge(
-    rt: &HostRuntime,
-    file: &File,
-    name: &[u8],
-    index: &File,
-    index_name: &[u8],
-) -> Judged
+pub fn judge(rt: &HostRuntime, file: &File, name: &[u8], index: &File, index_name: &[u8]) -> Judged
     ensures { Judges result × LowJudged result }
 {
     let size = files::length_of(index);

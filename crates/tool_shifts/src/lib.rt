@@ -87,13 +87,7 @@ fn slide_on(
     if !files::add(out, out_name, front(buf, slid_by(turn))) {
         return Came::Failed;
     }
-    unless_shorter(
-        rt,
-        file,
-        size,
-        count,
-        stand_after(from, buf, count, turn),
-    )
+    unless_shorter(rt, file, size, count, stand_after(from, buf, count, turn))
 }
 
 // Slides an open recording, which had `size` bytes, to where it ends.
@@ -113,9 +107,7 @@ fn slide_in(
 {
     let mut walk = walks::start();
     loop {
-        let came = slide_on(
-            rt, file, name, size, by, out, out_name, walk, buf, table,
-        );
+        let came = slide_on(rt, file, name, size, by, out, out_name, walk, buf, table);
         let Came::On(next) = came else {
             return came;
         };
@@ -179,14 +171,8 @@ fn shift_open(
     is_replacing: bool,
 ) {
     let mut part = io::buffer();
-    let Some(draft) = named::begin_word(
-        rt,
-        3,
-        out_name,
-        Kind::Packet,
-        is_replacing,
-        &mut part,
-    ) else {
+    let Some(draft) = named::begin_word(rt, 3, out_name, Kind::Packet, is_replacing, &mut part)
+    else {
         return;
     };
     let came = slide_over(rt, file, name, by, &draft.file, out_name);
@@ -207,14 +193,7 @@ fn shift_file(rt: &HostRuntime, by: u64, is_replacing: bool) {
         return;
     }
     if let Some(file) = named::open_word(rt, 2, 3, &name[..n]) {
-        shift_open(
-            rt,
-            &file,
-            &name[..n],
-            by,
-            &out_name[..m],
-            is_replacing,
-        );
+        shift_open(rt, &file, &name[..n], by, &out_name[..m], is_replacing);
         files::close(file);
     }
 }

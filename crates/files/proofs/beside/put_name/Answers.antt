@@ -7,8 +7,8 @@ use Rattle.files.proofs.beside.put_name.Goals as goal
 
 pub returns : goal.returns
 returns c = record {
-      count = simp length-append (omega arith);
-      wrote =
-          wrote-lent _ (wrote-lent _ c.copy.ensures refl c.copy-2.ensures)
-          (simp length-append (omega arith)) c.copy-3.ensures;
-    }
+  count = simp length-append (omega arith);
+  wrote =
+      wrote-lent _ (wrote-lent _ c.copy.ensures refl c.copy-2.ensures)
+      (simp length-append (omega arith)) c.copy-3.ensures;
+}
