@@ -111,7 +111,7 @@ module _ {l : List ℕ} {p room dirt : ℕ} {m : List ℕ} {q c d : ℕ} {found 
     (short : (p + length l ≤ longest) × (dirt ≤ longest)) (long : 8 ≤ length l) (opens : room ≡ 0 → ⊥)
     (inside : Inside l p (room - 1) dirt m q c d)
     (finds : (base : ℕ) (msg : List ℕ) → StandsAt msg (base + q) m
-        → found ≡ extent (room - 1) (q + 4) (node_dirt base msg) (read_element base m q)) where
+    → found ≡ extent (room - 1) (q + 4) (node_dirt base msg) (read_element base m q)) where
   abbrev pub turn_of : Turn
   turn_of = record {
     input = l;
@@ -135,6 +135,6 @@ pub passed : {l : List ℕ} {p room dirt : ℕ} {m : List ℕ} {q c d n next x :
     (short : (p + length l ≤ longest) × (dirt ≤ longest)) (long : 8 ≤ length l) (opens : room ≡ 0 → ⊥)
     (inside : Inside l p (room - 1) dirt m q c d)
     (finds : (base : ℕ) (msg : List ℕ) → StandsAt msg (base + q) m
-        → Tree n next x ≡ extent (room - 1) (q + 4) (node_dirt base msg) (read_element base m q))
+    → Tree n next x ≡ extent (room - 1) (q + 4) (node_dirt base msg) (read_element base m q))
     → Passed (turn_of short long opens inside finds) n next x
 passed short long opens inside finds = tree-passed (turn_of short long opens inside finds) refl

@@ -14,7 +14,6 @@ use Rattle.arguments.proofs.dirty_kept.Goals as goal
 
 none_kept : {all : ℕ} (base : ℕ) (msg ts l : List ℕ) (p : ℕ) → Scans all ts l p → StandsAt msg (base + p) l → all ≡ 0
     → 0 ≡ dirt_of base msg (kept_of (read_args base ts l p))
-
 none_kept base msg ts l p s w z = by-back (back ts) refl
   where
     by-back : (k : Back) → k ≡ back ts → 0 ≡ dirt_of base msg (kept_of (read_args base ts l p))

@@ -19,22 +19,31 @@ pub overflow_add-written : goal.overflow_add-written
 overflow_add-written c =
     let a = c.args in
     let l = c.loop-written in
-    omega (arith, cut_written (cut-turn a.depth a.msg.now a.table.now l.table l.from l.written l.invariant.1 c.requires.msg_value c.loop-written-test.true
-    c.in-Wrote.ensures) refl)
+    omega (
+      arith,
+      cut_written (cut-turn a.depth a.msg.now a.table.now l.table l.from l.written l.invariant.1 c.requires.msg_value c.loop-written-test.true
+          c.in-Wrote.ensures) refl,
+    )
 
 pub overflow_add-from : goal.overflow_add-from
 overflow_add-from c =
     let a = c.args in
     let l = c.loop-written in
-    omega (arith, cut_written (cut-turn a.depth a.msg.now a.table.now l.table l.from l.written l.invariant.1 c.requires.msg_value c.loop-written-test.true
-    c.in-Wrote.ensures) refl)
+    omega (
+      arith,
+      cut_written (cut-turn a.depth a.msg.now a.table.now l.table l.from l.written l.invariant.1 c.requires.msg_value c.loop-written-test.true
+          c.in-Wrote.ensures) refl,
+    )
 
 pub loop-written-smaller : goal.loop-written-smaller
 loop-written-smaller c =
     let a = c.args in
     let l = c.loop-written in
-    omega (arith, cut_written (cut-turn a.depth a.msg.now a.table.now l.table l.from l.written l.invariant.1 c.requires.msg_value c.loop-written-test.true
-    c.in-Wrote.ensures) refl)
+    omega (
+      arith,
+      cut_written (cut-turn a.depth a.msg.now a.table.now l.table l.from l.written l.invariant.1 c.requires.msg_value c.loop-written-test.true
+          c.in-Wrote.ensures) refl,
+    )
 
 pub loop-written-preserved : goal.loop-written-preserved
 loop-written-preserved c =
