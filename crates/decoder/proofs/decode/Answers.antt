@@ -15,5 +15,6 @@ pub write-requires-in-Stopped : goal.write-requires-in-Stopped
 write-requires-in-Stopped c =
     let a = c.args in
     let e = rw c.capacity_of.ensures at c.answer-answer.ensures in
-    fillable {r = Stopped c.in-Stopped.count c.in-Stopped.left c.in-Stopped.dirty c.in-Stopped.refusal c.in-Stopped.frame} a.framing a.depth a.msg.now a.table.now refl
+    fillable {r = Stopped c.in-Stopped.count c.in-Stopped.left c.in-Stopped.dirty c.in-Stopped.refusal c.in-Stopped.frame} a.framing
+    a.depth a.msg.now a.table.now refl
     (sym c.in-Stopped.is ∙ e)

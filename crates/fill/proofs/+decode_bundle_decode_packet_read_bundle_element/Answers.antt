@@ -100,7 +100,8 @@ decode_packet-decode_bundle-requires t c =
 
 pub decode_packet-returns-in-Message : goal.decode_packet-returns-in-Message
 decode_packet-returns-in-Message t c =
-    past-fills (message-past (message-in c.in-Message.ensures c.requires.input_bound) c.message_item-item.ensures) c.decode_message.ensures
+    past-fills (message-past (message-in c.in-Message.ensures c.requires.input_bound) c.message_item-item.ensures)
+    c.decode_message.ensures
 
 pub decode_packet-returns-in-Bundle : goal.decode_packet-returns-in-Bundle
 decode_packet-returns-in-Bundle t c =

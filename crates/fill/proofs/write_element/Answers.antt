@@ -7,7 +7,11 @@ use Rattle.fill.proofs.write_element.Goals as goal
 pub be_u32-size-requires : goal.be_u32-size-requires
 be_u32-size-requires c =
     let a = c.args in
-    omega (arith, element-in {base = a.base} (accepted-size a.base a.input.now a.pos c.requires.packet_accepted refl) c.requires.input_bound)
+    omega (
+      arith,
+      element-in {base = a.base} (accepted-size a.base a.input.now a.pos c.requires.packet_accepted refl)
+          c.requires.input_bound,
+    )
 
 pub slice_bounds-write_held-end : goal.slice_bounds-write_held-end
 slice_bounds-write_held-end c =

@@ -53,7 +53,8 @@ decode_bundle-requires-clause-table_room c =
 
 pub returns-in-Message : goal.returns-in-Message
 returns-in-Message c =
-    past-writes (message-past (message-in c.in-Message.ensures c.requires.input_bound) c.message_item-item.ensures) c.write_held_message.ensures
+    past-writes (message-past (message-in c.in-Message.ensures c.requires.input_bound) c.message_item-item.ensures)
+    c.write_held_message.ensures
 
 pub returns-in-Wrote : goal.returns-in-Wrote
 returns-in-Wrote c =
@@ -61,7 +62,8 @@ returns-in-Wrote c =
 
 pub returns-in-Nothing : goal.returns-in-Nothing
 returns-in-Nothing c =
-    absurd (fills-some c.requires.packet_accepted (past-fills (bundle-past (bundle-in c.in-Bundle.ensures c.requires.input_bound)) c.in-Nothing.ensures) refl)
+    absurd (fills-some c.requires.packet_accepted (past-fills (bundle-past
+    (bundle-in c.in-Bundle.ensures c.requires.input_bound)) c.in-Nothing.ensures) refl)
 
 pub returns-in-Refused : goal.returns-in-Refused
 returns-in-Refused c = absurd (accepted-not c.requires.packet_accepted (starts-refused _ _ _ c.in-Refused.ensures))

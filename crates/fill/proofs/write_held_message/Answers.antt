@@ -38,7 +38,8 @@ put_message-requires-clause-table_room c =
 pub overflow_add-count : goal.overflow_add-count
 overflow_add-count c =
     let t = types-in (sym c.find_osc_string-types.ensures) c.requires.input_bound in
-    let k = counted-known c.args.item t c.tags_in-tags.ensures c.requires.packet_accepted (c.count_accepted-count.ensures c.args.base _ _) in
+    let k = counted-known c.args.item t c.tags_in-tags.ensures c.requires.packet_accepted
+    (c.count_accepted-count.ensures c.args.base _ _) in
     omega (arith, past_room (args-past c.args.item t c.tags_in-tags.ensures) c.requires.table_room, k)
 
 pub put_message-requires-clause-known : goal.put_message-requires-clause-known
@@ -51,6 +52,7 @@ returns c =
     let t = types-in (sym c.find_osc_string-types.ensures) c.requires.input_bound in
     past-writes (args-past c.args.item t c.tags_in-tags.ensures)
     (record {
-      known = counted-known c.args.item t c.tags_in-tags.ensures c.requires.packet_accepted (c.count_accepted-count.ensures c.args.base _ _);
+      known = counted-known c.args.item t c.tags_in-tags.ensures c.requires.packet_accepted
+          (c.count_accepted-count.ensures c.args.base _ _);
       table = c.put_message.ensures;
     })

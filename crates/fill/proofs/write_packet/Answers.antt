@@ -54,7 +54,8 @@ write_bundle-requires-clause-known c = past-known (bundle-past (bundle-in c.in-B
 
 pub returns-in-Message : goal.returns-in-Message
 returns-in-Message c =
-    past-stored (message-past (message-in c.in-Message.ensures c.requires.input_bound) c.message_item-item.ensures) _ _ c.write_message.ensures
+    past-stored (message-past (message-in c.in-Message.ensures c.requires.input_bound) c.message_item-item.ensures) _ _
+    c.write_message.ensures
 
 pub returns-in-Bundle : goal.returns-in-Bundle
 returns-in-Bundle c = past-stored (bundle-past (bundle-in c.in-Bundle.ensures c.requires.input_bound)) _ _ c.write_bundle.ensures

@@ -152,19 +152,24 @@ measure_packet-measure_message-requires t c =
     )
 
 pub measure_packet-slice_bounds-dirty_in-count-in-Bundle : goal.measure_packet-slice_bounds-dirty_in-count-in-Bundle
-measure_packet-slice_bounds-dirty_in-count-in-Bundle t c = let m = (found_in _ _ (bundle-text _ _ c.in-Bundle.ensures)) in omega (arith, m.0, m.1)
+measure_packet-slice_bounds-dirty_in-count-in-Bundle t c = let m = (found_in _ _ (bundle-text _ _ c.in-Bundle.ensures)) in omega
+    (arith, m.0, m.1)
 
 pub measure_packet-slice_bounds-dirty_in-start-in-Bundle : goal.measure_packet-slice_bounds-dirty_in-start-in-Bundle
-measure_packet-slice_bounds-dirty_in-start-in-Bundle t c = let m = (found_in _ _ (bundle-text _ _ c.in-Bundle.ensures)) in omega (arith, m.0, m.1)
+measure_packet-slice_bounds-dirty_in-start-in-Bundle t c = let m = (found_in _ _ (bundle-text _ _ c.in-Bundle.ensures)) in omega
+    (arith, m.0, m.1)
 
 pub measure_packet-slice_bounds-dirty_in-end-in-Bundle : goal.measure_packet-slice_bounds-dirty_in-end-in-Bundle
-measure_packet-slice_bounds-dirty_in-end-in-Bundle t c = let m = (found_in _ _ (bundle-text _ _ c.in-Bundle.ensures)) in omega (arith, m.0, m.1)
+measure_packet-slice_bounds-dirty_in-end-in-Bundle t c = let m = (found_in _ _ (bundle-text _ _ c.in-Bundle.ensures)) in omega
+    (arith, m.0, m.1)
 
 pub measure_packet-slice_bounds-measure_bundle-count : goal.measure_packet-slice_bounds-measure_bundle-count
-measure_packet-slice_bounds-measure_bundle-count t c = let m = (found_in _ _ (bundle-text _ _ c.in-Bundle.ensures)) in omega (arith, m.0, m.1)
+measure_packet-slice_bounds-measure_bundle-count t c = let m = (found_in _ _ (bundle-text _ _ c.in-Bundle.ensures)) in omega
+    (arith, m.0, m.1)
 
 pub measure_packet-slice_bounds-measure_bundle-start : goal.measure_packet-slice_bounds-measure_bundle-start
-measure_packet-slice_bounds-measure_bundle-start t c = let m = (found_in _ _ (bundle-text _ _ c.in-Bundle.ensures)) in omega (arith, m.0, m.1)
+measure_packet-slice_bounds-measure_bundle-start t c = let m = (found_in _ _ (bundle-text _ _ c.in-Bundle.ensures)) in omega
+    (arith, m.0, m.1)
 
 pub measure_packet-dirty_in-dirt-requires-in-Bundle : goal.measure_packet-dirty_in-dirt-requires-in-Bundle
 measure_packet-dirty_in-dirt-requires-in-Bundle t c =

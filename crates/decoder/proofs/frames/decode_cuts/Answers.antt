@@ -21,7 +21,8 @@ overflow_add-written c =
     let l = c.loop-written in
     omega (
       arith,
-      cut_written (cut-turn a.depth a.msg.now a.table.now l.table l.from l.written l.invariant.1 c.requires.msg_value c.loop-written-test.true
+      cut_written (cut-turn a.depth a.msg.now a.table.now l.table l.from l.written l.invariant.1 c.requires.msg_value
+          c.loop-written-test.true
           c.in-Wrote.ensures) refl,
     )
 
@@ -31,7 +32,8 @@ overflow_add-from c =
     let l = c.loop-written in
     omega (
       arith,
-      cut_written (cut-turn a.depth a.msg.now a.table.now l.table l.from l.written l.invariant.1 c.requires.msg_value c.loop-written-test.true
+      cut_written (cut-turn a.depth a.msg.now a.table.now l.table l.from l.written l.invariant.1 c.requires.msg_value
+          c.loop-written-test.true
           c.in-Wrote.ensures) refl,
     )
 
@@ -41,7 +43,8 @@ loop-written-smaller c =
     let l = c.loop-written in
     omega (
       arith,
-      cut_written (cut-turn a.depth a.msg.now a.table.now l.table l.from l.written l.invariant.1 c.requires.msg_value c.loop-written-test.true
+      cut_written (cut-turn a.depth a.msg.now a.table.now l.table l.from l.written l.invariant.1 c.requires.msg_value
+          c.loop-written-test.true
           c.in-Wrote.ensures) refl,
     )
 
@@ -49,7 +52,8 @@ pub loop-written-preserved : goal.loop-written-preserved
 loop-written-preserved c =
     let a = c.args in
     let l = c.loop-written in
-    let w = cut_written (cut-turn a.depth a.msg.now a.table.now l.table l.from l.written l.invariant.1 c.requires.msg_value c.loop-written-test.true
+    let w = cut_written (cut-turn a.depth a.msg.now a.table.now l.table l.from l.written l.invariant.1 c.requires.msg_value
+    c.loop-written-test.true
     c.in-Wrote.ensures) refl in
     (w.within, w.listing)
 
@@ -57,7 +61,8 @@ pub returns-in-Nothing : goal.returns-in-Nothing
 returns-in-Nothing c =
     let a = c.args in
     let l = c.loop-written in
-    absurd (cut-not-nothing a.depth a.msg.now a.table.now l.table l.from l.written l.invariant.1 c.requires.msg_value c.loop-written-test.true
+    absurd (cut-not-nothing a.depth a.msg.now a.table.now l.table l.from l.written l.invariant.1 c.requires.msg_value
+    c.loop-written-test.true
     c.in-Nothing.ensures refl)
 
 pub returns : goal.returns

@@ -49,5 +49,6 @@ returns-in-Rosc c =
 pub returns-in-Standard : goal.returns-in-Standard
 returns-in-Standard c =
     let w = fillable-by (c.in-Tcp.is ∙ ap Tcp c.in-Standard.is) c.args.depth c.args.msg.now c.requires in
-    one-stored c.args.depth c.args.msg.now c.args.table.now (c.in-Tcp.is ∙ ap Tcp c.in-Standard.is) (tcp2-tree c.args.depth c.args.msg.now w.accepted)
+    one-stored c.args.depth c.args.msg.now c.args.table.now (c.in-Tcp.is ∙ ap Tcp c.in-Standard.is)
+    (tcp2-tree c.args.depth c.args.msg.now w.accepted)
     c.decode_cut.ensures.table
