@@ -15,7 +15,7 @@ loop-seen-preserved c =
     let within : c.loop-seen.seen < length l = omega arith in (
       search rules,
       elim c.if-is_stop.branch [
-        then-is_stop w ↦ w.any-is ∙ met nul l c.loop-seen.seen within (sym c.is_stop.ensures ∙ w.if-is_stop.true)
+        | then-is_stop w ↦ w.any-is ∙ met nul l c.loop-seen.seen within (sym c.is_stop.ensures ∙ w.if-is_stop.true)
         | else-is_stop w ↦ w.any-is ∙ c.loop-seen.invariant.1 ∙ not-met nul l c.loop-seen.seen within (sym c.is_stop.ensures ∙ w.if-is_stop.false)
       ],
     )

@@ -15,7 +15,7 @@ loop-i-preserved c =
     let within : c.loop-i.i < length l = omega arith in (
       search rules,
       elim c.if-is_stop.branch [
-        then-is_stop w ↦ w.any-is ∙ met special l c.loop-i.i within (sym c.is_stop.ensures ∙ w.if-is_stop.true)
+        | then-is_stop w ↦ w.any-is ∙ met special l c.loop-i.i within (sym c.is_stop.ensures ∙ w.if-is_stop.true)
         | else-is_stop w ↦ w.any-is ∙ c.loop-i.invariant.1 ∙ not-met special l c.loop-i.i within (sym c.is_stop.ensures ∙ w.if-is_stop.false)
       ],
     )

@@ -9,4 +9,4 @@ returns-in-Tag c =
     let a = c.args in
     c.unix_of.ensures
     ∙ returned-tag a.rule a.seconds a.nanos _
-        (sym (c.in-Tag.ensures ∙ ap (λ (z : ℤ). tag_for a.rule z a.nanos) (to_z-of_z c.ranges.seconds)))
+    (sym (c.in-Tag.ensures ∙ ap (λ (z : ℤ). tag_for a.rule z a.nanos) (to_z-of_z c.ranges.seconds)))

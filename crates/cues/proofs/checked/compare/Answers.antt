@@ -11,12 +11,11 @@ returns-then-not-same c =
     (λ z. false≢true (sym c.if-not-same.true ∙ c.same.ensures.1 (c.entry_at.ensures ∙ z ∙ sym c.entry_at-in-loop-k.ensures)))
 
 pub loop-k-preserved : goal.loop-k-preserved
-loop-k-preserved c =
-    (
-      search rules,
-      passed-at c.args.fresh.now c.args.given.now c.loop-k.k c.loop-k.invariant.1 (search rules)
-          (sym c.entry_at.ensures ∙ c.same.ensures.0 c.if-not-same.false ∙ c.entry_at-in-loop-k.ensures),
-    )
+loop-k-preserved c = (
+  search rules,
+  passed-at c.args.fresh.now c.args.given.now c.loop-k.k c.loop-k.invariant.1 (search rules)
+      (sym c.entry_at.ensures ∙ c.same.ensures.0 c.if-not-same.false ∙ c.entry_at-in-loop-k.ensures),
+)
 
 pub returns : goal.returns
 returns c =
