@@ -1,14 +1,14 @@
 -- A turn, from what the step says of the first bytes of the buffer.
-use mathlib.Core.Path.{◌≡◌, refl, ap, sym, subst, ◌∙◌}
+use mathlib.Core.Path.{◌≡◌, ap, sym, subst, ◌∙◌}
 use mathlib.Core.Bool.{Bool, true, false, cond}
-use mathlib.Core.List.{List, [], ◌∷◌, ◌++◌, append_assoc}
-use Prim.Native.Nat.{ℕ, ◌+◌, ◌-◌, ◌<◌, ◌≤◌}
+use mathlib.Core.List.{List, ◌++◌, append_assoc}
+use Prim.Native.Nat.{ℕ, ◌+◌, ◌-◌, ◌≤◌}
 use native.Mathlib.Nat.{sub-zero}
 use native.Mathlib.Omega.{arith}
 use borrow.Author.Tests.{le-leb}
 use lib.Dec.{ltb}
-use lib.ListN.{length, take, drop, length-append, length-drop, take-append-drop}
-use lib.Seq.{take_at, drop_at, drop-drop, length-take-le, take-append-le, drop-append-le}
+use lib.ListN.{length, take, drop, take-append-drop}
+use lib.Seq.{take_at, drop_at, length-take-le, drop-append-le}
 use borrow.Rule.Slice.PartMut.{put_mid}
 use Rattle.refusal.specs.declared.Refusal.{Refusal}
 use Rattle.wire.specs.Limits.{longest}
@@ -21,7 +21,7 @@ use Rattle.slides.proofs.Files.{sliding-sound, same_long}
 use Rattle.slide_steps.specs.Steps.{table_size, slide_done, Slides}
 use Rattle.slide_steps.specs.declared.Slide.{Slide}
 use Rattle.slide_steps.specs.declared.Slide.TheVariants as slide
-use Rattle.slide_steps.proofs.Walks.{step_is, step-front, slide-moved}
+use Rattle.slide_steps.proofs.Walks.{step_is, slide-moved}
 use Rattle.slide_walks.specs.Turns.{Turns}
 use Rattle.slide_walks.specs.declared.Turn.{Turn}
 use Rattle.slide_walks.specs.declared.Turn.TheVariants.{On, Ended}
