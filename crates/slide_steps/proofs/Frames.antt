@@ -13,12 +13,12 @@ use Rattle.wire.specs.Limits.{longest}
 use Rattle.wire.proofs.Parts.{lent, given_back}
 use Rattle.results.specs.declared.End.{End}
 use Rattle.results.specs.declared.End.TheVariants as end
-use Rattle.folding.specs.Folding.{Verdict, takes, waits, refuses, Fold, folded, with_sum, fold_of, sum_in, Inside}
+use Rattle.folding.specs.Folding.{Verdict, takes, waits, refuses, Fold, folded, with_sum, sum_in, Inside}
 use Rattle.folding.proofs.Knot.{fold-eq, fold-by}
 use Rattle.folding.proofs.Cut.{sum-none, sum_twice}
 use Rattle.slides.specs.Slides.{sliding, slide_of}
 use Rattle.slides.proofs.Files.{sliding-sound, taken-long}
-use Rattle.slide_steps.specs.Steps.{table_size, slide_done, slide_leaves, Slides, front_of, front_leaves, FrontSlides}
+use Rattle.slide_steps.specs.Steps.{table_size, slide_done, Slides, front_of, front_leaves, FrontSlides}
 use Rattle.slide_steps.specs.declared.Front.{Front}
 use Rattle.slide_steps.specs.declared.Front.TheVariants as front
 use Rattle.slide_steps.specs.declared.Slide.{Slide}

@@ -1,24 +1,22 @@
 -- The frame at the front, decoded and slid.
 use mathlib.Core.Path.{◌≡◌, refl, ap, sym, subst, ◌∙◌}
-use mathlib.Core.List.{List, [], ◌++◌}
-use Prim.Native.Nat.{ℕ, ◌+◌, ◌-◌, ◌*◌, ◌/◌, ◌<◌, ◌≤◌}
+use mathlib.Core.List.{List, ◌++◌}
+use Prim.Native.Nat.{ℕ, ◌-◌, ◌*◌, ◌<◌, ◌≤◌}
 use native.Mathlib.Nat.{sub-zero}
 use native.Mathlib.Omega.{arith}
-use lib.ListN.{length, get_or, take, drop, length-take}
-use lib.Seq.{length-take-le}
+use lib.ListN.{length, get_or, take, drop}
 use borrow.Rule.Slice.PartMut.{put_mid}
 use Rattle.edition.specs.declared.Edition.TheVariants.{Standard}
 use Rattle.edition.specs.declared.Framing.TheVariants.{Tcp}
 use Rattle.refusal.specs.declared.Refusal.{Refusal}
 use Rattle.wire.specs.Limits.{longest, deepest}
-use Rattle.node.specs.Forest.{Forest, nil, node, size}
+use Rattle.node.specs.Forest.{Forest, nil, node}
 use Rattle.node.specs.Records.{record_size, capacity}
-use Rattle.packet.specs.Packet.{one}
-use Rattle.framing.specs.Framing.{cut_frame, read, first, tcp2, rule_of}
+use Rattle.framing.specs.Framing.{first, tcp2, rule_of}
 use Rattle.answering.specs.Limits.{decoded, tabled, forest_of, Decodes}
 use Rattle.results.specs.declared.Decoded.{Decoded}
 use Rattle.results.specs.declared.Decoded.TheVariants as answer
-use Rattle.folding.specs.Folding.{Verdict, takes, waits, refuses}
+use Rattle.folding.specs.Folding.{takes, waits, refuses}
 use Rattle.folding.proofs.Settled.{GivenAlone, given-alone}
 use Rattle.cues.specs.Cues.{most_in_a_cue}
 use Rattle.calls.specs.Words.{Gives}
@@ -28,8 +26,7 @@ use Rattle.given.proofs.Encodable.Tables.{gives_trees}
 use Rattle.slides.specs.Slides.{slid_bytes}
 use Rattle.slides.specs.CodeSlides.{slid_records, RecordsFit}
 use Rattle.slides.proofs.Slid.{FrameIs, place-room}
-use Rattle.slide_steps.specs.Steps.{table_size, front_of, front_leaves, FrontSlides}
-use Rattle.slide_steps.specs.declared.Front.{Front}
+use Rattle.slide_steps.specs.Steps.{table_size, FrontSlides}
 use Rattle.slide_steps.specs.declared.Front.TheVariants as front
 use Rattle.slide_steps.proofs.Judged.{row-slides, row_fits, Accepts, SaysOf, answer-says}
 

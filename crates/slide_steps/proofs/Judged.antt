@@ -1,44 +1,37 @@
 -- The frame at the front, from the answer of the decoder of one frame: what a slide's judge says of it, and its records.
 use mathlib.Core.Path.{◌≡◌, refl, ap, sym, subst, ◌∙◌}
-use mathlib.Core.Bool.{true}
-use mathlib.Core.Logic.{◌⊎◌, inl, inr, ⊎_elim}
-use mathlib.Core.List.{List, ◌++◌}
-use Prim.Native.Nat.{ℕ, zero, suc, ◌+◌, ◌-◌, ◌*◌, ◌/◌, ◌<◌, ◌≤◌}
+use mathlib.Core.Logic.{inl, inr, ⊎_elim}
+use mathlib.Core.List.{List}
+use Prim.Native.Nat.{ℕ, zero, suc, ◌+◌, ◌-◌, ◌<◌, ◌≤◌}
 use native.Mathlib.Nat.{eq-or-lt_of_le}
 use native.Mathlib.Omega.{arith}
 use borrow.Author.Tests.{le-leb}
 use lib.Dec.{leb}
-use lib.ListN.{length, get_or, take, drop}
-use Rattle.edition.specs.declared.Edition.TheVariants.{Standard}
-use Rattle.edition.specs.declared.Framing.TheVariants.{Tcp}
+use lib.ListN.{length, take}
 use Rattle.refusal.specs.Refusal.{moved_by}
 use Rattle.refusal.specs.declared.Fault.{Fault}
 use Rattle.refusal.specs.declared.Fault.TheVariants.{Empty, Short, NotUtf8, BadStart, NotOpen, UnknownTag, NotScalar}
-use Rattle.refusal.specs.declared.Refusal.{Refusal}
 use Rattle.refusal.specs.declared.Refusal.TheVariants.{Unreadable}
 use Rattle.wire.specs.Limits.{longest, deepest}
 use Rattle.wire.proofs.Choices.{by-test, lt-or-le}
 use Rattle.node.specs.Forest.{Forest, nil, node, size}
-use Rattle.node.specs.Records.{end_at, item_at, capacity}
+use Rattle.node.specs.Records.{end_at, item_at}
 use Rattle.node.specs.declared.record.Item.{Item}
 use Rattle.table.specs.Tree.{Spans}
 use Rattle.table.proofs.Spanned.{spans-size}
 use Rattle.packet.specs.Packet.{fault, one}
-use Rattle.framing.specs.Framing.{Frame, wait, read, refused, cut_frame, first, tcp2, rule_of}
+use Rattle.framing.specs.Framing.{Frame, wait, read, refused, cut_frame, first, tcp2}
 use Rattle.framing.proofs.FrameKnot.{FrameIn, cut_in}
 use Rattle.rosc_inputs.proofs.Totals.{one-tree, one_size}
 use Rattle.standard_inputs.proofs.Cuts.{Shallow, cut-shallow}
-use Rattle.answering.specs.Limits.{bounded, limited, decoded, forest_of, Decodes}
+use Rattle.answering.specs.Limits.{limited, decoded}
 use Rattle.results.specs.declared.Decoded.{Decoded}
 use Rattle.results.specs.declared.Decoded.TheVariants as answer
-use Rattle.folding.specs.Folding.{Verdict, takes, waits, refuses}
+use Rattle.folding.specs.Folding.{takes, waits, refuses}
 use Rattle.folding.specs.Frames.{judged}
 use Rattle.cues.specs.Cues.{recorded, most_in_a_cue}
-use Rattle.calls.specs.Words.{Gives}
-use Rattle.given.proofs.Encodable.Tables.{gives_trees}
-use Rattle.slides.specs.Slides.{has_time, time_place, slide_one, slid_bytes, slide_adds, sliding}
-use Rattle.slides.specs.CodeSlides.{slid_records, TimeFits, RecordsFit}
-use Rattle.slides.proofs.Slid.{FrameIs, place-room}
+use Rattle.slides.specs.Slides.{time_place, slide_one, slid_bytes, slide_adds, sliding}
+use Rattle.slides.specs.CodeSlides.{slid_records, TimeFits}
 use Rattle.slides.proofs.Times.{TimeAt}
 
 -- ---- the records of a tree

@@ -1,15 +1,13 @@
 -- A step tells the fold of its buffer, wherever that stands; so every program that repeats it slides the whole recording.
 use mathlib.Core.Path.{◌≡◌, refl, ap, sym, subst, ◌∙◌}
-use mathlib.Core.List.{List, [], ◌++◌}
+use mathlib.Core.List.{List}
 use Prim.Native.Nat.{ℕ, ◌+◌}
 use native.Mathlib.Nat.{add_assoc, add-zero, sub-zero}
 use native.Mathlib.Omega.{arith}
-use borrow.Author.Tests.{le-leb}
 use lib.Dec.{leb}
 use lib.ListN.{length, take, drop}
 use lib.Seq.{take_at}
 use mathlib.Core.Bool.{Bool, true, false, cond}
-use Rattle.refusal.specs.declared.Refusal.{Refusal}
 use Rattle.refusal.specs.declared.Refusal.TheVariants.{TooLong, OutputShort}
 use Rattle.wire.specs.Limits.{longest, deepest}
 use Rattle.packet.specs.Packet.{fault, one}

@@ -1,5 +1,4 @@
 -- `slide_steps::slide_front` meets its contract: the answer of the decoder of one frame, whose records are those of the frame's tree.
-use native.Mathlib.Omega.{arith}
 use borrow.Author.Rules.{rules}
 use Prim.Native.Nat.{◌-◌}
 use lib.ListN.{length}

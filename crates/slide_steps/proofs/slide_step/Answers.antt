@@ -5,5 +5,5 @@ use Rattle.slide_steps.proofs.slide_step.Goals as goal
 
 pub returns : goal.returns
 returns c =
-    step-slides c.slide_frames.ensures c.if-bytes-gt-LONGEST.false (length-take-le 65520 c.args.table.now c.if-table-lt-TABLE_SIZE.false)
+    step-slides c.slide_frames.ensures c.if-bytes-gt-LONGEST.false (length-take-le _ c.args.table.now c.if-table-lt-TABLE_SIZE.false)
     c.if-table-lt-TABLE_SIZE.false
