@@ -1,14 +1,14 @@
 -- What a decoder's answer says of the records that are kept.
 use mathlib.Core.Path.{◌≡◌, refl, sym, ap, ◌∙◌}
-use mathlib.Core.List.{List, [], ◌∷◌, ◌++◌, append_assoc}
-use Prim.Native.Nat.{ℕ, ◌+◌, ◌-◌, ◌*◌, ◌/◌, ◌≤◌, ◌<◌}
+use mathlib.Core.List.{List, ◌++◌, append_assoc}
+use Prim.Native.Nat.{ℕ, ◌-◌, ◌*◌, ◌≤◌}
 use native.Mathlib.Omega.{arith}
 use native.Mathlib.Nat.{mul-div_cancel, le-div_iff_mul-le}
-use lib.ListN.{length, take, drop, length-append, length-take}
-use lib.Seq.{take_at, take_all, length-take-le}
+use lib.ListN.{length, take, drop, length-append}
+use lib.Seq.{take_at, length-take-le}
 use borrow.Rule.Slice.PartMut.{mid_of}
 use Rattle.io.specs.Counts.{IsPrefixLen}
-use Rattle.node.specs.Forest.{Forest, nil, size}
+use Rattle.node.specs.Forest.{Forest, size}
 use Rattle.node.specs.Records.{record_size, most_records, records_of, capacity, stored}
 use Rattle.node.proofs.Recorded.{length-records}
 use Rattle.framing.specs.Framing.{Whole, trees, waiting, refusal, stopped}

@@ -1,14 +1,14 @@
 -- The roots of a table, one after another.
 use mathlib.Core.Path.{◌≡◌, refl, sym, ap, ◌∙◌}
-use mathlib.Core.List.{List, [], ◌∷◌, ◌++◌, append_assoc}
-use Prim.Native.Nat.{ℕ, ◌+◌, ◌*◌, ◌^◌, ◌≤◌, ◌<◌}
+use mathlib.Core.List.{List, ◌++◌, append_assoc}
+use Prim.Native.Nat.{ℕ, ◌+◌, ◌^◌, ◌≤◌, ◌<◌}
 use native.Mathlib.Omega.{arith}
 use lib.ListN.{length, drop}
 use lib.Seq.{drop-drop, drop_at}
 use Rattle.wire.specs.Number.{number, bytes}
 use Rattle.wire.proofs.Numbers.{read-written}
 use Rattle.node.specs.Forest.{Forest, nil, node, size}
-use Rattle.node.specs.Records.{record_size, record_start, most_records, record_of, records_of, field_at, end_at}
+use Rattle.node.specs.Records.{record_size, record_start, record_of, records_of, field_at, end_at}
 use Rattle.node.specs.declared.record.Item.{Item}
 use Rattle.node.proofs.Recorded.{length-record, length-records}
 use Rattle.outcomes.specs.Kept.{roots_of}

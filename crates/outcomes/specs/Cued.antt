@@ -1,5 +1,5 @@
 -- What the program says of the cue index of a recording: the check of a part, and a cue asked for.
-use Rattle.std.specs.Prelude.{Bool, true, false, ◌≡◌, List, ℕ, ◌+◌, ◌<◌, ◌≤◌, ltb, length}
+use Rattle.std.specs.Prelude.{Bool, true, false, ◌≡◌, List, ℕ, ◌+◌, ◌≤◌, ltb, length}
 use Rattle.refusal.specs.declared.Refusal.TheVariants.{BadTable}
 use Rattle.cues.specs.Checks.{compared, numbered_from}
 use Rattle.results.specs.declared.Checked.{Checked}

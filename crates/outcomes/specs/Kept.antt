@@ -1,7 +1,6 @@
 -- What a command keeps of an answer.
-use Rattle.std.specs.Prelude.{Bool, true, false, List, [], ℕ, ◌+◌}
+use Rattle.std.specs.Prelude.{Bool, true, false, List, ℕ, ◌+◌}
 use Rattle.node.specs.Forest.{Forest, nil, node}
-use Rattle.node.specs.Records.{records_of}
 use Rattle.results.specs.declared.Decoded.{Decoded}
 use Rattle.results.specs.declared.Decoded.TheVariants as decoded
 use Rattle.encoder.specs.Outcome.{unframed, framed_by}

@@ -1,5 +1,4 @@
 -- `outcomes::encoded` meets its contract: each of the two calls says the same.
-use borrow.Author.Rules.{rules}
 use Rattle.outcomes.proofs.encoded.Goals as goal
 
 pub returns-in-Alone : goal.returns-in-Alone
