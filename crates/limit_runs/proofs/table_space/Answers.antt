@@ -1,0 +1,7 @@
+-- `limit_runs::table_space` meets its contract: so many zeros are so long.
+use Rattle.std.proofs.Common.{ℕ, sym}
+use Rattle.std.proofs.lemmas.List.{length-replicate}
+use Rattle.limit_runs.proofs.table_space.Goals as goal
+
+pub returns : goal.returns
+returns c = sym (length-replicate {0} {A = ℕ} 1310800 0)
