@@ -1,9 +1,9 @@
 -- Bytes that are moved to the front of their buffer, one by one.
-use mathlib.Core.Path.{◌≡◌, refl, ap, sym, ◌∙◌}
+use mathlib.Core.Path.{◌≡◌, ap, sym, ◌∙◌}
 use mathlib.Core.List.{List}
-use Prim.Native.Nat.{ℕ, ◌+◌, ◌-◌, ◌<◌, ◌≤◌}
+use Prim.Native.Nat.{ℕ, ◌+◌, ◌<◌, ◌≤◌}
 use native.Mathlib.Omega.{arith}
-use borrow.Author.Count.{below_more, below_none}
+use borrow.Author.Count.{below_more}
 use lib.ListN.{length, get_or, set, take, drop, length-take, length-drop}
 use lib.Seq.{get_or-set_same, get_or-set_other, get_or-take, get_or-drop, ext_get_or}
 use Rattle.walks.specs.CodeWalks.{RestKept}
@@ -23,8 +23,8 @@ moved_more from buf₀ buf i j h e w = (
 )
 
 -- where all are moved, they are the front of the buffer
-pub moved_all : (from to : ℕ) (buf₀ buf : List ℕ) (i : ℕ) → length buf ≡ length buf₀ → to ≤ length buf₀ → to ≡ from + i → Moved from buf₀ buf i
-    → RestKept from to buf₀ buf i
+pub moved_all : (from to : ℕ) (buf₀ buf : List ℕ) (i : ℕ) → length buf ≡ length buf₀ → to ≤ length buf₀ → to ≡ from + i
+    → Moved from buf₀ buf i → RestKept from to buf₀ buf i
 moved_all from to buf₀ buf i same h e w = record {
   count = omega arith;
   bytes = ext_get_or 0 (take i buf) (drop from (take to buf₀))

@@ -1,25 +1,24 @@
 -- What a step over a buffer makes of a walk: it goes on, it ends, or the recording is too long.
 use mathlib.Core.Path.{◌≡◌, refl, ap, sym, subst, ◌∙◌}
-use mathlib.Core.Bool.{Bool, true, false, cond, false≢true}
+use mathlib.Core.Bool.{Bool, true, false, false≢true}
 use mathlib.Core.List.{List}
-use Prim.Native.Nat.{ℕ, ◌+◌, ◌-◌, ◌*◌, ◌<◌, ◌≤◌}
+use Prim.Native.Nat.{ℕ, ◌+◌, ◌-◌, ◌*◌, ◌≤◌}
 use native.Mathlib.Omega.{arith}
 use borrow.Author.Tests.{not-true, ltb-false}
 use lib.ListN.{length, take, drop}
 use lib.Seq.{length-take-le}
 use Rattle.refusal.specs.declared.Refusal.{Refusal}
 use Rattle.wire.specs.Limits.{longest}
-use Rattle.cues.specs.Cues.{entry_size, most_entries, longest_recording, Indexes, MayContinue}
+use Rattle.cues.specs.Cues.{entry_size, longest_recording, Indexes, MayContinue}
 use Rattle.results.specs.Ends.{FieldUpTo}
 use Rattle.results.specs.declared.End.{End}
 use Rattle.results.specs.declared.End.TheVariants as end
 use Rattle.results.specs.declared.Indexed.{Indexed}
 use Rattle.results.specs.declared.Indexed.TheVariants.{Written, Refused}
-use Rattle.cues.proofs.Steps.{Stepped, stepped, full-moves, only-far}
-use Rattle.walks.specs.Walks.{LowPosition, LowLast, is_last, reads_on, further, walked_by, WalkStep}
+use Rattle.cues.proofs.Steps.{stepped, full-moves, only-far}
+use Rattle.walks.specs.Walks.{LowPosition, LowLast, is_last, reads_on, further, WalkStep}
 use Rattle.walks.specs.CodeWalks.{CanWalk, RestKept}
 use Rattle.walks.specs.declared.Position.{Position}
-use Rattle.walks.specs.declared.Walked.{Walked}
 use Rattle.walks.specs.declared.Walked.TheVariants.{On, Ended, TooLong}
 
 -- where a recording is read on, no frame was refused, and the buffer is full
@@ -81,7 +80,8 @@ module _ {from : Position} {buf : List ℕ} {count : ℕ} {out : List ℕ} (can 
             field = further-on from.at used (length (take count buf)) why s.field s.low;
           }
 
-      module _ {kept : List ℕ} {k : ℕ} {on : Bool} (rest : RestKept used count buf kept k) (as_said : on ≡ reads_on (is_last count) why) where
+      module _ {kept : List ℕ} {k : ℕ} {on : Bool} (rest : RestKept used count buf kept k)
+          (as_said : on ≡ reads_on (is_last count) why) where
         keeps : take (count - used) kept ≡ drop used (take count buf)
         keeps = ap (λ (j : ℕ). take j kept) (sym rest.count) ∙ rest.bytes
 
