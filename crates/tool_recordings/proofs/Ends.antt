@@ -103,7 +103,7 @@ module _ {aim : Aim} {from : Position} {before kept out after there fresh : List
       by-step walked.TooLong w f e = let z : ◌≡◌ {A = ℕ} 0 1 = cc in absurd (omega arith)
 
 -- every loop
-every : {aim : Aim} {why : End} {from last : Position} {before : List ℕ} {parts : List (List ℕ)}
+every : {aim : Aim} {why : End} {last from : Position} {before : List ℕ} {parts : List (List ℕ)}
     → Looped aim (Ended last why) from before parts → (portions : List (List ℕ)) × Run from before portions parts last why
 every (loops.turns_on t l) = on t (every l).1
 every (loops.turns_last t o) = last_one t
