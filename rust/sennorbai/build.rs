@@ -40,13 +40,19 @@ fn proved(arch: &str) -> PathBuf {
 /// The project that this crate stands in, with the sources of the library. A packaged crate stands in none.
 fn sources(here: &Path) -> Option<PathBuf> {
     let root = here.join("../..");
-    (here.ends_with("rust/sennorbai") && root.join("crates/osc/src/lib.rt").is_file()).then_some(root)
+    (here.ends_with("rust/sennorbai") && root.join("crates/osc_c/src/lib.rt").is_file()).then_some(root)
 }
 
 /// Whether the release is of these sources: its STATE has the checksum that dist/sources prints.
 fn is_of(release: &Path, root: &Path) -> bool {
-    for watched in ["crates.txt", "crates", "dist/sources"] {
+    for watched in ["crates.txt", "dist/sources"] {
         println!("cargo::rerun-if-changed={}", root.join(watched).display());
+    }
+    // Beside these folders a crate has what the kit keeps, which is no source.
+    for folder in std::fs::read_dir(root.join("crates")).into_iter().flatten().flatten() {
+        for watched in ["src", "specs", "proofs"].map(|part| folder.path().join(part)).iter().filter(|part| part.is_dir()) {
+            println!("cargo::rerun-if-changed={}", watched.display());
+        }
     }
     let Ok(state) = std::fs::read_to_string(release.join("STATE")) else { return false };
     let sum = match Command::new(root.join("dist/sources")).output() {
@@ -73,29 +79,35 @@ fn whole(release: PathBuf) -> PathBuf {
 const RESTORE: &str =
     "Restore the folder dist of this crate, in the project by `git checkout dist/x86_64`, or unpack the crate again.";
 
-/// Proves and builds the library of sources that were edited, and answers its folder.
+/// Proves and builds the library of sources that were edited, and answers the folder of a copy. The kit names it after its crate, osc_c.
 fn built(root: &Path) -> PathBuf {
     let why = "these sources are not those of dist/x86_64";
-    match Command::new("rt").args(["staticlib", "osc"]).current_dir(root).status() {
+    let exports = root.join("crates/osc_c");
+    match Command::new("rt").arg("lib").current_dir(&exports).status() {
         Ok(status) if status.success() => {
-            println!("cargo::warning={why}: libosc.a was proved and built anew by `rt staticlib osc`");
-            root.join("target/staticlib")
+            println!("cargo::warning={why}: libosc.a was proved and built anew by `rt lib` in crates/osc_c");
+            copied(&exports.join("out/libosc_c.a"), "the library of crates/osc_c")
         }
-        Ok(status) => stop(&format!("{why}, and `rt staticlib osc` ended with {status}: see what it says")),
+        Ok(status) => stop(&format!("{why}, and `rt lib` in crates/osc_c ended with {status}: see what it says")),
         Err(error) => stop(&format!(
-            "{why}, and `rt staticlib osc`, which proves and builds libosc.a anew, cannot be run: {error}. Undo the edit, or install the \
-             Rattle kit."
+            "{why}, and `rt lib` in crates/osc_c, which proves and builds libosc.a anew, cannot be run: {error}. Undo the edit, or install \
+             the Rattle kit."
         )),
     }
 }
 
-/// Copies the library that is named, and answers the copy's folder.
+/// Answers the folder of a copy of the library that is named.
 fn native(library: &Path) -> PathBuf {
     println!("cargo::rerun-if-changed={}", library.display());
     println!("cargo::warning=linked with {}, which is not the proved library", library.display());
+    copied(library, NATIVE)
+}
+
+/// Copies a library to the folder of this build, as libosc.a, and answers that folder.
+fn copied(library: &Path, what: &str) -> PathBuf {
     let folder = PathBuf::from(set_by_cargo("OUT_DIR"));
     if let Err(error) = std::fs::copy(library, folder.join("libosc.a")) {
-        stop(&format!("{NATIVE}, {}: {error}", library.display()));
+        stop(&format!("{what}, {}: {error}", library.display()));
     }
     folder
 }
