@@ -123,12 +123,12 @@ one-buffer by base kept portion =
     by-fold (folded sum at end.Waiting) = rw (append-nil (drop (at - base) (kept ++ portion)))
     by-fold (folded sum at (end.Refused k)) = refl
 
-through : {by : ℕ} {from last : Position} {before : List ℕ} {parts : List (List ℕ)} {why : End}
+through : {by : ℕ} {why : End} {last from : Position} {before : List ℕ} {parts : List (List ℕ)}
     → SlideLoop by (Ended last why) from before parts
     → (portions : List (List ℕ))
     × (through_buffers (sliding by) from.at (take from.kept before) portions ≡ folded (joined_bytes parts) last.at why)
 unfolding through_buffers joined_bytes
-through {by} {from} {last} {before} {why = why} (slides_on {next = next} {fresh = fresh} {parts = parts} b l) =
+through {by} {why} {last} {from} {before} (slides_on {next = next} {fresh = fresh} {parts = parts} b l) =
     let o = took-on b in
     let t = o.2 in
     let i = through l in
@@ -140,7 +140,7 @@ through {by} {from} {last} {before} {why = why} (slides_on {next = next} {fresh 
           ∙ ap (λ (k : List ℕ). with_sum (sliding by) fresh (through_buffers (sliding by) next.at k i.0)) (sym t.keeps)
           ∙ ap (with_sum (sliding by) fresh) i.1,
     )
-through {by} {from} {last} {before} {why = why} (slides_last {fresh = fresh} b o) =
+through {by} {why} {last} {from} {before} (slides_last {fresh = fresh} b o) =
     let t = took-last b in (
       t.portion ∷ [],
       one-buffer by from.at (take from.kept before) t.portion ∙ t.tells
