@@ -62,7 +62,7 @@ pub record CBoundary : Type 1 where
   pub pad_once : PadOnce
   -- The number that `osc_version` tells has the major, the minor and the patch of the version in bits 32 to 47, 16 to 31 and 0 to 15, and
   -- each part is read back.
-  -- definitions: version/versionNumber
+  -- definitions: version/version_number
   -- code: version/number
   -- laws: version/versions-read-back
   -- edits: version/minor_and_patch_swapped

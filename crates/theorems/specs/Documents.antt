@@ -26,14 +26,14 @@ pub record Document01 : Type 0 where
   pub ends_so : EndsSo
   -- UTF-8 is judged by a small automaton. Its table of classes has for each of the 256 byte values its class: how many of the limits of the
   -- grammar's ranges are at or below it. Proved by one computed test over the whole table.
-  -- definitions: utf8/byteClass, utf8/classes
+  -- definitions: utf8/byte_class, utf8/classes
   -- code: utf8/walk
   -- edits: utf8/c0_classed_with_c2, utf8/class_limit_moved
   pub class_rule : ClassRule
   -- Its table of next states is indexed by state and class, and each byte does one step of RFC 3629's grammar: in each of the 9 states
   -- and on each byte value, the entry is the state that waits for what the grammar's step leaves. Proved by one computed test over the
   -- whole table.
-  -- definitions: utf8/nextOf, utf8/nexts, utf8/wants, utf8/step
+  -- definitions: utf8/next_of, utf8/nexts, utf8/wants, utf8/step
   -- code: utf8/advance, utf8/walk
   -- edits: utf8/surrogate_entry, utf8/c0_classed_with_c2, utf8/f5_begins_a_character, utf8/first_state_kept, utf8/surrogates_let_in
   pub step_rule : StepRule

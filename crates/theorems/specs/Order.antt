@@ -111,7 +111,7 @@ pub record SecondDemand : Type 0 where
   -- edits: demands/comes_back_with_bytes_left
   pub round_trip : RoundTrip
   -- A float comes back bit for bit: both of its numbers are the same (`SameItem`), and they are its bits (`value_of`).
-  -- definitions: standards/SameItem, values/valueOf
+  -- definitions: standards/SameItem, values/value_of
   -- edits: argument/high_half_twice, values/nan_is_infinite
   pub floats_trip : RoundTrip
 

@@ -81,7 +81,7 @@ pub record Ticket2 : Type 0 where
   -- address and its padding; the type text and its padding; the data of each tag, with padding after a text or a blob; after `#bundle` the
   -- time tag. The field that is told is the first that needs more bytes than follow: a text all up to its NUL, a blob its size and its
   -- bytes, padding all up to a multiple of 4, a prefix 4 bytes, a time tag 8. In a list it is a field of a frame that the list reads.
-  -- definitions: calls/needs, calls/dataFields, calls/packetFields, calls/ShortIn, calls/ListShort
+  -- definitions: calls/needs, calls/data_fields, calls/packet_fields, calls/ShortIn, calls/ListShort
   -- edits: text/padding_at_the_text, measure/type_text_at_the_start, measure/elements_fault_told, packet/address_told_as_type_text
   -- edits: argument/blobs_padding_at_its_bytes, rosc_inputs/frame_offset_left_out, standard_inputs/field_from_its_frame
   -- edits: calls/time_tag_of_four_bytes, calls/type_text_after_the_nul
@@ -134,7 +134,7 @@ pub record Ticket5 : Type 0 where
   -- The index of a recording is one record for each accepted frame, in order, of 16 bytes, big-endian: the offset of the prefix, the length
   -- without the prefix, and the records of its table. It goes up to the first frame that is not accepted (depth 64, 3,276 records, or
   -- Waiting), and says where that is and why. A frame is judged as the decoder of one frame answers it.
-  -- definitions: cues/index_of, cues/cueOf, cues/entryOf, cues/Indexes
+  -- definitions: cues/index_of, cues/cue_of, cues/entry_of, cues/Indexes
   -- code: cues/index_step
   -- edits: cues/low_half_first, cues/length_with_its_prefix, cues/cue_of_3277_records
   pub answer_judges : (msg : List ℕ) (count left dirty : ℕ) → length msg ≤ longest
@@ -169,7 +169,7 @@ pub record Ticket5 : Type 0 where
   pub every_check : EveryCheck
   -- A walk over a recording that checks what each step has written, each check going on from the number that the last one answered, answers
   -- in the end as the check of the whole does: how many records the index has, or 25 and the number of the first record that differs.
-  -- definitions: recordings/checkedInParts, check_walk/chained
+  -- definitions: recordings/checked_in_parts, check_walk/chained
   -- edits: check_walk/each_part_from_0, check_walk/given_from_its_start
   pub walk_checks : WalkChecks
   pub walk_tells : WalkTells
@@ -220,7 +220,7 @@ pub record Ticket7 : Type 0 where
   -- of two that are equally near the upper is taken, and no other number is meant by that; nor where the range goes on. No nanoseconds lie
   -- halfway between two fractions, so that halves go up on the way back alone.
   -- laws: clock/no-half
-  -- definitions: clock/Nearest, clock/fractionOf, clock/nanosOf
+  -- definitions: clock/Nearest, clock/fraction_of, clock/nanos_of
   -- edits: clock/halves_down, clock/half_goes_down
   pub fraction_nearest : FractionNearest
   pub nanos_nearest : NanosNearest
@@ -245,7 +245,7 @@ pub record Ticket7 : Type 0 where
   -- then seconds before 1970 with 28, and gives a tag otherwise. `unix_of` refuses with 28 exactly the tags that stay before 1970 after
   -- the carry, and never with 27 or 26; a time that it gives is of 1970 or later, with fewer than 10^9 nanoseconds. Each number is one
   -- refusal.
-  -- definitions: clock/TagCase, clock/Before1970, clock/tagFor, clock/unixFor
+  -- definitions: clock/TagCase, clock/Before1970, clock/tag_for, clock/unix_for
   -- code: clock/tag_of, clock/unix_of
   -- edits: clock/late_before_nanoseconds, clock/carry_does_not_reach_1970, clock/refused_before_the_carry, clock/last_second_too_late
   pub tag_domains : TagDomains
@@ -259,13 +259,13 @@ pub record Ticket7 : Type 0 where
   pub times_agree : TimesAgree
   -- Order is kept within an era, which by rule B is that of the tag's top bit: a higher tag never has an earlier time, and a later time has
   -- a higher tag.
-  -- definitions: clock/eraOf
+  -- definitions: clock/era_of
   -- edits: clock/order_across_the_wrap
   pub order_kept : OrderKept
   pub later_higher : LaterHigher
   -- A tag is shifted modulo 2^64, and a difference is taken around the wrap as a signed number: it is what the old tag is to be shifted by
   -- to give the new one. Tags exactly 2^63 apart give the lowest number.
-  -- definitions: clock/shifted, clock/differenceOf
+  -- definitions: clock/shifted, clock/difference_of
   -- code: clock/shift, clock/difference
   -- edits: clock/opposite_is_the_highest, clock/difference_turned_round, clock/shift_turned_round
   pub difference_shifts : DifferenceShifts
@@ -276,14 +276,14 @@ pub record Ticket8 : Type 0 where
   -- Reading text or a blob also answers how many padding bytes are not zero: for an argument `pass_arg`, beside how many bytes it takes;
   -- for an address, a type text and `#bundle` the call of `dirty_in` that follows its reading (docs/DECISIONS.md, 57). What is counted is
   -- the padding: after the ending NUL of a text, or after a blob's bytes, up to where it ends.
-  -- definitions: text/nonZero, argument/textPadding, argument/argPadding
+  -- definitions: text/non_zero, argument/text_padding, argument/arg_padding
   -- code: scan/pass_arg, text/dirty_in, measure/measure_packet, measure/measure_message
   -- edits: argument/nul_counted_as_padding, text/third_byte_unseen, scan/blobs_dirt_from_its_size, measure/type_texts_dirt_left_out
   pub text_padded : TextPadded
   pub blob_padded : BlobPadded
   -- Every accepted packet comes with the number of its padding bytes that are not zero, counted over all that is kept; a list with the sum.
   -- `decoded` goes by the definition `dirty_in`; five of the misread inputs show it.
-  -- definitions: argument/dirtyIn, answering/decoded
+  -- definitions: argument/dirty_in, answering/decoded
   -- edits: argument/nul_counted_as_padding, text/third_byte_unseen, arguments/lost_dirt_counted, measure/type_texts_dirt_left_out
   -- edits: measure/elements_dirt_left_out, answering/left_told_as_dirt
   pub dirt_cases : Each misread
@@ -310,7 +310,7 @@ pub record Ticket10 : Type 0 where
   -- argument begins where the data of the argument before it ends, with its padding, so that an array, and a tag without data, begin where
   -- the next data does; the first argument of a message begins where the message's data does, unless arguments before it were lost with an
   -- unclosed array. This holds for every framing.
-  -- definitions: given/StartsHold, given/OwnStart, given/numberBytes, given/dataEnd, given/dataAt
+  -- definitions: given/StartsHold, given/OwnStart, given/number_bytes, given/data_end, given/data_at
   -- edits: given/number_a_word_late, given/array_a_word_early, given/data_at_the_type_text, argument/blob_starts_at_its_bytes
   -- edits: arguments/array_begins_with_the_data, arguments/array_begins_at_its_end, fill/bundle_begins_at_its_time
   pub gives_starts : (framing : Framing) → GivesStarts framing
@@ -326,7 +326,7 @@ pub record Ticket13 : Type 0 where
   -- For the shifts of Ticket 7, on all 2^64 values: by zero changes nothing; by x then y equals by x + y modulo 2^64; by x and then its
   -- opposite returns the tag; the difference of the shifted tag from the old one is x read as signed. The functions named here say the same
   -- of the public calls.
-  -- definitions: clock/shifted, clock/signedOf, clock/differenceOf
+  -- definitions: clock/shifted, clock/signed_of, clock/difference_of
   -- code: clock/by_zero, clock/by_two, clock/and_back, clock/difference_of_shift
   -- edits: clock/carry_between_halves_lost, clock/opposite_is_the_complement
   pub by_zero : ByZero
@@ -341,7 +341,7 @@ pub record Ticket13 : Type 0 where
   -- nothing changed, where one of these records does not exist or breaks its own rules, as `look` tests them. By zero a table is the same;
   -- by x then y equals by x + y; two calls, by x and then its opposite, leave the table as it was. The functions named here say it of
   -- the calls.
-  -- definitions: shifts/shiftedRecord, shifts/shiftedTable, shifts/timeTags, shifts/lookable, shifts/Shifts
+  -- definitions: shifts/shifted_record, shifts/shifted_table, shifts/time_tags, shifts/lookable, shifts/Shifts
   -- code: shifts/shift_table, shifts/by_zero, shifts/and_back
   -- edits: shifts/long_shifted, shifts/nested_tag_left, shifts/later_record_looked_at, shifts/shifted_halfway
   -- edits: clock/carry_between_halves_lost
@@ -360,7 +360,7 @@ pub record Ticket13 : Type 0 where
   -- Sliding a recording: a frame that is accepted, with the tag of each `#` and `t` of its tree replaced where it stands, is read as the same
   -- tree with these tags shifted. It has the same length and the same dirty padding, and its bytes differ in tags alone. The recording stops
   -- where its index stops.
-  -- definitions: slides/timePlace, slides/slidForest, slides/slidBytes, slides/slideOf, slides/SlidFrame
+  -- definitions: slides/time_place, slides/slid_forest, slides/slid_bytes, slides/slide_of, slides/SlidFrame
   -- code: slides/slide_records
   -- edits: slides/nested_tag_left, slides/carry_lost, slides/lost_tag_shifted, slides/h_shifted, slides/tag_read_at_bundle_word
   pub frame_slides : FrameSlides
@@ -389,7 +389,7 @@ pub record Ticket14 : Type 0 where
   -- number and field. If none was, the unread remainder followed by the later bytes yields the rest: counts and dirty padding add up; the
   -- list ends in the same way; offsets (the frame's, the field's, `a` of `/`, `s` and `b`, and the fifth number) are moved by the bytes
   -- consumed, and each record's end by the records given before.
-  -- laws: cutting/cut-list, cutting/rest-moved
+  -- laws: cutting/cut_list, cutting/rest-moved
   -- definitions: cutting/CutChangesNothing, cutting/FirstPart, cutting/RefusedAgain, cutting/YieldsRest
   -- edits: cutting/offsets_not_moved, cutting/a_of_an_i_moved, cutting/ends_not_moved, cutting/frame_told_from_the_remainder
   -- edits: cutting/field_told_from_the_remainder, cutting/dirt_of_the_rest_alone, cutting/refused_frame_with_fewer_left
