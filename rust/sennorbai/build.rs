@@ -77,7 +77,7 @@ fn whole(release: PathBuf) -> PathBuf {
 }
 
 const RESTORE: &str =
-    "Restore the folder dist of this crate, in the project by `git checkout dist/x86_64`, or unpack the crate again.";
+    "Restore the folder dist of this crate, in the project by `git checkout rust/sennorbai/dist`, or unpack the crate again.";
 
 /// Proves and builds the library of sources that were edited, and answers the folder of a copy. The kit names it after its crate, osc_c.
 fn built(root: &Path) -> PathBuf {
