@@ -472,8 +472,8 @@ drop=
 # The script's folder may be closed to nobody, so the program is run without it: on another processor than x86-64, as the script runs it.
 by=
 if [ "$(uname -m)" != x86_64 ]; then
-    kit=$(cd "$(dirname "$(readlink -f "$(command -v rt)")")/.." && pwd -P)
-    by="$kit/on/$(uname -m)/toolchain/bin/qemu-x86_64 $kit/toolchain/lib/ld-linux-x86-64.so.2 --library-path $kit/toolchain/lib"
+    kit=$(dirname "$(rt doc)")
+    by="qemu-x86_64 $kit/toolchain/lib/ld-linux-x86-64.so.2 --library-path $kit/toolchain/lib"
 fi
 said=$($drop $by ./osc_tool decode udp message.osc locked/table.bin 2>&1)
 [ "$said" = 'osc: locked/table.bin: Permission denied' ]

@@ -1,6 +1,6 @@
 //! Has the static library linked: the proved one, for x86-64. It is the one that is released with these sources, dist/libosc.a, and needs
 //! no kit. Where the sources beside this crate were edited, the Rattle kit's `rt` proves and builds it anew. For another processor there
-//! is none. There `OSC_NATIVE_LIB` may name one, by its whole path, that tests/native made; it is not a proved one.
+//! is none. There `OSC_NATIVE_LIB` may name one, by its whole path, that tests/native made; it is not a released one.
 
 use std::path::{Path, PathBuf};
 use std::process::{exit, Command};
@@ -99,7 +99,7 @@ fn built(root: &Path) -> PathBuf {
 /// Answers the folder of a copy of the library that is named.
 fn native(library: &Path) -> PathBuf {
     println!("cargo::rerun-if-changed={}", library.display());
-    println!("cargo::warning=linked with {}, which is not the proved library", library.display());
+    println!("cargo::warning=linked with {}, which is not the released library", library.display());
     copied(library, NATIVE)
 }
 
