@@ -83,7 +83,7 @@ const RESTORE: &str =
 fn built(root: &Path) -> PathBuf {
     let why = "these sources are not those of dist/x86_64";
     let exports = root.join("crates/osc_c");
-    match Command::new("rt").arg("lib").current_dir(&exports).status() {
+    match Command::new("rt").args(["lib", "--cpu=x86-64"]).current_dir(&exports).status() {
         Ok(status) if status.success() => {
             println!("cargo::warning={why}: libosc.a was proved and built anew by `rt lib` in crates/osc_c");
             copied(&exports.join("out/libosc_c.a"), "the library of crates/osc_c")
