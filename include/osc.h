@@ -2,8 +2,8 @@
  *
  * No function allocates, keeps a pointer or has a state. Every pointer may be to any bytes, and a length may be 0, with a NULL pointer
  * too; slices that a call may write must not overlap the others. A `uint64_t *` or an `int64_t *` is to one number, aligned as C has
- * it. A call that is refused changes no byte of a slice. Each call ends within 29,264 bytes of stack, an encoder of packets within 14,064,
- * and a call on one record, cue, text, number, time or part of an index within 4,960, whatever it is given (measured by c/stack.c on
+ * it. A call that is refused changes no byte of a slice. Each call ends within 29,456 bytes of stack, an encoder of packets within 14,240,
+ * and a call on one record, cue, text, number, time or part of an index within 5,168, whatever it is given (measured by c/stack.c on
  * x86-64).
  *
  * A node table has records of OSC_RECORD bytes, big-endian: kind (1), three zero bytes, end (4), a (4), b (4), start (4).

@@ -40,7 +40,7 @@
 //!
 //! Depth counts bundles and arrays together: a bundle is one level and so is an array, along the deepest path of a tree; a message
 //! adds none. A decoder is told how deep its trees may be, at most [`DEEPEST`]; an encoder takes a tree of that depth and none
-//! deeper. So no call goes deeper than that either: each ends within 29,264 bytes of stack, whatever it is given.
+//! deeper. So no call goes deeper than that either: each ends within 29,456 bytes of stack, whatever it is given.
 #![cfg_attr(not(feature = "std"), no_std)]
 #![deny(missing_docs, unsafe_code, clippy::undocumented_unsafe_blocks)]
 
