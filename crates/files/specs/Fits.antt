@@ -1,5 +1,5 @@
 -- Whether a file that exists could be what a command writes.
-use Rattle.std.specs.Prelude.{Bool, true, false, cond, List, [], ◌∷◌, ℕ, ◌%◌, eqb, take}
+use Rattle.std.specs.Prelude.{Bool, true, cond, List, [], ◌∷◌, ℕ, ◌%◌, eqb, take}
 use Rattle.wire.specs.Same.{same_bytes}
 use Rattle.troubles.specs.declared.Trouble.TheVariants.{IndexLength, IndexFront, TableLength, TableFront, Exists}
 use Rattle.files.specs.declared.fit.Kind.{Kind}

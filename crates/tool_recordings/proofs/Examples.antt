@@ -3,7 +3,6 @@ use mathlib.Core.Path.{refl}
 use mathlib.Core.List.{[], ◌∷◌}
 use native.Mathlib.Omega.{arith}
 use denote.Ref.{Bor}
-use lib.ListN.{replicate}
 use Rattle.std.specs.declared.fs.File.{File}
 use Rattle.folding.proofs.Examples.{whole-number}
 use Rattle.cues.specs.Checks.{compared_at}

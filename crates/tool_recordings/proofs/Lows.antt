@@ -3,7 +3,7 @@ use mathlib.Core.Path.{◌≡◌, ap, subst, subst⁻¹}
 use mathlib.Core.List.{List}
 use Prim.Native.Nat.{ℕ, ◌≤◌}
 use native.Mathlib.Omega.{arith}
-use lib.ListN.{length, take, length-take}
+use lib.ListN.{length, length-take}
 use Rattle.walks.specs.Walks.{LowPosition, LowLast, LowAfter, WalkStep}
 use Rattle.walks.specs.declared.Position.{Position}
 use Rattle.walks.specs.declared.Walked.{Walked}

@@ -2,10 +2,10 @@
 use mathlib.Core.Path.{◌≡◌, refl, ap, sym, subst, subst⁻¹, ◌∙◌}
 use mathlib.Core.Bool.{Bool, true, false, cond}
 use mathlib.Core.List.{List, [], ◌∷◌, ◌++◌, append-nil}
-use Prim.Native.Nat.{ℕ, ◌+◌, ◌-◌, ◌≤◌}
+use Prim.Native.Nat.{ℕ, ◌+◌, ◌-◌}
 use native.Mathlib.Omega.{arith}
 use lib.Dec.{ltb}
-use lib.ListN.{length, take, drop}
+use lib.ListN.{take, drop}
 use Rattle.wire.specs.Limits.{longest}
 use Rattle.wire.proofs.Choices.{by-test}
 use Rattle.results.specs.declared.End.{End}
@@ -24,7 +24,7 @@ use Rattle.slide_walks.specs.declared.Turn.{Turn}
 use Rattle.slide_walks.specs.declared.Turn.TheVariants as turn
 use Rattle.tool_walks.specs.Runs.{BufferHolds}
 use Rattle.tool_recordings.specs.declared.Came.{Came}
-use Rattle.tool_recordings.specs.declared.Came.TheVariants.{On, Ended, Differs, Failed}
+use Rattle.tool_recordings.specs.declared.Came.TheVariants.{On, Ended}
 use Rattle.tool_shifts.specs.Slid.{slid_by, after_bytes, came_after, StandsAfter, SlidBuffer, slide_fails, slid_buffer}
 use Rattle.tool_shifts.specs.Slid.{SlideLoop, slides_on, slides_last, LoopSlides}
 
