@@ -1,5 +1,6 @@
-// The C boundary: each public call of `osc`, exported for C and C++ under the same name and with the same clauses. include/osc.h declares
-// them. The kit builds a crate as a library or as a static library, so that what is exported stands here, and what Rattle crates use there.
+// The C boundary: each public call of `osc`, exported for C and C++ under the same name and with the same clauses; what a clause rules out is
+// said there. include/osc.h declares them. The kit builds a crate as a library or as a static library, so that what is exported stands here,
+// and what Rattle crates use there.
 #![tactic(auto)]
 
 ghost use Rattle.std.specs.Prelude.{◌≡◌};
