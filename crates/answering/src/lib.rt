@@ -1,7 +1,7 @@
 // What a decoder answers to the first reading, within the limits.
 #![tactic(auto)]
 
-ghost use Rattle.std.specs.Prelude.{◌≡◌, ◌≤◌, length};
+ghost use Rattle.std.specs.Prelude.{◌≡◌, Ok, ◌≤◌, length};
 ghost use Rattle.wire.specs.Limits.{longest};
 ghost use Rattle.argument.specs.Dirt.{dirty_in};
 ghost use Rattle.framing.specs.Framing.{rule_of};
@@ -12,38 +12,43 @@ ghost use Rattle.answering.specs.CodeAnswered.{answered};
 use edition::{Edition, Framing};
 use refusal::Refusal;
 use results::Decoded;
-use rosc_inputs::Total;
+use rosc_inputs::MeasuredInput;
 
 // What a decoder answers: 13, then 1, then the first reading, and 10 last.
 //
 // Ruled out: 1 where the depth limit is over 64; 10 where a tree is too deep.
-pub fn answer(framing: Framing, msg: &[u8], capacity: usize, depth: usize) -> Decoded
+pub fn answer(
+    framing: Framing,
+    msg: &[u8],
+    capacity: usize,
+    depth: usize,
+) -> Result<Decoded, Refusal>
     ensures { result ≡ decoded (rule_of framing depth) capacity depth msg.now }
 {
     if wire::DEEPEST < depth {
-        return Decoded::Refused(Refusal::DepthLimit);
+        return Err(Refusal::DepthLimit);
     }
     if wire::LONGEST < msg.len() {
-        return Decoded::Refused(Refusal::TooLong);
+        return Err(Refusal::TooLong);
     }
-    within(capacity, measure_input(framing, msg, depth))
+    let input = measure_input(framing, msg, depth)?;
+    within(capacity, input)
 }
 
 // The answer to a first reading, where the table has room for `capacity` records.
-fn within(capacity: usize, total: Total) -> Decoded
-    ensures { result ≡ answered capacity total }
+fn within(capacity: usize, input: MeasuredInput) -> Result<Decoded, Refusal>
+    ensures { result ≡ answered capacity (Ok input) }
 {
-    match total {
-        Total::Trees { count, left, dirty } => {
+    match input {
+        MeasuredInput::Trees { count, left, dirty } => {
             if capacity < count {
-                return Decoded::Refused(Refusal::TableFull);
+                return Err(Refusal::TableFull);
             }
-            Decoded::Packets { count, left, dirty }
+            Ok(Decoded::Packets { count, left, dirty })
         }
-        Total::Deep => Decoded::Refused(Refusal::TooDeep),
-        Total::Waiting => Decoded::Waiting,
-        Total::Refused(refusal) => Decoded::Refused(refusal),
-        Total::Stopped {
+        MeasuredInput::Deep => Err(Refusal::TooDeep),
+        MeasuredInput::Waiting => Ok(Decoded::Waiting),
+        MeasuredInput::Stopped {
             count,
             left,
             dirty,
@@ -51,21 +56,21 @@ fn within(capacity: usize, total: Total) -> Decoded
             frame,
         } => {
             if count > capacity {
-                return Decoded::Refused(Refusal::TableFull);
+                return Err(Refusal::TableFull);
             }
-            Decoded::Stopped {
+            Ok(Decoded::Stopped {
                 count,
                 left,
                 dirty,
                 refusal,
                 frame,
-            }
+            })
         }
     }
 }
 
 // The first reading of a whole input, by its framing.
-fn measure_input(framing: Framing, msg: &[u8], depth: usize) -> Total
+fn measure_input(framing: Framing, msg: &[u8], depth: usize) -> Result<MeasuredInput, Refusal>
     requires { length msg.now ≤ longest }
     ensures { result ≡ total_of depth (dirty_in msg.now) (rule_of framing depth msg.now) }
 {

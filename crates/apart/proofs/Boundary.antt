@@ -17,7 +17,12 @@ use Rattle.refusal.specs.declared.Refusal.TheVariants.{PadOverflow, BytesLeft, O
 use Rattle.refusal.proofs.FurtherOn.{moved-number, moved-place}
 use Rattle.wire.specs.Limits.{longest}
 use Rattle.wire.specs.Pad.{pad_of}
-use Rattle.wire.specs.declared.Padded.{Padded}
+use Rattle.results.specs.Results.{Checked, CueAnswer, DecodeAnswer, IndexAnswer, PortionAnswer}
+use Rattle.shifts.specs.Results.{Shifted}
+use Rattle.std.specs.Prelude.{Err, Ok}
+use Rattle.values.specs.Results.{Looked, Started}
+use Rattle.wire.specs.Results.{Padded}
+use Rattle.results.specs.Results as results
 use Rattle.wire.proofs.Choices.{by-test, by_le, is-or}
 use Rattle.wire.proofs.Numbers.{number_small}
 use Rattle.wire.proofs.Only.{one-outcome}
@@ -29,8 +34,6 @@ use Rattle.values.specs.Value.{value_of}
 use Rattle.values.specs.Look.{look_at, started_at}
 use Rattle.values.specs.declared.value.OscType.{OscType}
 use Rattle.values.specs.declared.value.OscType.TheVariants as value
-use Rattle.values.specs.declared.look.Looked.{Looked}
-use Rattle.values.specs.declared.look.Started.{Started}
 use Rattle.edition.specs.declared.Edition.TheVariants.{Rosc, Standard}
 use Rattle.edition.specs.declared.Framing.{Framing}
 use Rattle.edition.specs.declared.Framing.TheVariants.{Udp, Tcp, TcpVec}
@@ -42,26 +45,15 @@ use Rattle.cues.specs.Cues.{cue_of, longest_recording, entry_size, Index, index,
 use Rattle.cues.specs.Cues.{Indexes, cue_records, cue_in}
 use Rattle.cues.specs.Refusals.{cue_order}
 use Rattle.cues.specs.Checks.{compared, numbered_from}
-use Rattle.cues.specs.declared.cue.Cue.TheVariants as cue
 use Rattle.cues.proofs.Cues.{cue-prefixed}
 use Rattle.cues.proofs.Indexes.{IndexIn, index_in}
 use Rattle.cues.proofs.Numbers.{refused-among}
 use Rattle.cues.proofs.Only.{indexes-only}
 use Rattle.encoder.specs.Outcome.{encode_order, string_order, Encodes, EncodesString}
 use Rattle.encoder.proofs.Only.{encodes-only}
-use Rattle.results.specs.declared.Decoded.{Decoded}
-use Rattle.results.specs.declared.Decoded.TheVariants as decodes
-use Rattle.results.specs.declared.Portion.{Portion}
-use Rattle.results.specs.declared.Portion.TheVariants as portion
 use Rattle.results.specs.declared.End.TheVariants as end
-use Rattle.results.specs.declared.Indexed.{Indexed}
-use Rattle.results.specs.declared.Indexed.TheVariants as indexed
-use Rattle.results.specs.declared.Checked.{Checked}
-use Rattle.results.specs.declared.Checked.TheVariants as checked
-use Rattle.results.specs.declared.CueAt.{CueAt}
 use Rattle.shifts.specs.Shifts.{shift_leaves}
 use Rattle.shifts.specs.Call.{shifted_told, ShiftsTold}
-use Rattle.shifts.specs.declared.Shifted.{Shifted}
 use Rattle.shifts.proofs.Demand.{told-only, by-told}
 use Rattle.told.specs.Told.{Bounded, answer_of, more_of, refusal_in, low_in, offset_in, frame_in}
 use Rattle.told.specs.Answers.{decoded_told, portion_told, indexed_told, started_told, kind_of, looked_told, cue_told_as, cue_told, cue_beside}
@@ -162,12 +154,12 @@ no_field r n h e none =
 module _ (framing : Framing) (msg table : List ℕ) (limit : ℕ) where
   -- how a list is told that stops
   stop-told : (count left dirty : ℕ) (r : Refusal) (frame : ℕ)
-      → Bounded (decoded_told (length msg) (decodes.Stopped count left dirty r frame))
-      → Answerable framing (length msg) (decodes.Stopped count left dirty r frame)
-      → StopTold framing (length msg) (answer_of (decoded_told (length msg) (decodes.Stopped count left dirty r frame)))
-      (more_of (decoded_told (length msg) (decodes.Stopped count left dirty r frame)))
+      → Bounded (decoded_told (length msg) (results.Stopped count left dirty r frame))
+      → Answerable framing (length msg) (results.Stopped count left dirty r frame)
+      → StopTold framing (length msg) (answer_of (decoded_told (length msg) (results.Stopped count left dirty r frame)))
+      (more_of (decoded_told (length msg) (results.Stopped count left dirty r frame)))
   stop-told count left dirty r frame h a =
-      let p = packed (decoded_told (length msg) (decodes.Stopped count left dirty r frame)) h in
+      let p = packed (decoded_told (length msg) (results.Stopped count left dirty r frame)) h in
       record {
         listed = subst (λ (n : ℕ). among n (stops_by framing) ≡ true) (sym p.number) a.0;
         left = omega (arith, p.low, a.1);
@@ -176,15 +168,15 @@ module _ (framing : Framing) (msg table : List ℕ) (limit : ℕ) where
       }
 
   -- how the call ends where this is the answer
-  decoding-ends : (d : Decoded) → Bounded (decoded_told (length msg) d) → Answerable framing (length msg) d
+  decoding-ends : (d : DecodeAnswer) → Bounded (decoded_told (length msg) d) → Answerable framing (length msg) d
       → CEnds (c_contract_of (osc_decode framing msg table limit)) (answer_of (decoded_told (length msg) d))
       (more_of (decoded_told (length msg) d)) (tabled d (forest_of (rule_of framing limit msg)) table)
-  decoding-ends (decodes.Packets count left dirty) h a = told_an_answer (omega arith) (omega arith)
-  decoding-ends decodes.Waiting h a = told_an_answer (omega arith) refl
-  decoding-ends (decodes.Refused r) h a =
+  decoding-ends (results.Packets count left dirty) h a = told_an_answer (omega arith) (omega arith)
+  decoding-ends results.Waiting h a = told_an_answer (omega arith) refl
+  decoding-ends (Err r) h a =
       let e : offset_of r * 0x1_0000_0000 ≡ more_of (told_refusal r) = omega arith in
       told_a_refusal (number_of r) a (omega arith) (subst (Beside (number_of r)) e (beside-of r h.field)) refl
-  decoding-ends (decodes.Stopped count left dirty r frame) h a = told_a_stop (stop-told count left dirty r frame h a)
+  decoding-ends (results.Stopped count left dirty r frame) h a = told_a_stop (stop-told count left dirty r frame h a)
 
   decode-demand : CDemand (c_contract_of (osc_decode framing msg table limit))
   decode-demand =
@@ -200,11 +192,11 @@ module _ (framing : Framing) (msg table : List ℕ) (limit : ℕ) where
 -- ---- the step
 
 -- how a step is told that a refused frame ends
-end-told : (n count used dirty : ℕ) (r : Refusal) → Bounded (portion_told (portion.Ended count used dirty r))
+end-told : (n count used dirty : ℕ) (r : Refusal) → Bounded (portion_told (results.Ended count used dirty r))
     → among (number_of r) (stops_by (TcpVec Standard)) ≡ true → used + 4 ≤ n
-    → EndTold n (answer_of (portion_told (portion.Ended count used dirty r))) (more_of (portion_told (portion.Ended count used dirty r)))
+    → EndTold n (answer_of (portion_told (results.Ended count used dirty r))) (more_of (portion_told (results.Ended count used dirty r)))
 end-told n count used dirty r h a k =
-    let p = packed (portion_told (portion.Ended count used dirty r)) h in
+    let p = packed (portion_told (results.Ended count used dirty r)) h in
     record {
       listed = subst (λ (m : ℕ). among m (stops_by (TcpVec Standard)) ≡ true) (sym p.frame) a;
       accepted = omega arith;
@@ -214,13 +206,13 @@ end-told n count used dirty r h a k =
 
 module _ (bytes table : List ℕ) (limit : ℕ) where
   -- how a step ends where this is the list's answer
-  step-ends : (d : Decoded) → Bounded (portion_told (portion_of (length bytes) d)) → Answerable (TcpVec Standard) (length bytes) d
+  step-ends : (d : DecodeAnswer) → Bounded (portion_told (portion_of (length bytes) d)) → Answerable (TcpVec Standard) (length bytes) d
       → CEnds (c_contract_of (osc_read_portion bytes table limit)) (answer_of (portion_told (portion_of (length bytes) d)))
       (more_of (portion_told (portion_of (length bytes) d))) (tabled d (forest_of (tcp_vec2 limit bytes)) table)
-  step-ends (decodes.Packets count left dirty) h a = told_an_answer (omega arith, omega arith) (omega arith)
-  step-ends decodes.Waiting h a = absurd (false≢true a)
-  step-ends (decodes.Refused r) h a = told_a_refusal (number_of r) a (in-high-bits r) (alone (number_of r)) refl
-  step-ends (decodes.Stopped count left dirty r frame) h a =
+  step-ends (results.Packets count left dirty) h a = told_an_answer (omega arith, omega arith) (omega arith)
+  step-ends results.Waiting h a = absurd (false≢true a)
+  step-ends (Err r) h a = told_a_refusal (number_of r) a (in-high-bits r) (alone (number_of r)) refl
+  step-ends (results.Stopped count left dirty r frame) h a =
       told_a_stop (end-told (length bytes) count frame dirty r h a.0 (omega (arith, a.1, a.2)))
 
   step-demand : CDemand (c_contract_of (osc_read_portion bytes table limit))
@@ -228,8 +220,8 @@ module _ (bytes table : List ℕ) (limit : ℕ) where
       writes-demand portion_told (Steps bytes table limit) table (order_of (TcpVec Standard)) (used_within bytes) (λ more. more ≡ low_in more)
       (EndTold (length bytes))
       (λ a b l l' m n. (one-outcome m.answers n.answers, one-outcome m.leaves n.leaves))
-      (λ a l m. ends_as (ap (λ (p : Portion). answer_of (portion_told p)) m.answers)
-      (ap (λ (p : Portion). more_of (portion_told p)) m.answers) m.leaves
+      (λ a l m. ends_as (ap (λ (p : PortionAnswer). answer_of (portion_told p)) m.answers)
+      (ap (λ (p : PortionAnswer). more_of (portion_told p)) m.answers) m.leaves
       (step-ends (decoded (tcp_vec2 limit) (capacity table) limit bytes) (portion-fits limit bytes table refl)
       (answerable (TcpVec Standard) (capacity table) limit bytes)))
       (λ told h. h.0) refl (λ told more s a b. (ends_apart (length bytes) told more s).0 b)
@@ -306,16 +298,16 @@ module _ (table : List ℕ) (count by : ℕ) where
 abbrev FrameTold : ℕ → Refusal → Type 0
 FrameTold m k = (4 ≤ m) × (offset_of k ≤ m) × (among (number_of k) cue_order ≡ true)
 
-frame-told : (l : List ℕ) (k : Refusal) → cue_of l ≡ cue.Refused k → FrameTold (length l) k
+frame-told : (l : List ℕ) (k : Refusal) → cue_of l ≡ Err k → FrameTold (length l) k
 frame-told l k e = let p = cue-prefixed l k e in (p.0, p.1, refused-among l k e)
 
 -- how a step is told at which a refused frame ends an index
-index-end-told : (n count used : ℕ) (k : Refusal) → Bounded (indexed_told (indexed.Written count used (end.Refused k)))
+index-end-told : (n count used : ℕ) (k : Refusal) → Bounded (indexed_told (results.Written count used (end.Refused k)))
     → FrameTold (n - used) k → used ≤ n
-    → IndexEndTold n (answer_of (indexed_told (indexed.Written count used (end.Refused k))))
-    (more_of (indexed_told (indexed.Written count used (end.Refused k))))
+    → IndexEndTold n (answer_of (indexed_told (results.Written count used (end.Refused k))))
+    (more_of (indexed_told (results.Written count used (end.Refused k))))
 index-end-told n count used k h f w =
-    let p = packed (indexed_told (indexed.Written count used (end.Refused k))) h in
+    let p = packed (indexed_told (results.Written count used (end.Refused k))) h in
     record {
       listed = subst (λ (m : ℕ). among m cue_order ≡ true) (sym p.frame) f.2;
       clean = p.dirty;
@@ -327,7 +319,7 @@ index-end-told n count used k h f w =
     }
 
 module _ (l : List ℕ) (base : ℕ) (out : List ℕ) where
-  abbrev IndexEnds : Indexed → Type 0
+  abbrev IndexEnds : IndexAnswer → Type 0
   IndexEnds r =
       CEnds (c_contract_of (osc_index_step l base out)) (answer_of (indexed_told r)) (more_of (indexed_told r))
       (index_leaves r (written_of (index_of base l)) out)
@@ -360,8 +352,8 @@ module _ (l : List ℕ) (base : ℕ) (out : List ℕ) where
       writes-demand indexed_told (Indexes l base out) out (1 ∷ 12 ∷ []) (used_within l) (λ more. more ≤ 1) (IndexEndTold (length l))
       (λ a b m m' t u. indexes-only t u)
       (λ a after m. let e = m.answers in
-      ends_as (ap (λ (r : Indexed). answer_of (indexed_told r)) e) (ap (λ (r : Indexed). more_of (indexed_told r)) e)
-      (m.leaves ∙ ap (λ (r : Indexed). index_leaves r (written_of (index_of base l)) out) e) index-ends)
+      ends_as (ap (λ (r : IndexAnswer). answer_of (indexed_told r)) e) (ap (λ (r : IndexAnswer). more_of (indexed_told r)) e)
+      (m.leaves ∙ ap (λ (r : IndexAnswer). index_leaves r (written_of (index_of base l)) out) e) index-ends)
       (λ told h. h.0) refl (λ told more s a b. (index_ends_apart (length l) told more s).0 b)
       (λ told more n s h e. (index_ends_apart (length l) told more s).1 n h e)
 
@@ -371,13 +363,13 @@ module _ (f g : List ℕ) (n : ℕ) where
 
   checked-ends : n < most_checked → length f < most_checked → length g < most_checked → (r : Checked) → compared f g ≡ r
       → CheckEnds (checked_number (numbered_from n r))
-  checked-ends a b c (checked.Fits k) e = told_an_answer (omega (arith, fits-checked f g e), omega arith) refl
-  checked-ends a b c (checked.Differs k) e =
+  checked-ends a b c (Ok k) e = told_an_answer (omega (arith, fits-checked f g e), omega arith) refl
+  checked-ends a b c (Err differs) e =
       told_a_stop
       (record {
-        place = n + k;
+        place = n + differs.at;
         number = refl;
-        low = omega (arith, differs-checked f g e);
+        low = omega (arith, differs-checked f g {k = differs.at} e);
         here = omega arith;
         alone = refl;
       })
@@ -405,13 +397,13 @@ module _ (f g : List ℕ) (n : ℕ) where
       }
 
 module _ (w : List ℕ) (b : (i : ℕ) → get_or w i 0 < 256) (k : ℕ) where
-  abbrev CueEnds : CueAt → Type 0
+  abbrev CueEnds : CueAnswer → Type 0
   CueEnds r = CEnds (c_contract_of (osc_cue w b k)) (answer_of (cue_told r)) (cue_beside r) []
 
   -- how a cue ends that is looked up
   cue-ends : CueEnds (cue_told_as (cue_in w k))
   cue-ends =
-      by-test (λ (r : CueAt). CueEnds (cue_told_as r)) (ltb k (length w / entry_size))
+      by-test (λ (r : CueAnswer). CueEnds (cue_told_as r)) (ltb k (length w / entry_size))
       (λ _. by-test CueEnds (ltb (cue_records w k) 0x100_0000)
       (λ h. told_an_answer
       (omega (

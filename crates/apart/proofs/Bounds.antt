@@ -19,18 +19,16 @@ use Rattle.framing.specs.Framing.{Whole, trees, waiting, refusal, stopped, rule_
 use Rattle.edition.specs.declared.Framing.{Framing}
 use Rattle.edition.specs.declared.Framing.TheVariants.{TcpVec}
 use Rattle.answering.specs.Limits.{limited, decoded}
-use Rattle.results.specs.declared.Decoded.{Decoded}
-use Rattle.results.specs.declared.Decoded.TheVariants.{Packets, Waiting, Refused, Stopped}
+use Rattle.results.specs.Results.{DecodeAnswer, IndexAnswer, Packets, PortionAnswer, Stopped, Waiting}
+use Rattle.std.specs.Prelude.{Err, Ok}
+use Rattle.results.specs.Results as results
 use Rattle.decoder.proofs.Chosen.{by-decoded, by-trees, by-bounded}
 use Rattle.decoder.proofs.Sizes.{WholeIn, whole_in}
 use Rattle.decoder.proofs.Offsets.{WholeLow, whole_low}
 use Rattle.portions.specs.Portions.{portion_of, step_of}
-use Rattle.results.specs.declared.Portion.{Portion}
 use Rattle.cues.specs.Cues.{longest_recording, entry_size, Index, index, index_of, written_of, indexed_as, index_answer}
 use Rattle.cues.specs.Checks.{compared}
 use Rattle.results.specs.declared.End.TheVariants as end
-use Rattle.results.specs.declared.Indexed.{Indexed}
-use Rattle.results.specs.declared.Checked.TheVariants as checked
 use Rattle.cues.proofs.Checks.{fits_exactly, differs-in}
 use Rattle.cues.proofs.Indexes.{IndexIn, FieldIn, field_in}
 use Rattle.told.specs.Told.{Bounded}
@@ -38,7 +36,7 @@ use Rattle.told.specs.Answers.{decoded_told, portion_told, indexed_told}
 use Rattle.told.proofs.Unpacked.{number_in}
 
 -- the record of a decoder's answer to n bytes has its bits
-abbrev DecodedFits : ℕ → Decoded → Type 0
+abbrev DecodedFits : ℕ → DecodeAnswer → Type 0
 DecodedFits n d = Bounded (decoded_told n d)
 
 module _ (capacity limit : ℕ) where
@@ -53,7 +51,7 @@ module _ (capacity limit : ℕ) where
       (λ g i. omega (arith, dirty-few msg f, number_in k))
 
   -- what a decoder answers to a message fits
-  pub fits : (framing : Framing) (msg : List ℕ) {r : Decoded} → r ≡ decoded (rule_of framing limit) capacity limit msg
+  pub fits : (framing : Framing) (msg : List ℕ) {r : DecodeAnswer} → r ≡ decoded (rule_of framing limit) capacity limit msg
       → Bounded (decoded_told (length msg) r)
   fits framing msg e =
       subst (DecodedFits (length msg)) (sym e)
@@ -61,23 +59,23 @@ module _ (capacity limit : ℕ) where
       (λ g k. limited-fits (length msg) msg (rule_of framing limit msg) k (whole_in framing limit msg) (whole_low framing limit msg)))
 
 -- the record of a step's answer has its bits
-abbrev PortionFits : Portion → Type 0
+abbrev PortionFits : PortionAnswer → Type 0
 PortionFits p = Bounded (portion_told p)
 
 -- what a step says of a decoder's answer that fits
-step_fits : (n : ℕ) (d : Decoded) → n ≤ longest → DecodedFits n d → PortionFits (portion_of n d)
+step_fits : (n : ℕ) (d : DecodeAnswer) → n ≤ longest → DecodedFits n d → PortionFits (portion_of n d)
 step_fits n (Packets count left dirty) h f = omega arith
 step_fits n Waiting h f = omega arith
-step_fits n (Refused r) h f = omega (arith, number_in r)
+step_fits n (Err r) h f = omega (arith, number_in r)
 step_fits n (Stopped count left dirty r frame) h f = omega (arith, number_in r)
 
 -- what a step answers fits
-pub portion-fits : (limit : ℕ) (bytes table : List ℕ) {p : Portion} → p ≡ step_of limit bytes table → Bounded (portion_told p)
+pub portion-fits : (limit : ℕ) (bytes table : List ℕ) {p : PortionAnswer} → p ≡ step_of limit bytes table → Bounded (portion_told p)
 portion-fits limit bytes table e =
     let n = length bytes in
     let rule = rule_of (TcpVec Standard) limit in
     subst PortionFits (sym e)
-    (by-decoded (λ (d : Decoded). PortionFits (portion_of n d)) rule (capacity table) limit bytes (λ g. omega arith) (λ g. omega arith)
+    (by-decoded (λ (d : DecodeAnswer). PortionFits (portion_of n d)) rule (capacity table) limit bytes (λ g. omega arith) (λ g. omega arith)
     (λ g k. step_fits n (limited (capacity table) limit bytes (rule bytes)) k
     (limited-fits (capacity table) limit n bytes (rule bytes) k (whole_in (TcpVec Standard) limit bytes)
     (whole_low (TcpVec Standard) limit bytes))))
@@ -85,7 +83,7 @@ portion-fits limit bytes table e =
 -- ---- an index
 
 -- the record of the answer of a step that writes an index has its bits
-abbrev IndexedFits : Indexed → Type 0
+abbrev IndexedFits : IndexAnswer → Type 0
 IndexedFits a = Bounded (indexed_told a)
 
 -- that of a buffer's index, where its output has room
@@ -98,7 +96,7 @@ index-bounded base l h = by_index (index_of base l) (field_in base l)
     by_index (index written at (end.Refused k)) w = omega (arith, w.0, w.1, w.2, w.3, number_in k, moved_back (at - base) k)
 
 -- what such a step answers fits
-pub indexed-fits : (base : ℕ) (l : List ℕ) (room : ℕ) {r : Indexed} → r ≡ index_answer base l room → Bounded (indexed_told r)
+pub indexed-fits : (base : ℕ) (l : List ℕ) (room : ℕ) {r : IndexAnswer} → r ≡ index_answer base l room → Bounded (indexed_told r)
 indexed-fits base l room e =
     subst IndexedFits (sym e)
     (by_le IndexedFits (length l) longest
@@ -107,8 +105,8 @@ indexed-fits base l room e =
     (λ _. index-bounded base l h) (λ _. omega arith)) (λ _. omega arith)) (λ _. omega arith))
 
 -- so does what a check answers: no more records than bytes are compared
-pub fits-checked : (f g : List ℕ) {k : ℕ} → compared f g ≡ checked.Fits k → entry_size * k < length f + entry_size
+pub fits-checked : (f g : List ℕ) {k : ℕ} → compared f g ≡ Ok k → entry_size * k < length f + entry_size
 fits-checked f g {k} e = ((fits_exactly f g).counts k e).1
 
-pub differs-checked : (f g : List ℕ) {k : ℕ} → compared f g ≡ checked.Differs k → entry_size * k < length f + length g
+pub differs-checked : (f g : List ℕ) {k : ℕ} → compared f g ≡ results.Differs k → entry_size * k < length f + length g
 differs-checked f g {k} e = omega (arith, differs-in f g k e)

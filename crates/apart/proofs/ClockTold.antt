@@ -12,8 +12,7 @@ use Rattle.clock.specs.Promises.{TagCase}
 use Rattle.clock.specs.declared.Rule.{Rule}
 use Rattle.clock.specs.declared.Rule.TheVariants.{A, B}
 use Rattle.clock.specs.declared.OutOfRange.TheVariants.{Nanoseconds, TooLate, TooEarly}
-use Rattle.clock.specs.declared.Tagged.{Tagged}
-use Rattle.clock.specs.declared.Unix.{Unix}
+use Rattle.clock.specs.Results.{Tagged, Unix}
 use Rattle.clock.proofs.Nearest.{no_carry}
 use Rattle.clock.proofs.Times.{seconds-below}
 use Rattle.clock.proofs.Shifts.{bits_back}

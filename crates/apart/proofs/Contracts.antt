@@ -9,8 +9,8 @@ use Rattle.refusal.specs.declared.Refusal.{Refusal}
 use Rattle.wire.specs.Limits.{longest}
 use Rattle.node.specs.Tags.{among}
 use Rattle.encoder.specs.Outcome.{Outcome}
-use Rattle.results.specs.declared.Encoded.{Encoded}
-use Rattle.results.specs.declared.Encoded.TheVariants as encodes
+use Rattle.results.specs.Results.{Encoded}
+use Rattle.std.specs.Prelude.{Err, Ok}
 use Rattle.told.specs.declared.Told.{Told}
 use Rattle.told.specs.Told.{answer_of, more_of}
 use Rattle.told.specs.Answers.{told_number, encoded_told}
@@ -98,5 +98,5 @@ encodes-demand Outcomes out refusals one ended z =
   where
     by_answer : (a : Encoded) (l : List ℕ) → Ended refusals out a l
         → CEnds (encodes_to Outcomes out refusals) (answer_of (encoded_told a)) (more_of (encoded_told a)) l
-    by_answer (encodes.Written n) l h = told_an_answer (omega arith) refl
-    by_answer (encodes.Refused r) l h = told_a_refusal (number_of r) h.0 (in-high-bits r) (alone (number_of r)) h.1
+    by_answer (Ok n) l h = told_an_answer (omega arith) refl
+    by_answer (Err r) l h = told_a_refusal (number_of r) h.0 (in-high-bits r) (alone (number_of r)) h.1

@@ -13,13 +13,13 @@ use Rattle.node.specs.Tags.{among}
 use Rattle.strings.specs.Atomic.{osc_string}
 use Rattle.writers.specs.Osc.{write_packet}
 use Rattle.encoder.specs.Outcome.{Outcome, encode_order, string_order, bytes_outcome, tree_outcome, Encodes, malformed, formed, string_outcome}
-use Rattle.results.specs.declared.Encoded.{Encoded}
-use Rattle.results.specs.declared.Encoded.TheVariants as encodes
+use Rattle.results.specs.Results.{Encoded}
+use Rattle.std.specs.Prelude.{Err, Ok}
 
 -- few bytes are written; or one of these numbers refuses, and the bytes after are those before
 abbrev pub Ended : List ℕ → List ℕ → Encoded → List ℕ → Type 0
-Ended numbers before (encodes.Written n) after = n ≤ longest
-Ended numbers before (encodes.Refused r) after = (among (number_of r) numbers ≡ true) × (after ≡ before)
+Ended numbers before (Ok n) after = n ≤ longest
+Ended numbers before (Err r) after = (among (number_of r) numbers ≡ true) × (after ≡ before)
 
 -- the same of an outcome
 abbrev OutcomeEnded : List ℕ → List ℕ → Outcome → Type 0

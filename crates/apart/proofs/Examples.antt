@@ -26,13 +26,12 @@ use Rattle.framing.specs.Framing.{udp, read_frame, cut_frame, tcp, tcp2, frames_
 use Rattle.answering.specs.Limits.{decoded}
 use Rattle.edition.specs.declared.Edition.TheVariants.{Rosc, Standard}
 use Rattle.edition.specs.declared.Framing.TheVariants.{Udp, Tcp, TcpVec}
-use Rattle.results.specs.declared.Decoded.TheVariants as decodes
-use Rattle.results.specs.declared.Portion.TheVariants as portion
+use Rattle.results.specs.Results.{Encoded}
+use Rattle.std.specs.Prelude.{Err, Ok}
+use Rattle.results.specs.Results as results
 use Rattle.strings.specs.Atomic.{osc_string, osc_blob}
 use Rattle.writers.specs.Osc as osc
 use Rattle.encoder.specs.Outcome.{unframed, framed_by, prefixed, bytes_outcome, tree_outcome, malformed, formed, string_outcome}
-use Rattle.results.specs.declared.Encoded.{Encoded}
-use Rattle.results.specs.declared.Encoded.TheVariants as encodes
 use Rattle.decoder.proofs.Only.{decodes-met}
 use Rattle.table.proofs.Examples as p3
 use Rattle.told.specs.Told.{unpack}
@@ -72,7 +71,7 @@ p14 table = record { answer = _; meets = decodes-met; number = refl; beside = re
 
 -- `osc_decode_tcp_vec` tells 8 too, which are no packets there
 no-packets : (CMeets (osc_decode (TcpVec Rosc) unready (nines 17) 64) 8 0 (nines 17))
-    × (decoded tcp_vec (capacity (nines 17)) 64 unready ≡ decodes.Packets 0 8 0)
+    × (decoded tcp_vec (capacity (nines 17)) 64 unready ≡ results.Packets 0 8 0)
 unfolding size depth number prefix_of read_frame tcp_vec frames_at decoded stored records_of kept_padding packets_padding
 no-packets = (record { answer = _; meets = decodes-met; number = refl; beside = refl }, refl)
 
@@ -168,14 +167,14 @@ no_refusal : (n : ℕ) → 0x100_0001_0000_0004 ≡ in_high_bits n → ⊥
 no_refusal = (stops_apart (TcpVec Standard) 16 0x100_0001_0000_0004 0xC_0000_0000_0000 stopped).1
 
 once2 : (t : CMeets (osc_decode (TcpVec Standard) stopping (nines 21) 64) 0x100_0001_0000_0004 0xC_0000_0000_0000 one-record)
-    → t.answer ≡ decodes.Stopped 1 4 0 TooLong 12
+    → t.answer ≡ results.Stopped 1 4 0 TooLong 12
 unfolding stops
 once2 t =
     decoded_once (TcpVec Standard) stopping stopping (nines 21) (nines 21) 64 64 0x100_0001_0000_0004 0xC_0000_0000_0000 one-record
     one-record t stops
 
 alone2 : (more : ℕ) (t : CMeets (osc_decode (TcpVec Standard) stopping [] 64) 0xA00_0000_0000_0000 more [])
-    → t.answer ≡ decodes.Refused TableFull
+    → t.answer ≡ Err TableFull
 unfolding full
 alone2 more t =
     decoded_alone (TcpVec Standard) stopping stopping [] [] 64 64 0xA00_0000_0000_0000 more 0 [] [] (omega arith) (λ h. omega arith)
@@ -243,7 +242,7 @@ read-no-room : StepBack no_room.answer 0xA00_0000_0000_0000 0
 read-no-room = step_told stopping [] 64 0xA00_0000_0000_0000 0 [] no_room
 
 once3 : (t : CMeets (osc_read_portion stopping (nines 21) 64) 0x1_0000_000C 0x1_0000_0000_0000 one-record)
-    → t.answer ≡ portion.Ended 1 12 0 TooLong
+    → t.answer ≡ results.Ended 1 12 0 TooLong
 unfolding ends-stream
 once3 t =
     step_once stopping stopping (nines 21) (nines 21) 64 64 0x1_0000_000C 0x1_0000_0000_0000 one-record one-record t ends-stream
@@ -259,35 +258,35 @@ reads_only told more after m = c_settled (osc_read_portion unfinished (nines 21)
 
 -- a table with a wrong end: refusal 11, and any output is as it was
 wrong-end : (out : List ℕ) → CMeets (osc_encode unframed (p3.table 2 3) 2 p3.packet out) 0xB00_0000_0000_0000 0 out
-wrong-end out = record { answer = encodes.Refused BadTable; meets = malformed p3.wrong-end refl; number = refl; beside = refl }
+wrong-end out = record { answer = Err BadTable; meets = malformed p3.wrong-end refl; number = refl; beside = refl }
 
 -- P3's table in a stream: 16 bytes
 stream : CMeets (osc_encode prefixed (p3.table 2 2) 2 p3.packet (nines 17)) 16 0 ((0 ∷ 0 ∷ 0 ∷ 12 ∷ []) ++ (p3.packet ++ (9 ∷ [])))
 unfolding bytes depth class_of sort_of osc_string osc.write_data osc.write_tags osc.write_message osc.write_packet bytes_outcome tree_outcome
-stream = record { answer = encodes.Written 16; meets = formed p3.message p3.five p3.p3-tree refl; number = refl; beside = refl }
+stream = record { answer = Ok 16; meets = formed p3.message p3.five p3.p3-tree refl; number = refl; beside = refl }
 
 -- the bundle in a bundle in a stream of edition 2: its length stands before it
 stream2 : CMeets (osc_encode (framed_by Standard) p3.nested-table 7 p3.nested (nines 81)) 80 0
     ((0 ∷ 0 ∷ 0 ∷ 76 ∷ []) ++ (p3.nested ++ (9 ∷ [])))
 unfolding bytes depth class_of sort_of osc_string osc_blob osc.write_data osc.write_tags osc.write_message osc.write_bundle osc.write_elements
     osc.write_packet bytes_outcome tree_outcome
-stream2 = record { answer = encodes.Written 80; meets = formed (p3.once 0) (p3.within 0) p3.nested-tree refl; number = refl; beside = refl }
+stream2 = record { answer = Ok 80; meets = formed (p3.once 0) (p3.within 0) p3.nested-tree refl; number = refl; beside = refl }
 
 -- a text that is not UTF-8: refusal 4, and any output is as it was
 not-utf8 : (out : List ℕ) → CMeets (osc_encode_string (0xFF ∷ []) out) 0x400_0000_0000_0000 0 out
 unfolding string_outcome
-not-utf8 out = record { answer = encodes.Refused (Unreadable NotUtf8); meets = refl; number = refl; beside = refl }
+not-utf8 out = record { answer = Err (Unreadable NotUtf8); meets = refl; number = refl; beside = refl }
 
 -- the bundle in a bundle: its own 76 bytes
 written : CMeets (osc_encode unframed p3.nested-table 7 p3.nested (nines 77)) 76 0 (p3.nested ++ (9 ∷ []))
 unfolding bytes depth class_of sort_of osc_string osc_blob osc.write_data osc.write_tags osc.write_message osc.write_bundle osc.write_elements
     osc.write_packet bytes_outcome tree_outcome
-written = record { answer = encodes.Written 76; meets = formed (p3.once 0) (p3.within 0) p3.nested-tree refl; number = refl; beside = refl }
+written = record { answer = Ok 76; meets = formed (p3.once 0) (p3.within 0) p3.nested-tree refl; number = refl; beside = refl }
 
 -- the text é: 4 bytes
 text : CMeets (osc_encode_string (0xC3 ∷ 0xA9 ∷ []) (nines 5)) 4 0 (0xC3 ∷ 0xA9 ∷ 0 ∷ 0 ∷ 9 ∷ [])
 unfolding osc_string bytes_outcome string_outcome
-text = record { answer = encodes.Written 4; meets = refl; number = refl; beside = refl }
+text = record { answer = Ok 4; meets = refl; number = refl; beside = refl }
 
 -- the hypotheses of `c_settled`: no other number and no other bytes
 written-only : (told more : ℕ) (after : List ℕ) → CMeets (osc_encode unframed p3.nested-table 7 p3.nested (nines 77)) told more after
@@ -312,12 +311,12 @@ text-only told more after m = c_settled (osc_encode_string (0xC3 ∷ 0xA9 ∷ []
 text-apart : unpack 4 0 ≡ encoded_told text.answer
 text-apart = string_told_apart (0xC3 ∷ 0xA9 ∷ []) (nines 5) 4 0 _ text
 
-taken-apart : unpack 16 0 ≡ encoded_told (encodes.Written 16)
+taken-apart : unpack 16 0 ≡ encoded_told (Ok 16)
 unfolding stream
 taken-apart = told_apart prefixed (p3.table 2 2) 2 p3.packet (nines 17) 16 0 _ stream
 
-sixteen : (a : Encoded) → unpack 16 0 ≡ encoded_told a → a ≡ encodes.Written 16
-sixteen a p = encoded_once 16 0 a (encodes.Written 16) (λ h. omega arith) p taken-apart
+sixteen : (a : Encoded) → unpack 16 0 ≡ encoded_told a → a ≡ Ok 16
+sixteen a p = encoded_once 16 0 a (Ok 16) (λ h. omega arith) p taken-apart
 
 -- ---- `osc_pad`, `osc_look` and `osc_start`
 

@@ -21,8 +21,8 @@ use Rattle.framing.specs.Framing.{cut_frame}
 use Rattle.folding.specs.Folding.{fold_at}
 use Rattle.cues.specs.Checks.{compared_at}
 use Rattle.results.specs.declared.End.TheVariants as end
-use Rattle.results.specs.declared.Indexed.TheVariants as indexed
-use Rattle.results.specs.declared.CueAt.TheVariants as found
+use Rattle.std.specs.Prelude.{Err}
+use Rattle.results.specs.Results as results
 use Rattle.table.proofs.Examples as p3
 use Rattle.apart.specs.Boundary.{osc_index_step, osc_index_check_step, osc_cue, c_contract_of, CMeets, IndexEndTold, DiffersTold}
 use Rattle.apart.specs.ReadBack.{IndexBack, CueBack}
@@ -43,9 +43,9 @@ entry-small = p3.small_bytes entry tt
 whole : CMeets (osc_index_step frame 0 (replicate 17 9)) 0x1_0000_0010 0 (entry ++ (9 ∷ []))
 unfolding number bytes size depth snoc class_of sort_of read_text read_arg read_tags start_of read_message packet_by packet_at read_packet length_of
     cut_frame fold_at
-whole = record { answer = indexed.Written 1 16 end.Whole; meets = record { answers = refl; leaves = refl }; number = refl; beside = refl }
+whole = record { answer = results.Written 1 16 end.Whole; meets = record { answers = refl; leaves = refl }; number = refl; beside = refl }
 
-whole-told : IndexBack (indexed.Written 1 16 end.Whole) 0x1_0000_0010 0
+whole-told : IndexBack (results.Written 1 16 end.Whole) 0x1_0000_0010 0
 unfolding whole
 whole-told = index_told frame 0 (replicate 17 9) _ _ _ whole
 
@@ -53,7 +53,7 @@ whole-told = index_told frame 0 (replicate 17 9) _ _ _ whole
 waits : CMeets (osc_index_step (frame ++ (0 ∷ [])) 0 (replicate 16 9)) 0x1_0000_0010 1 entry
 unfolding number bytes size depth snoc class_of sort_of read_text read_arg read_tags start_of read_message packet_by packet_at read_packet length_of
     cut_frame fold_at
-waits = record { answer = indexed.Written 1 16 end.Waiting; meets = record { answers = refl; leaves = refl }; number = refl; beside = refl }
+waits = record { answer = results.Written 1 16 end.Waiting; meets = record { answers = refl; leaves = refl }; number = refl; beside = refl }
 
 -- so is one that is refused, with its number: 2 of a frame of no bytes
 ends : CMeets (osc_index_step (frame ++ (0 ∷ 0 ∷ 0 ∷ 0 ∷ [])) 0 (replicate 16 9)) 0x1_0000_0010 0x2_0000_0000_0000 entry
@@ -61,7 +61,7 @@ unfolding number bytes size depth snoc class_of sort_of read_text read_arg read_
     cut_frame fold_at
 ends =
     record {
-      answer = indexed.Written 1 16 (end.Refused (Unreadable Empty));
+      answer = results.Written 1 16 (end.Refused (Unreadable Empty));
       meets = record { answers = refl; leaves = refl };
       number = refl;
       beside = refl;
@@ -91,7 +91,7 @@ unfolding number bytes size depth snoc class_of sort_of read_text read_arg read_
     cut_frame fold_at
 ends-short =
     record {
-      answer = indexed.Written 1 16 (end.Refused (Unreadable (Short Address 4)));
+      answer = results.Written 1 16 (end.Refused (Unreadable (Short Address 4)));
       meets = record { answers = refl; leaves = refl };
       number = refl;
       beside = refl;
@@ -112,7 +112,7 @@ short-told =
 short : CMeets (osc_index_step frame 0 (replicate 15 9)) 0xc00_0000_0000_0000 0 (replicate 15 9)
 unfolding number bytes size depth snoc class_of sort_of read_text read_arg read_tags start_of read_message packet_by packet_at read_packet length_of
     cut_frame fold_at
-short = record { answer = indexed.Refused OutputShort; meets = record { answers = refl; leaves = refl }; number = refl; beside = refl }
+short = record { answer = Err OutputShort; meets = record { answers = refl; leaves = refl }; number = refl; beside = refl }
 
 -- the check of record 7 of an index: the next is 8; without it 25 and its number
 fits : CMeets (osc_index_check_step entry entry 7) 8 0 []
@@ -135,7 +135,7 @@ first : CMeets (osc_cue entry entry-small 0) 0x2_0000_000c 0 []
 unfolding number
 first = (refl, refl, refl)
 
-first-told : CueBack (found.At 0 12 2) 0x2_0000_000c 0
+first-told : CueBack (results.At 0 12 2) 0x2_0000_000c 0
 unfolding number
 first-told = told_cue entry entry-small 0 0x2_0000_000c 0 [] first
 

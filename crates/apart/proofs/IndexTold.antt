@@ -13,12 +13,13 @@ use Rattle.wire.proofs.Numbers.{number_small}
 use Rattle.wire.proofs.Parts.{drop-small}
 use Rattle.cues.specs.Cues.{longest_recording, entry_size, Index, index, index_of, written_of, indexed_as, index_answer}
 use Rattle.cues.specs.Cues.{cue_size, cue_records, cue_in}
+use Rattle.results.specs.declared.End.{End}
 use Rattle.results.specs.declared.End.TheVariants as end
-use Rattle.results.specs.declared.Indexed.{Indexed}
-use Rattle.results.specs.declared.Indexed.TheVariants as indexed
-use Rattle.results.specs.declared.CueAt.{CueAt}
+use Rattle.results.specs.Results.{CueAnswer, IndexAnswer}
+use Rattle.std.specs.Prelude.{Err, Ok}
+use Rattle.results.specs.Results as results
 use Rattle.told.specs.Told.{Bounded, answer_of, more_of, unpack}
-use Rattle.told.specs.Answers.{told_answer, indexed_told, cue_told_as, cue_told, cue_beside}
+use Rattle.told.specs.Answers.{told_answer, told_number, ended_told, indexed_told, cue_told_as, cue_told, cue_beside}
 use Rattle.told.proofs.Unpacked.{packed, number_in, answer-bounded, tells-record}
 use Rattle.told.proofs.Back.{indexed_back, IndexTelling, indexed-reads}
 use Rattle.apart.specs.Boundary.{osc_index_step, CMeets}
@@ -26,18 +27,20 @@ use Rattle.apart.specs.ReadBack.{IndexBack, all_used, frame_waits, frame_ends, c
 use Rattle.apart.specs.ReadBack.{CueBack, there, nowhere, CueTold}
 use Rattle.apart.proofs.Bounds.{indexed-fits}
 
-index_back : (a : Indexed) → Bounded (indexed_told a) → IndexBack a (answer_of (indexed_told a)) (more_of (indexed_told a))
-index_back (indexed.Written n u end.Whole) h =
-    let p = packed (indexed_told (indexed.Written n u end.Whole)) h in all_used p.number refl (rw (p.count, p.low))
-index_back (indexed.Written n u end.Waiting) h =
-    let p = packed (indexed_told (indexed.Written n u end.Waiting)) h in frame_waits p.number refl (rw (p.count, p.low))
-index_back (indexed.Written n u (end.Refused r)) h =
-    let p = packed (indexed_told (indexed.Written n u (end.Refused r))) h in
+-- by why the index goes no further
+ended-back : (n u : ℕ) (why : End) → Bounded (ended_told n u why)
+    → IndexBack (results.Written n u why) (answer_of (ended_told n u why)) (more_of (ended_told n u why))
+ended-back n u end.Whole h = let p = packed (ended_told n u end.Whole) h in all_used p.number refl (rw (p.count, p.low))
+ended-back n u end.Waiting h = let p = packed (ended_told n u end.Waiting) h in frame_waits p.number refl (rw (p.count, p.low))
+ended-back n u (end.Refused r) h =
+    let p = packed (ended_told n u (end.Refused r)) h in
     frame_ends r p.number (omega (arith, p.frame, (number_in r).0)) (sym p.frame)
     (ap (λ (n : ℕ). offset_of (moved_refusal n r)) p.low ∙ sym p.field) (rw (p.count, p.low))
-index_back (indexed.Refused r) h =
-    let p = packed (indexed_told (indexed.Refused r)) h in
-    call_ends r (omega (arith, p.number, (number_in r).0)) (sym p.number) refl refl
+
+index_back : (a : IndexAnswer) → Bounded (indexed_told a) → IndexBack a (answer_of (indexed_told a)) (more_of (indexed_told a))
+index_back (Ok indexed) h = ended-back indexed.records indexed.used indexed.end h
+index_back (Err r) h =
+    let p = packed (told_number r) h in call_ends r (omega (arith, p.number, (number_in r).0)) (sym p.number) refl refl
 
 -- every part of a step's answer is told
 pub index_told : IndexTold
@@ -69,12 +72,12 @@ index_once bytes bytes' base base' out out' told more after after' t u =
     sym (indexed-back bytes base out told more after t) ∙ indexed-back bytes' base' out' told more after' u
 
 module _ (w : List ℕ) (k : ℕ) (b : (i : ℕ) → get_or w i 0 < 256) where
-  abbrev Back : CueAt → Type 0
+  abbrev Back : CueAnswer → Type 0
   Back r = CueBack r (answer_of (cue_told r)) (cue_beside r)
 
   cue-back : Back (cue_told_as (cue_in w k))
   cue-back =
-      by-test (λ (r : CueAt). Back (cue_told_as r)) (ltb k (length w / entry_size))
+      by-test (λ (r : CueAnswer). Back (cue_told_as r)) (ltb k (length w / entry_size))
       (λ _. by-test Back (ltb (cue_records w k) 0x100_0000)
       (λ h. let p = packed (told_answer (cue_records w k) (cue_size w k) 0)
       (answer-bounded (cue_records w k) (cue_size w k) 0 (ltb-true (cue_records w k) 0x100_0000 h)

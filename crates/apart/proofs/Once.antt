@@ -14,8 +14,10 @@ use Rattle.refusal.specs.declared.Refusal.{Refusal}
 use Rattle.refusal.specs.declared.Refusal.TheVariants.{PadOverflow}
 use Rattle.refusal.proofs.Only.{number_alone}
 use Rattle.wire.specs.Pad.{padded, pad_of}
-use Rattle.wire.specs.declared.Padded.{Padded}
-use Rattle.wire.specs.declared.Padded.TheVariants as padding
+use Rattle.results.specs.Results.{DecodeAnswer, Encoded, PortionAnswer}
+use Rattle.std.specs.Prelude.{Err, Ok}
+use Rattle.wire.specs.Results.{Padded}
+use Rattle.results.specs.Results as results
 use Rattle.wire.proofs.Choices.{by_le, is-or, lt-or-le}
 use Rattle.node.specs.Forest.{Forest, size, depth}
 use Rattle.node.specs.Records.{capacity}
@@ -32,12 +34,6 @@ use Rattle.decoder.proofs.Chosen.{by-decoded, by-trees, by-bounded}
 use Rattle.decoder.proofs.Offsets.{WholeLow, whole_low}
 use Rattle.portions.specs.Portions.{portion_of}
 use Rattle.encoder.specs.Outcome.{encode_order, string_order}
-use Rattle.results.specs.declared.Decoded.{Decoded}
-use Rattle.results.specs.declared.Decoded.TheVariants as decodes
-use Rattle.results.specs.declared.Portion.{Portion}
-use Rattle.results.specs.declared.Portion.TheVariants as portion
-use Rattle.results.specs.declared.Encoded.{Encoded}
-use Rattle.results.specs.declared.Encoded.TheVariants as encodes
 use Rattle.told.specs.declared.Told.{Told}
 use Rattle.told.specs.Told.{Bounded, answer_of, more_of, unpack, refusal_in, count_in, low_in}
 use Rattle.told.specs.Answers.{decoded_told, portion_told, encoded_told, padded_number}
@@ -71,7 +67,7 @@ module _ (framing : Framing) (room limit : ℕ) (msg : List ℕ) where
   limited-answerable n waiting h l = h
   limited-answerable n (refusal k) h l = h
   limited-answerable n (stopped f left k at) h l =
-      by-bounded (Answerable framing n) room limit f (decodes.Stopped (size f) left (dirty_in msg f) k at)
+      by-bounded (Answerable framing n) room limit f (results.Stopped (size f) left (dirty_in msg f) k at)
       (deep-listed framing limit f h.1) (λ _. (limits framing).2)
       (λ _ _. (h.0, l.2, l.1))
 
@@ -102,11 +98,11 @@ some-records (Tcp edition) count h w = h
 some-records (TcpVec edition) count h w = absurd (false≢true w)
 
 -- what it may answer is read back from its record
-telling : (framing : Framing) (n : ℕ) (d : Decoded) → Answerable framing n d → Telling (waits_by framing) d
-telling framing n (decodes.Packets count left dirty) a = some-records framing count a
-telling framing n decodes.Waiting a = a
-telling framing n (decodes.Refused r) a = tt
-telling framing n (decodes.Stopped count left dirty r frame) a = omega (arith, a.1)
+telling : (framing : Framing) (n : ℕ) (d : DecodeAnswer) → Answerable framing n d → Telling (waits_by framing) d
+telling framing n (results.Packets count left dirty) a = some-records framing count a
+telling framing n results.Waiting a = a
+telling framing n (Err r) a = tt
+telling framing n (results.Stopped count left dirty r frame) a = omega (arith, a.1)
 
 -- the answer is what both numbers are read back as
 decoded-back : (framing : Framing) (msg table : List ℕ) (limit told more : ℕ) (after : List ℕ)
@@ -124,13 +120,13 @@ decoded_once framing msg msg' table table' limit limit' told more after after' t
 -- ---- a refused call, and a list that stops
 
 -- what has a refusal's number is read back from both numbers
-refusal-back : (framing : Framing) (n told more : ℕ) (d : Decoded) → Answerable framing n d → unpack told more ≡ decoded_told n d
+refusal-back : (framing : Framing) (n told more : ℕ) (d : DecodeAnswer) → Answerable framing n d → unpack told more ≡ decoded_told n d
     → 1 ≤ refusal_in told → ReadBack d told more
-refusal-back framing n told more (decodes.Packets c l y) a e h = let p = parted e in absurd (omega arith)
-refusal-back framing n told more decodes.Waiting a e h = let p = parted e in absurd (omega arith)
-refusal-back framing n told more (decodes.Refused r) a e h =
+refusal-back framing n told more (results.Packets c l y) a e h = let p = parted e in absurd (omega arith)
+refusal-back framing n told more results.Waiting a e h = let p = parted e in absurd (omega arith)
+refusal-back framing n told more (Err r) a e h =
     let p = parted e in of_call r (record { number = sym p.number; offset = sym p.field }) p.low refl
-refusal-back framing n told more (decodes.Stopped c l y r at) a e h =
+refusal-back framing n told more (results.Stopped c l y r at) a e h =
     let p = parted e in
     of_frame r (record { number = sym p.number; offset = sym p.field }) (omega (arith, a.1, p.low))
     (rw (p.count, p.low, p.dirty, p.frame))
@@ -154,13 +150,13 @@ below-17 r n e h =
     ⊎_elim (λ k. absurd (h (omega (arith, k, e), omega (arith, (number_in r).1, e)))) (λ k. k) (lt-or-le 16 (number_of r))
 
 -- the refusal of a call, by its number
-pub record CallRefused (d : Decoded) (told : ℕ) : Type 0 where
+pub record CallRefused (d : DecodeAnswer) (told : ℕ) : Type 0 where
   pub refusal : Refusal
   pub number : number_of refusal ≡ refusal_in told
-  pub is : d ≡ decodes.Refused refusal
+  pub is : d ≡ Err refusal
 
 -- where a list has no bytes left, it is the call that is refused
-call-refused : (framing : Framing) (n told more : ℕ) (d : Decoded) → Answerable framing n d
+call-refused : (framing : Framing) (n told more : ℕ) (d : DecodeAnswer) → Answerable framing n d
     → (framing ≡ TcpVec Standard → low_in told ≡ 0) → ReadBack d told more → CallRefused d told
 call-refused framing n told more d a none (of_call r named left e) = record { refusal = r; number = named.number; is = e }
 call-refused framing n told more d a none (of_frame r named left e) =
@@ -174,7 +170,7 @@ decoded_alone framing msg msg' table table' limit limit' told more more' after a
     let y = call-refused framing (length msg') told more' u.answer (told-answerable framing msg' table' limit' told more' after' u) none
     (refusal_told framing msg' table' limit' told more' after' some u) in
     x.is
-    ∙ ap (λ (r : Refusal). decodes.Refused r)
+    ∙ ap (λ (r : Refusal). Err r)
     (number_alone x.refusal y.refusal (x.number ∙ sym y.number) (below-17 x.refusal (refusal_in told) x.number h))
     ∙ sym y.is
 
@@ -184,12 +180,12 @@ decoded_alone framing msg msg' table table' limit limit' told more more' after a
 pub portion_apart : PortionApart
 portion_apart bytes table limit told more after t = tells-record t (portion-fits limit bytes table t.meets.answers)
 
-step_back : (told more : ℕ) (a : Portion) → unpack told more ≡ portion_told a → StepBack a told more
-step_back told more (portion.Read c u y) e = let p = parted e in reads_on p.number p.frame (rw (p.count, p.low, p.dirty))
-step_back told more (portion.Ended c u y r) e =
+step_back : (told more : ℕ) (a : PortionAnswer) → unpack told more ≡ portion_told a → StepBack a told more
+step_back told more (results.Read c u y) e = let p = parted e in reads_on p.number p.frame (rw (p.count, p.low, p.dirty))
+step_back told more (results.Ended c u y r) e =
     let p = parted e in
     ended_by r p.number (omega (arith, p.frame, (number_in r).0)) (sym p.frame) (sym p.field) (rw (p.count, p.low, p.dirty))
-step_back told more (portion.Refused r) e =
+step_back told more (Err r) e =
     let p = parted e in refused_by r (omega (arith, p.number, (number_in r).0)) p.frame (sym p.number) refl
 
 -- a step that reads on, one that a refused frame ends and a refused call are told apart, and every part of the answer is told
@@ -205,11 +201,11 @@ few-refusals n e =
     (is-or n 1))
     (is-or n 13)
 
-step-telling : (n : ℕ) (d : Decoded) → Answerable (TcpVec Standard) n d → StepTelling (portion_of n d)
-step-telling n (decodes.Packets count left dirty) a = tt
-step-telling n decodes.Waiting a = tt
-step-telling n (decodes.Refused r) a = few-refusals (number_of r) a
-step-telling n (decodes.Stopped count left dirty r frame) a = tt
+step-telling : (n : ℕ) (d : DecodeAnswer) → Answerable (TcpVec Standard) n d → StepTelling (portion_of n d)
+step-telling n (results.Packets count left dirty) a = tt
+step-telling n results.Waiting a = tt
+step-telling n (Err r) a = few-refusals (number_of r) a
+step-telling n (results.Stopped count left dirty r frame) a = tt
 
 -- the answer is what both numbers are read back as
 portion-back : (bytes table : List ℕ) (limit told more : ℕ) (after : List ℕ)
@@ -228,12 +224,12 @@ step_once bytes bytes' table table' limit limit' told more after after' t u =
 
 -- ---- Waiting
 
-none-waits : (edition : Edition) (n told more : ℕ) (d : Decoded) → Answerable (Tcp edition) n d → unpack told more ≡ decoded_told n d
-    → refusal_in told ≡ 0 → count_in told ≡ 0 → d ≡ decodes.Waiting
-none-waits edition n told more (decodes.Packets c l y) a e h k = let p = parted e in absurd (omega arith)
-none-waits edition n told more decodes.Waiting a e h k = refl
-none-waits edition n told more (decodes.Refused r) a e h k = let p = parted e in absurd (omega (arith, number_in r))
-none-waits edition n told more (decodes.Stopped c l y r at) a e h k = let p = parted e in absurd (omega (arith, number_in r))
+none-waits : (edition : Edition) (n told more : ℕ) (d : DecodeAnswer) → Answerable (Tcp edition) n d → unpack told more ≡ decoded_told n d
+    → refusal_in told ≡ 0 → count_in told ≡ 0 → d ≡ results.Waiting
+none-waits edition n told more (results.Packets c l y) a e h k = let p = parted e in absurd (omega arith)
+none-waits edition n told more results.Waiting a e h k = refl
+none-waits edition n told more (Err r) a e h k = let p = parted e in absurd (omega (arith, number_in r))
+none-waits edition n told more (results.Stopped c l y r at) a e h k = let p = parted e in absurd (omega (arith, number_in r))
 
 -- count 0 without a refusal is Waiting, where `osc_decode_tcp` or `osc_decode_tcp2` tells it
 pub tcp_none_waits : NoneWaits
@@ -242,17 +238,17 @@ tcp_none_waits edition msg table limit told more after t h k =
     (decoded_apart (Tcp edition) msg table limit told more after t) h k in
     record {
       answer = sym t.meets.answered ∙ e;
-      whole = t.number ∙ ap (λ (d : Decoded). answer_of (decoded_told (length msg) d)) e ∙ omega arith;
-      beside = t.beside ∙ ap (λ (d : Decoded). more_of (decoded_told (length msg) d)) e;
-      left = t.meets.left ∙ ap (λ (d : Decoded). tabled d (forest_of (rule_of (Tcp edition) limit msg)) table) e;
+      whole = t.number ∙ ap (λ (d : DecodeAnswer). answer_of (decoded_told (length msg) d)) e ∙ omega arith;
+      beside = t.beside ∙ ap (λ (d : DecodeAnswer). more_of (decoded_told (length msg) d)) e;
+      left = t.meets.left ∙ ap (λ (d : DecodeAnswer). tabled d (forest_of (rule_of (Tcp edition) limit msg)) table) e;
     }
 
 -- ---- an encoder, and `osc_pad`
 
 -- an answer of at most 65,535 bytes has its bits
 written-bounded : (refusals before : List ℕ) (a : Encoded) (after : List ℕ) → Ended refusals before a after → Bounded (encoded_told a)
-written-bounded refusals before (encodes.Written n) after h = omega arith
-written-bounded refusals before (encodes.Refused r) after h = omega (arith, number_in r)
+written-bounded refusals before (Ok n) after h = omega arith
+written-bounded refusals before (Err r) after h = omega (arith, number_in r)
 
 -- what `osc_encode` or `osc_encode_tcp` tells is the record of its answer
 pub told_apart : EncodedApart
@@ -269,20 +265,20 @@ pub encoded_once : EncodedOnce
 encoded_once told more a b h p q = by_both a b (sym p ∙ q) (ap (λ (u : Told). u.number) p)
   where
     by_both : (a b : Encoded) → encoded_told a ≡ encoded_told b → refusal_in told ≡ (encoded_told a).number → a ≡ b
-    by_both (encodes.Written n) (encodes.Written m) e f = ap (λ (i : ℕ). encodes.Written i) (ap (λ (u : Told). u.low) e)
-    by_both (encodes.Written n) (encodes.Refused r) e f =
+    by_both (Ok n) (Ok m) e f = ap (λ (i : ℕ). Ok i) (ap (λ (u : Told). u.low) e)
+    by_both (Ok n) (Err r) e f =
         absurd (omega (arith, (number_in r).0, ap (λ (u : Told). u.number) e))
-    by_both (encodes.Refused r) (encodes.Written n) e f =
+    by_both (Err r) (Ok n) e f =
         absurd (omega (arith, (number_in r).0, ap (λ (u : Told). u.number) e))
-    by_both (encodes.Refused r) (encodes.Refused s) e f =
-        ap (λ (i : Refusal). encodes.Refused i)
+    by_both (Err r) (Err s) e f =
+        ap (λ (i : Refusal). Err i)
         (number_alone r s (ap (λ (u : Told). u.number) e) (below-17 r (refusal_in told) (sym f) h))
 
 -- `osc_pad` does not tell two answers by one number: 14 is no multiple of 4
 pub pad_once : PadOnce
 pad_once x y =
     by_le (λ (p : Padded). padded_number p ≡ padded_number (pad_of y) → p ≡ pad_of y) x 0xffff_ffff_ffff_fffc
-    (λ _. by_le (λ (q : Padded). padded x ≡ padded_number q → padding.At (padded x) ≡ q) y 0xffff_ffff_ffff_fffc
-    (λ _ e. ap (λ (i : ℕ). padding.At i) e) (λ _ e. absurd (omega arith)))
-    (λ _. by_le (λ (q : Padded). 14 ≡ padded_number q → padding.Refused PadOverflow ≡ q) y 0xffff_ffff_ffff_fffc
+    (λ _. by_le (λ (q : Padded). padded x ≡ padded_number q → Ok (padded x) ≡ q) y 0xffff_ffff_ffff_fffc
+    (λ _ e. ap (λ (i : ℕ). Ok i) e) (λ _ e. absurd (omega arith)))
+    (λ _. by_le (λ (q : Padded). 14 ≡ padded_number q → Err PadOverflow ≡ q) y 0xffff_ffff_ffff_fffc
     (λ _ e. absurd (omega arith)) (λ _ e. refl))

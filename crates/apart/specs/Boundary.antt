@@ -18,7 +18,7 @@ use Rattle.cues.specs.Cues.{Indexes, cue_in}
 use Rattle.cues.specs.Checks.{compared, numbered_from}
 use Rattle.cues.specs.Refusals.{cue_order}
 use Rattle.encoder.specs.Outcome.{Outcome, encode_order, string_order, Encodes, EncodesString}
-use Rattle.results.specs.declared.Encoded.{Encoded}
+use Rattle.results.specs.Results.{Encoded}
 use Rattle.told.specs.Told.{answer_of, refusal_in, low_in, offset_in, frame_in}
 use Rattle.told.specs.Answers.{told_number, decoded_told, portion_told, indexed_told, encoded_told, started_told, looked_told, cue_told_as, cue_told}
 use Rattle.told.specs.Answers.{cue_beside, differs_number, checked_number, padded_number}

@@ -1,14 +1,14 @@
 -- Which answer the numbers tell that C is given: each is read back from them.
-use Rattle.std.specs.Prelude.{◌≡◌, true, List, ℕ, ◌+◌, ◌^◌, ◌≤◌, ◌<◌, length, get_or, ℤ}
+use Rattle.std.specs.Prelude.{◌≡◌, true, List, ℕ, ◌+◌, ◌^◌, ◌≤◌, ◌<◌, length, get_or, ℤ, Err, Ok}
 use Rattle.clock.specs.Clock.{clock_number, tag_for, unix_for}
 use Rattle.clock.specs.Shift.{signed_of, difference_of}
 use Rattle.clock.specs.declared.Rule.{Rule}
 use Rattle.clock.specs.declared.OutOfRange.{OutOfRange}
 use Rattle.clock.specs.declared.OutOfRange.TheVariants.{TooEarly}
-use Rattle.clock.specs.declared.Tagged.{Tagged}
-use Rattle.clock.specs.declared.Tagged.TheVariants as tagged
-use Rattle.clock.specs.declared.Unix.{Unix}
-use Rattle.clock.specs.declared.Unix.TheVariants as unix
+use Rattle.clock.specs.Results.{Tagged, Unix}
+use Rattle.results.specs.Results.{CueAnswer, DecodeAnswer, Encoded, IndexAnswer, PortionAnswer}
+use Rattle.clock.specs.Results as unix
+use Rattle.results.specs.Results as results
 use Rattle.refusal.specs.Refusal.{number_of, offset_of, moved_refusal}
 use Rattle.refusal.specs.declared.Refusal.{Refusal}
 use Rattle.refusal.specs.declared.Refusal.TheVariants.{BadTable}
@@ -22,16 +22,7 @@ use Rattle.edition.specs.declared.Framing.TheVariants.{Udp, Tcp, TcpVec}
 use Rattle.framing.specs.Framing.{rule_of}
 use Rattle.answering.specs.Limits.{order_of, stops_by, waits_by, decoded}
 use Rattle.cues.specs.Cues.{cue_in}
-use Rattle.results.specs.declared.Decoded.{Decoded}
-use Rattle.results.specs.declared.Decoded.TheVariants as decodes
-use Rattle.results.specs.declared.Portion.{Portion}
-use Rattle.results.specs.declared.Portion.TheVariants as portion
 use Rattle.results.specs.declared.End.TheVariants as end
-use Rattle.results.specs.declared.Indexed.{Indexed}
-use Rattle.results.specs.declared.Indexed.TheVariants as indexed
-use Rattle.results.specs.declared.CueAt.{CueAt}
-use Rattle.results.specs.declared.CueAt.TheVariants as found
-use Rattle.results.specs.declared.Encoded.{Encoded}
 use Rattle.told.specs.Told.{unpack, refusal_in, count_in, low_in, offset_in, frame_in}
 use Rattle.told.specs.Answers.{decoded_told, portion_told, encoded_told, padded_number, cue_told_as}
 use Rattle.apart.specs.CContracts.{HasOffset}
@@ -73,11 +64,11 @@ fewest (TcpVec edition) = 0
 
 -- the answers that a decoder may give to n bytes: `decode_tcp` alone may wait; where a list stops, the bytes left have the frame's prefix,
 -- and are all from there on
-abbrev pub Answerable : Framing → ℕ → Decoded → Type 0
-Answerable framing n (decodes.Packets count left dirty) = fewest framing ≤ count
-Answerable framing n decodes.Waiting = waits_by framing ≡ true
-Answerable framing n (decodes.Refused r) = among (number_of r) (order_of framing) ≡ true
-Answerable framing n (decodes.Stopped count left dirty r frame) =
+abbrev pub Answerable : Framing → ℕ → DecodeAnswer → Type 0
+Answerable framing n (results.Packets count left dirty) = fewest framing ≤ count
+Answerable framing n results.Waiting = waits_by framing ≡ true
+Answerable framing n (Err r) = among (number_of r) (order_of framing) ≡ true
+Answerable framing n (results.Stopped count left dirty r frame) =
     (among (number_of r) (stops_by framing) ≡ true) × (4 ≤ left) × (frame + left ≡ n)
 
 -- a decoder does not tell two answers by one number and what is told beside it
@@ -99,7 +90,7 @@ ToldAlone =
 -- what it is that `osc_decode_tcp` or `osc_decode_tcp2` answered Waiting: the whole input is left, nothing is told beside it, and the
 -- table is as it was
 pub record WaitingTold (edition : Edition) (msg table : List ℕ) (limit told more : ℕ) (after : List ℕ) : Type 0 where
-  pub answer : decoded (rule_of (Tcp edition) limit) (capacity table) limit msg ≡ decodes.Waiting
+  pub answer : decoded (rule_of (Tcp edition) limit) (capacity table) limit msg ≡ results.Waiting
   pub whole : told ≡ length msg
   pub beside : more ≡ 0
   pub left : after ≡ table
@@ -119,10 +110,10 @@ pub record Named (r : Refusal) (told more : ℕ) : Type 0 where
   pub offset : offset_of r ≡ offset_in more
 
 -- the answer, read back from both numbers
-pub data ReadBack (answer : Decoded) (told more : ℕ) : Type 0 where
-  of_call : (r : Refusal) → Named r told more → low_in told ≡ 0 → answer ≡ decodes.Refused r → ReadBack answer told more
+pub data ReadBack (answer : DecodeAnswer) (told more : ℕ) : Type 0 where
+  of_call : (r : Refusal) → Named r told more → low_in told ≡ 0 → answer ≡ Err r → ReadBack answer told more
   of_frame : (r : Refusal) → Named r told more → 4 ≤ low_in told
-      → answer ≡ decodes.Stopped (count_in told) (low_in told) (low_in more) r (frame_in more) → ReadBack answer told more
+      → answer ≡ results.Stopped (count_in told) (low_in told) (low_in more) r (frame_in more) → ReadBack answer told more
 
 -- so is every answer of a decoder with a refusal's number: a list that stops is told from a refused call by the 64 bits alone
 abbrev pub RefusalTold : Type 0
@@ -134,12 +125,12 @@ RefusalTold =
 
 -- a step's answer, read back from both numbers: `osc_refusal` is not 0 exactly if the call is refused, and `osc_ended` is not 0 exactly if
 -- a frame is
-pub data StepBack (answer : Portion) (told more : ℕ) : Type 0 where
-  reads_on : refusal_in told ≡ 0 → frame_in more ≡ 0 → answer ≡ portion.Read (count_in told) (low_in told) (low_in more)
+pub data StepBack (answer : PortionAnswer) (told more : ℕ) : Type 0 where
+  reads_on : refusal_in told ≡ 0 → frame_in more ≡ 0 → answer ≡ results.Read (count_in told) (low_in told) (low_in more)
       → StepBack answer told more
   ended_by : (r : Refusal) → refusal_in told ≡ 0 → 1 ≤ frame_in more → number_of r ≡ frame_in more → offset_of r ≡ offset_in more
-      → answer ≡ portion.Ended (count_in told) (low_in told) (low_in more) r → StepBack answer told more
-  refused_by : (r : Refusal) → 1 ≤ refusal_in told → frame_in more ≡ 0 → number_of r ≡ refusal_in told → answer ≡ portion.Refused r
+      → answer ≡ results.Ended (count_in told) (low_in told) (low_in more) r → StepBack answer told more
+  refused_by : (r : Refusal) → 1 ≤ refusal_in told → frame_in more ≡ 0 → number_of r ≡ refusal_in told → answer ≡ Err r
       → StepBack answer told more
 
 -- so is every answer of a step
@@ -160,14 +151,14 @@ StepOnce =
 -- the answer of a step that writes an index, read back from both numbers: `osc_refusal` is not 0 exactly if the call is refused,
 -- `osc_ended` is not 0 exactly if a frame is, and `osc_waits` is 1 exactly if one is not all there; `osc_field` counts from the call's
 -- first byte, and so by the bytes used more than the refusal does
-pub data IndexBack (answer : Indexed) (told more : ℕ) : Type 0 where
-  all_used : refusal_in told ≡ 0 → more ≡ 0 → answer ≡ indexed.Written (count_in told) (low_in told) end.Whole → IndexBack answer told more
-  frame_waits : refusal_in told ≡ 0 → more ≡ 1 → answer ≡ indexed.Written (count_in told) (low_in told) end.Waiting
+pub data IndexBack (answer : IndexAnswer) (told more : ℕ) : Type 0 where
+  all_used : refusal_in told ≡ 0 → more ≡ 0 → answer ≡ results.Written (count_in told) (low_in told) end.Whole → IndexBack answer told more
+  frame_waits : refusal_in told ≡ 0 → more ≡ 1 → answer ≡ results.Written (count_in told) (low_in told) end.Waiting
       → IndexBack answer told more
   frame_ends : (r : Refusal) → refusal_in told ≡ 0 → 1 ≤ frame_in more → number_of r ≡ frame_in more
       → offset_of (moved_refusal (low_in told) r) ≡ offset_in more
-      → answer ≡ indexed.Written (count_in told) (low_in told) (end.Refused r) → IndexBack answer told more
-  call_ends : (r : Refusal) → 1 ≤ refusal_in told → number_of r ≡ refusal_in told → more ≡ 0 → answer ≡ indexed.Refused r
+      → answer ≡ results.Written (count_in told) (low_in told) (end.Refused r) → IndexBack answer told more
+  call_ends : (r : Refusal) → 1 ≤ refusal_in told → number_of r ≡ refusal_in told → more ≡ 0 → answer ≡ Err r
       → IndexBack answer told more
 
 -- so is every answer of such a step
@@ -184,9 +175,9 @@ IndexOnce =
     → (t' : CMeets (osc_index_step bytes' base' out') told more after') → t.answer ≡ t'.answer
 
 -- a cue, read back from both numbers: `osc_refusal` is not 0 exactly if there is none
-pub data CueBack (answer : CueAt) (told offset : ℕ) : Type 0 where
-  there : refusal_in told ≡ 0 → answer ≡ found.At offset (low_in told) (count_in told) → CueBack answer told offset
-  nowhere : refusal_in told ≡ 11 → offset ≡ 0 → answer ≡ found.Refused BadTable → CueBack answer told offset
+pub data CueBack (answer : CueAnswer) (told offset : ℕ) : Type 0 where
+  there : refusal_in told ≡ 0 → answer ≡ results.At offset (low_in told) (count_in told) → CueBack answer told offset
+  nowhere : refusal_in told ≡ 11 → offset ≡ 0 → answer ≡ Err BadTable → CueBack answer told offset
 
 -- so is every cue of an index of bytes
 abbrev pub CueTold : Type 0
@@ -198,8 +189,8 @@ CueTold =
 
 -- a tag, read back from the number and what was written: `osc_refusal` is not 0 exactly if there is none
 pub data TagBack (answer : Tagged) (told tag : ℕ) : Type 0 where
-  tag_there : refusal_in told ≡ 0 → answer ≡ tagged.Tag tag → TagBack answer told tag
-  no_tag : (r : OutOfRange) → refusal_in told ≡ clock_number r → tag ≡ 0 → answer ≡ tagged.Refused r → TagBack answer told tag
+  tag_there : refusal_in told ≡ 0 → answer ≡ Ok tag → TagBack answer told tag
+  no_tag : (r : OutOfRange) → refusal_in told ≡ clock_number r → tag ≡ 0 → answer ≡ Err r → TagBack answer told tag
 
 -- so is every tag
 abbrev pub TagTold : Type 0
@@ -210,7 +201,7 @@ TagTold =
 -- a Unix time, read back from the number and the 64 bits that were written
 pub data UnixBack (answer : Unix) (told seconds : ℕ) : Type 0 where
   time_there : refusal_in told ≡ 0 → answer ≡ unix.At (signed_of seconds) (low_in told) → UnixBack answer told seconds
-  no_time : refusal_in told ≡ 28 → seconds ≡ 0 → answer ≡ unix.Refused TooEarly → UnixBack answer told seconds
+  no_time : refusal_in told ≡ 28 → seconds ≡ 0 → answer ≡ Err TooEarly → UnixBack answer told seconds
 
 -- so is every time of a tag
 abbrev pub UnixTold : Type 0

@@ -15,10 +15,10 @@ use Rattle.node.specs.declared.tags.Class.{Class}
 use Rattle.node.specs.declared.tags.Class.TheVariants.{Four, Eight, Text as String, Blob, Scalar}
 use Rattle.text.specs.Text.{reach, read_text, fault_in}
 use Rattle.text.specs.declared.Lack.{Lack}
-use Rattle.text.specs.declared.Text.TheVariants.{Found, Lacks}
+use Rattle.argument.specs.Results.{Arg, Given}
+use Rattle.std.specs.Prelude.{Err}
+use Rattle.text.specs.Results.{Found}
 use Rattle.argument.specs.Argument.{read_arg, having, arg_item}
-use Rattle.argument.specs.declared.Arg.{Arg}
-use Rattle.argument.specs.declared.Arg.TheVariants.{Given, Refused}
 
 -- the reach of a blob, as the code computes it
 reached : (p n : ℕ) → (p + (4 + n) + 3) / 4 * 4 - p ≡ reach p (4 + n)
@@ -45,7 +45,7 @@ module _ (l : List ℕ) where
     eight-given h e f = rw (e, f, there 8 (Short Data p) (Given (arg_item tag (base + p) (number 4 l) (number 4 (drop 4 l))) 8) h)
 
     -- fewer than 4 bytes are no scalar number
-    pub scalar-short : length l < 4 → Refused (Short Data p) ≡ read_arg tag Scalar base l p
+    pub scalar-short : length l < 4 → Err (Short Data p) ≡ read_arg tag Scalar base l p
     unfolding read_arg
     scalar-short h = rw (lt-leb 4 (length l) h)
 
@@ -56,7 +56,7 @@ module _ (l : List ℕ) where
     scalar-given h e s = rw (le-leb 4 (length l) h, ← e, s)
 
     -- 4 bytes that are no scalar number are refused
-    pub not_scalar : {x : ℕ} → 4 ≤ length l → x ≡ number 4 l → is_scalar x ≡ false → Refused NotScalar ≡ read_arg tag Scalar base l p
+    pub not_scalar : {x : ℕ} → 4 ≤ length l → x ≡ number 4 l → is_scalar x ≡ false → Err NotScalar ≡ read_arg tag Scalar base l p
     unfolding read_arg
     not_scalar h e s = rw (le-leb 4 (length l) h, ← e, s)
 
@@ -67,24 +67,24 @@ module _ (l : List ℕ) where
     text-given e = rw (← e)
 
     -- a text that lacks something is refused by what it lacks
-    pub text-lacks : {lack : Lack} {fault : Fault} → Lacks lack ≡ read_text l p → fault ≡ fault_in Data p lack
-        → Refused fault ≡ read_arg tag String base l p
+    pub text-lacks : {lack : Lack} {fault : Fault} → Err lack ≡ read_text l p → fault ≡ fault_in Data p lack
+        → Err fault ≡ read_arg tag String base l p
     unfolding read_arg
     text-lacks e f = rw (f, ← e)
 
     -- a blob without a size is refused
-    pub blob-short : length l < 4 → Refused (Short Data p) ≡ read_arg tag Blob base l p
+    pub blob-short : length l < 4 → Err (Short Data p) ≡ read_arg tag Blob base l p
     unfolding read_arg
     blob-short h = rw (lt-leb 4 (length l) h)
 
     -- a blob whose bytes are not all there is refused
-    pub blob-cut : {n : ℕ} → 4 ≤ length l → n ≡ number 4 l → length l < 4 + n → Refused (Short Data p) ≡ read_arg tag Blob base l p
+    pub blob-cut : {n : ℕ} → 4 ≤ length l → n ≡ number 4 l → length l < 4 + n → Err (Short Data p) ≡ read_arg tag Blob base l p
     unfolding read_arg
     blob-cut {n} h e k = rw (le-leb 4 (length l) h, ← e, lt-leb (4 + n) (length l) k)
 
     -- a blob whose padding is not all there is refused
     pub blob-lacks : {n : ℕ} → 4 ≤ length l → n ≡ number 4 l → 4 + n ≤ length l → length l < (p + (4 + n) + 3) / 4 * 4 - p
-        → Refused (Short Padding (p + (4 + n))) ≡ read_arg tag Blob base l p
+        → Err (Short Padding (p + (4 + n))) ≡ read_arg tag Blob base l p
     unfolding read_arg
     blob-lacks {n} h e j k =
         rw (le-leb 4 (length l) h, ← e, le-leb (4 + n) (length l) j, lt-leb (reach p (4 + n)) (length l) (rw reached at k))

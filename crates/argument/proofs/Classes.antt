@@ -11,11 +11,11 @@ use Rattle.node.specs.declared.tags.Class.TheVariants.{Four, Eight, Bare, Text a
 use Rattle.node.specs.contracts.tags.Class.{the_type}
 use Rattle.argument.specs.Argument.{read_arg}
 use Rattle.argument.specs.CodeClasses.{Checked}
-use Rattle.argument.specs.declared.Arg.TheVariants.{Refused}
+use Rattle.std.specs.Prelude.{Err}
 
 -- of the classes that `read_checked` reads, after the three that are known only the unknown tags are left
 pub unknown-left : (tag : ℕ) (class : Class) (base : ℕ) (l : List ℕ) (p : ℕ) → OneOf (0 ∷ 1 ∷ 2 ∷ 6 ∷ []) (tag_of the_type class)
-    → Checked class → Refused UnknownTag ≡ read_arg tag class base l p
+    → Checked class → Err UnknownTag ≡ read_arg tag class base l p
 unfolding read_arg
 unknown-left tag Four base l p h k = absurd k
 unknown-left tag Eight base l p h k = absurd k

@@ -14,15 +14,14 @@ use Rattle.node.specs.declared.record.Item.{Item}
 use Rattle.node.specs.declared.tags.Class.{Class}
 use Rattle.node.specs.declared.tags.Class.TheVariants.{Four, Eight, Bare, Text as String, Blob, Scalar, Unknown}
 use Rattle.text.specs.Text.{until_nul, reach, read_text, non_zero}
-use Rattle.text.specs.declared.Text.{Text}
-use Rattle.text.specs.declared.Text.TheVariants.{Found, Lacks}
+use Rattle.argument.specs.Results.{Arg, Given}
+use Rattle.std.specs.Prelude.{Err, Ok}
+use Rattle.text.specs.Results.{Found, Text}
 use Rattle.text.proofs.Dirt.{dirt-join}
 use Rattle.text.proofs.Within.{found_in, found-ends}
 use Rattle.argument.specs.Argument.{read_arg, having, text_arg}
 use Rattle.argument.specs.CodeParts.{StandsAt, between, padding_from, dirt_of}
 use Rattle.argument.specs.Dirt.{padding_at, text_padding, types_padding, arg_padding, TextPadded, BlobPadded, own_padding, kept_padding}
-use Rattle.argument.specs.declared.Arg.{Arg}
-use Rattle.argument.specs.declared.Arg.TheVariants.{Given, Refused}
 use Rattle.argument.proofs.Stands.{stands-bytes, stands-nul}
 
 module _ (base p : ℕ) (l msg : List ℕ) (w : StandsAt msg (base + p) l) where
@@ -51,8 +50,8 @@ module _ (base p : ℕ) (l msg : List ℕ) (w : StandsAt msg (base + p) l) where
 
 -- what an argument that is given has of padding
 abbrev PaddingIs : ℕ → List ℕ → List ℕ → Class → Arg → Type 0
-PaddingIs base msg l class (Given item used) = arg_padding base msg class item ≡ between (padding_from class item used) used l
-PaddingIs base msg l class (Refused k) = Unit {0}
+PaddingIs base msg l class (Ok given) = arg_padding base msg class given.item ≡ between (padding_from class given.item given.used) given.used l
+PaddingIs base msg l class (Err k) = Unit {0}
 
 no_padding : (n : ℕ) (l : List ℕ) → [] ≡ between n n l
 no_padding n l = let z : n - n ≡ 0 = omega arith in rw z
@@ -63,8 +62,8 @@ module _ (tag base : ℕ) (l : List ℕ) (p : ℕ) (msg : List ℕ) (w : StandsA
   if-there class n k x f = by_le (PaddingIs base msg l class) n (length l) f (λ _. tt)
 
   of-text : (t : Text) → t ≡ read_text l p → PaddingIs base msg l String (text_arg tag (base + p) p t)
-  of-text (Found n used) e = text-padding base p l msg w e
-  of-text (Lacks k) e = tt
+  of-text (Ok text) e = text-padding base p l msg w e
+  of-text (Err k) e = tt
 
   all-padded : (class : Class) → PaddingIs base msg l class (read_arg tag class base l p)
   unfolding read_arg
@@ -94,14 +93,14 @@ blob_padded tag base p msg l later item used w e = arg-padding tag base l p msg 
 
 -- the padding of an argument begins no later than its data ends, and has at most 3 bytes
 abbrev Begun : Class → Arg → Type 0
-Begun class (Given item used) = (padding_from class item used ≤ used) × (used - padding_from class item used ≤ 3)
-Begun class (Refused k) = Unit {0}
+Begun class (Ok given) = (padding_from class given.item given.used ≤ given.used) × (given.used - padding_from class given.item given.used ≤ 3)
+Begun class (Err k) = Unit {0}
 
 begun-text : (tag offset : ℕ) (l : List ℕ) (p : ℕ) (t : Text) → t ≡ read_text l p → Begun String (text_arg tag offset p t)
-begun-text tag offset l p (Found n used) e =
+begun-text tag offset l p (Ok text) e =
     let u = found-ends l p e in
     (omega (arith, found_in l p e), omega (arith, u))
-begun-text tag offset l p (Lacks k) e = tt
+begun-text tag offset l p (Err k) e = tt
 
 begun-there : (class : Class) (n : ℕ) (l : List ℕ) (k : Fault) (x : Arg) → Begun class x → Begun class (having n l k x)
 begun-there class n l k x f = by_le (Begun class) n (length l) (λ _. f) (λ _. tt)

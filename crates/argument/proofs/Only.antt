@@ -5,8 +5,7 @@ use Prim.Native.Nat.{ℕ}
 use Rattle.wire.proofs.Only.{one-outcome}
 use Rattle.node.specs.declared.tags.Class.{Class}
 use Rattle.argument.specs.Argument.{read_arg}
-use Rattle.argument.specs.declared.Arg.{Arg}
-use Rattle.argument.specs.declared.Arg.TheVariants.{Given}
+use Rattle.argument.specs.Results.{Arg, Given}
 use Rattle.argument.specs.declared.GivenArg.{GivenArg}
 
 -- an argument that is judged has one answer

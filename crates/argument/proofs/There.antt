@@ -18,12 +18,11 @@ use Rattle.node.specs.declared.tags.Class.TheVariants.{Four, Eight, Bare, Text a
 use Rattle.node.specs.contracts.tags.Class.{the_type}
 use Rattle.text.specs.CodeFound.{TextFound}
 use Rattle.text.specs.Text.{reach, read_text}
-use Rattle.text.specs.declared.Text.{Text}
-use Rattle.text.specs.declared.Text.TheVariants.{Found, Lacks}
+use Rattle.argument.specs.Results.{Arg, Given}
+use Rattle.std.specs.Prelude.{Err, Ok}
+use Rattle.text.specs.Results.{Text}
 use Rattle.argument.specs.Argument.{read_arg, having, text_arg, arg_item}
 use Rattle.argument.specs.CodeRead.{ArgRead}
-use Rattle.argument.specs.declared.Arg.{Arg}
-use Rattle.argument.specs.declared.Arg.TheVariants.{Given}
 use Rattle.argument.proofs.Argued.{four-given, scalar-given, blob-given}
 
 -- what is there for an argument of each class
@@ -49,8 +48,8 @@ given-there tag Bare base l p g = tt
 given-there tag String base l p g = by-text (read_text l p) refl g
   where
     by-text : (t : Text) → read_text l p ≡ t → ArgRead (text_arg tag (base + p) p t) → TextFound l p
-    by-text (Found n used) e g = (n, used, e)
-    by-text (Lacks lack) e g = absurd g
+    by-text (Ok text) e g = (text.length, text.used, e)
+    by-text (Err lack) e g = absurd g
 given-there tag Blob base l p g =
     let a = having-given 4 l _ _ g in
     let b = having-given (4 + number 4 l) l _ _ a.1 in

@@ -19,18 +19,17 @@ use Rattle.node.specs.declared.record.Item.{Item}
 use Rattle.node.specs.declared.tags.Class.{Class}
 use Rattle.node.specs.declared.tags.Class.TheVariants.{Four, Eight, Bare, Text as String, Blob, Scalar, Unknown}
 use Rattle.text.specs.Text.{reach, read_text}
-use Rattle.text.specs.declared.Text.{Text}
-use Rattle.text.specs.declared.Text.TheVariants.{Found, Lacks}
+use Rattle.argument.specs.Results.{Arg, Given}
+use Rattle.std.specs.Prelude.{Err, Ok}
+use Rattle.text.specs.Results.{Found, Text}
 use Rattle.argument.specs.Argument.{read_arg, having, text_arg, arg_item}
-use Rattle.argument.specs.declared.Arg.{Arg}
-use Rattle.argument.specs.declared.Arg.TheVariants.{Given, Refused}
 
 -- ---- what holds of the numbers and of the bytes used
 
 -- P holds of what is given; of a refusal nothing is said
 abbrev pub Holds : (Item → ℕ → Type 0) → Arg → Type 0
-Holds P (Given item used) = P item used
-Holds P (Refused k) = Unit {0}
+Holds P (Ok given) = P given.item given.used
+Holds P (Err k) = Unit {0}
 
 module _ (P : Item → ℕ → Type 0) where
   -- of an argument that is read only if n bytes are there
@@ -40,8 +39,8 @@ module _ (P : Item → ℕ → Type 0) where
   -- of a text, if it holds of each that is found
   of-text : (tag offset p : ℕ) (t : Text) → ((n used : ℕ) → Found n used ≡ t → P (arg_item tag offset offset n) used)
       → Holds P (text_arg tag offset p t)
-  of-text tag offset p (Found n used) f = f n used refl
-  of-text tag offset p (Lacks k) f = tt
+  of-text tag offset p (Ok text) f = f text.length text.used refl
+  of-text tag offset p (Err k) f = tt
 
   -- five cases are enough for all classes
   module _ (tag base : ℕ) (l : List ℕ) (p : ℕ)
@@ -102,15 +101,15 @@ module _ {item : Item} {used : ℕ} (tag : ℕ) (class : Class) (base : ℕ) (l 
 
 -- a fault begins no later than m; of what is given nothing is said
 abbrev FaultLow : ℕ → Arg → Type 0
-FaultLow m (Given item used) = Unit {0}
-FaultLow m (Refused k) = fault_offset k ≤ m
+FaultLow m (Ok given) = Unit {0}
+FaultLow m (Err k) = fault_offset k ≤ m
 
 low-there : (m n : ℕ) (l : List ℕ) (k : Fault) (x : Arg) → fault_offset k ≤ m → (n ≤ length l → FaultLow m x) → FaultLow m (having n l k x)
 low-there m n l k x h f = by-test (FaultLow m) (leb n (length l)) (λ g. f (leb-true n (length l) g)) (λ _. h)
 
 low-text : (tag offset : ℕ) (l : List ℕ) (p : ℕ) (t : Text) → t ≡ read_text l p → FaultLow (p + length l) (text_arg tag offset p t)
-low-text tag offset l p (Found n used) e = tt
-low-text tag offset l p (Lacks lack) e = lacks-low Data l p e
+low-text tag offset l p (Ok text) e = tt
+low-text tag offset l p (Err lack) e = lacks-low Data l p e
 
 fault-low : (tag : ℕ) (class : Class) (base : ℕ) (l : List ℕ) (p : ℕ) → FaultLow (p + length l) (read_arg tag class base l p)
 unfolding read_arg
@@ -128,6 +127,6 @@ fault-low tag Scalar base l p =
 fault-low tag Unknown base l p = omega arith
 
 -- the fault of an argument begins in its part or right after it
-pub arg-low : {k : Fault} (tag : ℕ) (class : Class) (base : ℕ) (l : List ℕ) (p : ℕ) → Refused k ≡ read_arg tag class base l p
+pub arg-low : {k : Fault} (tag : ℕ) (class : Class) (base : ℕ) (l : List ℕ) (p : ℕ) → Err k ≡ read_arg tag class base l p
     → fault_offset k ≤ p + length l
 arg-low tag class base l p e = subst (FaultLow (p + length l)) (sym e) (fault-low tag class base l p)

@@ -8,9 +8,9 @@ use Rattle.node.specs.declared.record.Item.{Item}
 use Rattle.node.specs.declared.tags.Class.{Class}
 use Rattle.node.specs.declared.tags.Class.TheVariants.{Four, Eight, Bare, Text as String, Blob, Scalar, Unknown}
 use Rattle.text.specs.Text.{until_nul, read_text, non_zero}
-use Rattle.text.specs.declared.Text.TheVariants.{Found}
+use Rattle.argument.specs.Results.{Given}
+use Rattle.text.specs.Results.{Found}
 use Rattle.argument.specs.Argument.{read_arg}
-use Rattle.argument.specs.declared.Arg.TheVariants.{Given}
 
 -- the padding that begins at offset o: up to the first place that is a multiple of 4 from `base` on (document 01, rule 1)
 abbrev pub padding_at : ℕ → List ℕ → ℕ → List ℕ

@@ -3,3 +3,4 @@ pub mod CodeClasses
 pub mod CodeRead
 pub mod CodeParts
 pub mod Dirt
+pub mod Results

@@ -12,23 +12,21 @@ ghost use Rattle.argument.specs.CodeRead.{ArgRead};
 use node::record::Item;
 use node::tags::Class;
 use refusal::{Fault, Field};
-use text::{Text, find_osc_string};
+use text::find_osc_string;
 use wire::be_u32;
-
-// What reading one argument gives.
-#[derive(Clone, Copy)]
-pub enum Arg {
-    // Its own numbers, and how many bytes of data it takes.
-    Given { item: Item, used: usize },
-    Refused(Fault),
-}
 
 // The data of one argument of this tag and class at the front of `input`, whose first byte stands at `pos` of its frame: padding
 // counts from there. An offset is `base` more than a position. Only for classes whose data is more than bytes as they are, and is judged
 // here; apart from the others, so that the loop that passes over plain bytes is short.
 //
 // Ruled out: the offset of a blob's size, in place of its bytes, or of its bytes as its start; a surrogate as a 'c'.
-pub fn read_checked(tag: u8, class: Class, input: &[u8], base: usize, pos: usize) -> Arg
+pub fn read_checked(
+    tag: u8,
+    class: Class,
+    input: &[u8],
+    base: usize,
+    pos: usize,
+) -> Result<GivenArg, Fault>
     requires input_bound { base + pos + length input.now ≤ longest }
     requires checked { Checked class }
     ensures { result ≡ read_arg tag class base input.now pos }
@@ -37,62 +35,49 @@ pub fn read_checked(tag: u8, class: Class, input: &[u8], base: usize, pos: usize
         Class::Text => read_text(tag, input, base, pos),
         Class::Blob => read_blob(tag, input, base, pos),
         Class::Scalar => read_char(tag, input, base, pos),
-        _ => Arg::Refused(Fault::UnknownTag),
+        _ => Err(Fault::UnknownTag),
     }
 }
 
 // A scalar number ('c').
-fn read_char(tag: u8, input: &[u8], base: usize, pos: usize) -> Arg
+fn read_char(tag: u8, input: &[u8], base: usize, pos: usize) -> Result<GivenArg, Fault>
     requires { base + pos + length input.now ≤ longest }
     ensures { result ≡ read_arg tag class.Scalar base input.now pos }
 {
     if input.len() < 4 {
-        return Arg::Refused(Fault::Short {
+        return Err(Fault::Short {
             field: Field::Data,
             at: pos,
         });
     }
     let scalar = be_u32(input, 0);
     if node::tags::is_scalar(scalar) {
-        return Arg::Given {
-            item: Item {
-                kind: tag,
-                a: scalar,
-                b: 0,
-                start: (base + pos) as u32,
-            },
-            used: 4,
-        };
+        return Ok(given(tag, (base + pos) as u32, scalar, 0, 4));
     }
-    Arg::Refused(Fault::NotScalar)
+    Err(Fault::NotScalar)
 }
 
 // A text ('s'): the range of its bytes.
-fn read_text(tag: u8, input: &[u8], base: usize, pos: usize) -> Arg
+fn read_text(tag: u8, input: &[u8], base: usize, pos: usize) -> Result<GivenArg, Fault>
     requires { base + pos + length input.now ≤ longest }
     ensures { result ≡ read_arg tag class.Text base input.now pos }
 {
     match text::read_osc_string(input, pos) {
-        Text::Found { length, used } => Arg::Given {
-            item: Item {
-                kind: tag,
-                a: (base + pos) as u32,
-                b: length as u32,
-                start: (base + pos) as u32,
-            },
-            used,
-        },
-        Text::Lacks(lack) => Arg::Refused(text::fault_in(Field::Data, pos, lack)),
+        Ok(text) => {
+            let start = (base + pos) as u32;
+            Ok(given(tag, start, start, text.length as u32, text.used))
+        }
+        Err(lack) => Err(text::fault_in(Field::Data, pos, lack)),
     }
 }
 
 // A size, where the data begins, and so many bytes ('b'): the range of the bytes. A size is below 2^32, so no sum of 64 bits wraps.
-fn read_blob(tag: u8, input: &[u8], base: usize, pos: usize) -> Arg
+fn read_blob(tag: u8, input: &[u8], base: usize, pos: usize) -> Result<GivenArg, Fault>
     requires { base + pos + length input.now ≤ longest }
     ensures { result ≡ read_arg tag class.Blob base input.now pos }
 {
     if input.len() < 4 {
-        return Arg::Refused(Fault::Short {
+        return Err(Fault::Short {
             field: Field::Data,
             at: pos,
         });
@@ -100,32 +85,24 @@ fn read_blob(tag: u8, input: &[u8], base: usize, pos: usize) -> Arg
     let size = be_u32(input, 0);
     let end = 4 + size as usize;
     if input.len() < end {
-        return Arg::Refused(Fault::Short {
+        return Err(Fault::Short {
             field: Field::Data,
             at: pos,
         });
     }
     let used = (pos + end + 3) / 4 * 4 - pos;
     if input.len() < used {
-        return Arg::Refused(Fault::Short {
+        return Err(Fault::Short {
             field: Field::Padding,
             at: pos + end,
         });
     }
     let bytes = base + pos + 4;
-    Arg::Given {
-        item: Item {
-            kind: tag,
-            a: bytes as u32,
-            b: size,
-            start: (bytes - 4) as u32,
-        },
-        used,
-    }
+    Ok(given(tag, (bytes - 4) as u32, bytes as u32, size, used))
 }
 
 // An argument's own numbers, and how many bytes of data it takes.
-#[derive(Clone, Copy)]
+#[derive(Clone, Copy, Debug, PartialEq, Eq)]
 pub struct GivenArg {
     pub item: Item,
     pub used: usize,
@@ -137,7 +114,7 @@ pub struct GivenArg {
 pub fn read_osc_arg(tag: u8, class: Class, input: &[u8], base: usize, pos: usize) -> GivenArg
     requires input_bound { base + pos + length input.now ≤ longest }
     requires arg_read { ArgRead (read_arg tag class base input.now pos) }
-    ensures { read_arg tag class base input.now pos ≡ Arg.Given result.item result.used }
+    ensures { read_arg tag class base input.now pos ≡ Ok result }
 {
     let start = (base + pos) as u32;
     match class {

@@ -18,11 +18,13 @@ use Rattle.argument.specs.Argument.{read_arg}
 use Rattle.arguments.specs.Arguments.{Args, refused, args, later, arg_taken, Open, waits, array_item, act, read_tags, read_args}
 use Rattle.arguments.specs.CodeReadings.{measured, keeping, kept_of, ArgsAccepted, ArgsRoom}
 use Rattle.scan.specs.CodeScans.{used_of, more_used, arg_passed, turn, scan, tag_before, back}
-use Rattle.argument.specs.declared.Arg.{Arg}
-use Rattle.argument.specs.declared.Arg.TheVariants as arg
-use Rattle.arguments.specs.declared.Measured.TheVariants as measure
-use Rattle.scan.specs.declared.Scanned.{Scanned}
-use Rattle.scan.specs.declared.Scanned.TheVariants.{Used, Refused}
+use Rattle.argument.specs.Results.{Arg}
+use Rattle.wire.proofs.Payloads.{ok-is}
+use Rattle.arguments.specs.declared.MeasuredArgs.{MeasuredArgs}
+use Rattle.scan.proofs.Passed.{args-are}
+use Rattle.scan.specs.Results.{Scanned, Used}
+use Rattle.std.specs.Prelude.{Err, Ok}
+use Rattle.arguments.specs.Results as measure
 use Rattle.scan.specs.declared.Back.{Back}
 use Rattle.scan.specs.declared.Back.TheVariants.{Uncut, Cut}
 use Rattle.argument.proofs.Within.{given-within}
@@ -33,30 +35,30 @@ use Rattle.arguments.proofs.Nested.{Nested, nesting, args-nested}
 
 -- the arguments without the tree, and a scan without its dirt
 abbrev outcome : Args → Scanned
-outcome (refused fault) = Refused fault
+outcome (refused fault) = Err fault
 outcome (args kept used) = Used used 0
 
 abbrev plainly : Scanned → Scanned
-plainly (Refused fault) = Refused fault
-plainly (Used used dirty) = Used used 0
+plainly (Err fault) = Err fault
+plainly (Ok scanned) = Used scanned.used 0
 
 outcome-later : (n : ℕ) (o : Args) → outcome (later n o) ≡ more_used n 0 (outcome o)
 outcome-later n (refused fault) = refl
 outcome-later n (args kept used) = refl
 
 plain_more : (n dirt : ℕ) (s : Scanned) → plainly (more_used n dirt s) ≡ more_used n 0 (plainly s)
-plain_more n dirt (Refused fault) = refl
-plain_more n dirt (Used used dirty) = refl
+plain_more n dirt (Err fault) = refl
+plain_more n dirt (Ok scanned) = refl
 
 outcome-taken : (class : Class) (go : List ℕ → ℕ → Forest → Args) (go_s : List ℕ → ℕ → Scanned)
     (l : List ℕ) (p : ℕ) (frame : Forest) (x : Arg)
     → ((m : List ℕ) (q : ℕ) (f : Forest) → outcome (go m q f) ≡ plainly (go_s m q))
     → outcome (arg_taken go l p frame x) ≡ plainly (arg_passed go_s l p (used_of class l x))
-outcome-taken class go go_s l p frame (arg.Refused fault) h = refl
-outcome-taken class go go_s l p frame (arg.Given item used) h =
-    let f = snoc frame item nil in
-    outcome-later used (go (drop used l) (p + used) f) ∙ ap (more_used used 0) (h (drop used l) (p + used) f)
-    ∙ sym (plain_more used _ (go_s (drop used l) (p + used)))
+outcome-taken class go go_s l p frame (Err fault) h = refl
+outcome-taken class go go_s l p frame (Ok given) h =
+    let f = snoc frame given.item nil in
+    outcome-later given.used (go (drop given.used l) (p + given.used) f) ∙ ap (more_used given.used 0) (h (drop given.used l) (p + given.used) f)
+    ∙ sym (plain_more given.used _ (go_s (drop given.used l) (p + given.used)))
 
 outcome-act : (s : Sort) (go : List ℕ → ℕ → Forest → List Open → Args) (go_s : List ℕ → ℕ → ℕ → Scanned) (base tag : ℕ) (l : List ℕ)
     (p : ℕ)
@@ -128,10 +130,10 @@ counts-act Closes k go base tag l p frame (waits outer item ∷ below) h =
 counts-act (Leaf class) k go base tag l p frame below h = by-arg (read_arg tag class base l p)
   where
     by-arg : (x : Arg) → Counts (total (tag_before (Leaf class) k) frame below) (arg_taken (λ m q f. go m q f below) l p frame x)
-    by-arg (arg.Refused fault) = tt
-    by-arg (arg.Given item used) =
-        counts-later (total (tag_before (Leaf class) k) frame below) used (go (drop used l) (p + used) (snoc frame item nil) below)
-        (rw (total-leaf class k frame below item) at (h (drop used l) (p + used) (snoc frame item nil) below))
+    by-arg (Err fault) = tt
+    by-arg (Ok given) =
+        counts-later (total (tag_before (Leaf class) k) frame below) given.used (go (drop given.used l) (p + given.used) (snoc frame given.item nil) below)
+        (rw (total-leaf class k frame below given.item) at (h (drop given.used l) (p + given.used) (snoc frame given.item nil) below))
 
 counts-law : (base : ℕ) (ts l : List ℕ) (p : ℕ) (frame : Forest) (below : List Open)
     → Counts (total (back ts) frame below) (read_tags base ts l p frame below)
@@ -166,13 +168,13 @@ accepted-counted {k} base ts l p b a = by_out (read_args base ts l p) a (rw (←
 -- ---- the first reading
 
 -- a fault of the forward scan is the fault of the reading
-pub measured-refused : {fault : Fault} (dirt : Forest → ℕ) (base : ℕ) (ts l : List ℕ) (p : ℕ) → Refused fault ≡ scan ts l p 0
-    → measure.Refused fault ≡ measured dirt (read_args base ts l p)
+pub measured-refused : {fault : Fault} (dirt : Forest → ℕ) (base : ℕ) (ts l : List ℕ) (p : ℕ) → Err fault ≡ scan ts l p 0
+    → Err fault ≡ measured dirt (read_args base ts l p)
 unfolding measured
 measured-refused {fault} dirt base ts l p e =
     by_out (read_args base ts l p) (ap plainly e ∙ sym (scan-law base ts l p nil []))
   where
-    by_out : (o : Args) → Refused fault ≡ outcome o → measure.Refused fault ≡ measured dirt o
+    by_out : (o : Args) → Err fault ≡ outcome o → Err fault ≡ measured dirt o
     by_out (refused k) s = let z : fault ≡ k = cc in rw z
     by_out (args kept used) s = let z : ◌≡◌ {A = ℕ} 0 1 = cc in absurd (omega arith)
 
@@ -199,7 +201,7 @@ measured-kept {used} {dirty} dirt base ts l p k e b d =
     by_out : (o : Args) → Used used 0 ≡ outcome o → Counts (counted k) o → Nested (nesting k) o → dirty ≡ dirt (kept_of o)
         → measure.Kept (counted k) (nesting k) used dirty ≡ measured dirt o
     by_out (refused fault) s w d g = let z : ◌≡◌ {A = ℕ} 0 1 = cc in absurd (omega arith)
-    by_out (args kept u) s w d g = let z : used ≡ u = cc in rw (z, w, d, g)
+    by_out (args kept u) s w d g = let z : used ≡ u = (args-are s).0 in rw (z, w, d, g)
 
 -- what the forward scan accepts is accepted
 pub scan-accepted : {used dirty : ℕ} (base : ℕ) (ts l : List ℕ) (p : ℕ) → Used used dirty ≡ scan ts l p 0
@@ -211,11 +213,11 @@ scan-accepted {used} base ts l p e = by_out (read_args base ts l p) (ap plainly 
     by_out (args kept u) s = tt
 
 -- and what it refuses is not
-pub scan-refused : {fault : Fault} (base : ℕ) (ts l : List ℕ) (p : ℕ) → Refused fault ≡ scan ts l p 0 → ArgsAccepted (read_args base ts l p)
+pub scan-refused : {fault : Fault} (base : ℕ) (ts l : List ℕ) (p : ℕ) → Err fault ≡ scan ts l p 0 → ArgsAccepted (read_args base ts l p)
     → ⊥
 scan-refused {fault} base ts l p e = by_out (read_args base ts l p) (ap plainly e ∙ sym (scan-law base ts l p nil []))
   where
-    by_out : (o : Args) → Refused fault ≡ outcome o → ArgsAccepted o → ⊥
+    by_out : (o : Args) → Err fault ≡ outcome o → ArgsAccepted o → ⊥
     by_out (refused k) s a = a
     by_out (args kept u) s a = let z : ◌≡◌ {A = ℕ} 0 1 = cc in omega arith
 
@@ -262,10 +264,10 @@ used-act Closes go base tag l p frame (waits outer item ∷ below) h = h l p (sn
 used-act (Leaf class) go base tag l p frame below h = by-arg (read_arg tag class base l p) refl
   where
     by-arg : (x : Arg) → x ≡ read_arg tag class base l p → UsedIn (length l) (arg_taken (λ m q f. go m q f below) l p frame x)
-    by-arg (arg.Refused fault) e = tt
-    by-arg (arg.Given item used) e =
-        let f = snoc frame item nil in
-        used-later used l (go (drop used l) (p + used) f below) (given-within tag class base l p e) (h (drop used l) (p + used) f below)
+    by-arg (Err fault) e = tt
+    by-arg (Ok given) e =
+        let f = snoc frame given.item nil in
+        used-later given.used l (go (drop given.used l) (p + given.used) f below) (given-within tag class base l p e) (h (drop given.used l) (p + given.used) f below)
 
 used-law : (base : ℕ) (ts l : List ℕ) (p : ℕ) (frame : Forest) (below : List Open) → UsedIn (length l) (read_tags base ts l p frame below)
 unfolding read_tags
@@ -278,6 +280,22 @@ args-within base ts l p e = subst (UsedIn (length l)) (sym e) (used-law base ts 
 
 -- ---- what a caller knows by the first reading
 
+-- two measures that are the same agree in each number
+pub record SameMeasure (c u d c' u' d' : ℕ) : Type 0 where
+  pub count : c ≡ c'
+  pub used : u ≡ u'
+  pub dirty : d ≡ d'
+
+pub measured-are : {count deep used dirty count' deep' used' dirty' : ℕ}
+    → measure.Kept count deep used dirty ≡ measure.Kept count' deep' used' dirty'
+    → SameMeasure count used dirty count' used' dirty'
+measured-are e =
+    record {
+      count = ap (λ (x : MeasuredArgs). x.count) (ok-is e);
+      used = ap (λ (x : MeasuredArgs). x.used) (ok-is e);
+      dirty = ap (λ (x : MeasuredArgs). x.dirty) (ok-is e);
+    }
+
 -- so does the first reading answer no more records than tags, and no more bytes than there are
 pub measured-within : {count deep used dirty : ℕ} (dirt : Forest → ℕ) (base : ℕ) (ts l : List ℕ) (p : ℕ)
     → measure.Kept count deep used dirty ≡ measured dirt (read_args base ts l p) → (count ≤ length ts) × (used ≤ length l)
@@ -288,7 +306,7 @@ measured-within {count} {deep} {used} {dirty} dirt base ts l p e =
     by_out : (o : Args) → measure.Kept count deep used dirty ≡ measured dirt o → size (kept_of o) ≤ length ts → UsedIn (length l) o
         → (count ≤ length ts) × (used ≤ length l)
     by_out (refused fault) e k w = let z : ◌≡◌ {A = ℕ} 0 1 = cc in absurd (omega arith)
-    by_out (args kept u) e k w = let z : count ≡ size kept = cc in let y : used ≡ u = cc in (omega arith, omega arith)
+    by_out (args kept u) e k w = let z = measured-are e in (omega (arith, k, z.count), omega (arith, w, z.used))
 
 -- the second reading has room, if the table has room for the count
 pub measured-room : {count deep used dirty : ℕ} (dirt : Forest → ℕ) (o : Args) (index : ℕ) (table : List ℕ)
@@ -297,5 +315,5 @@ pub measured-room : {count deep used dirty : ℕ} (dirt : Forest → ℕ) (o : A
 unfolding measured
 measured-room dirt (refused fault) index table e h k = let z : ◌≡◌ {A = ℕ} 0 1 = cc in absurd (omega arith)
 measured-room {count} dirt (args kept used) index table e h k =
-    let z : count ≡ size kept = cc in
-    record { accepted = tt; room = record { fits = omega arith; low = omega arith } }
+    let z = (measured-are e).count in
+    record { accepted = tt; room = record { fits = omega (arith, h, z); low = omega (arith, k, z) } }

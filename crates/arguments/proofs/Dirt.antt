@@ -1,16 +1,13 @@
 -- The forward scan finds the dirt of what is kept: of all arguments where every array is closed, and no less where one stays open.
 use mathlib.Core.Path.{◌≡◌, refl, ap, sym, ◌∙◌, subst}
 use mathlib.Core.Bool.{Bool, true, false, cond}
-use mathlib.Core.Logic.{⊎_elim}
 use mathlib.Core.List.{List, [], ◌∷◌, ◌++◌}
 use Prim.Native.Nat.{ℕ, zero, suc, ◌+◌, ◌*◌, ◌≤◌}
 use native.Mathlib.Omega.{arith}
 use borrow.Author.Tests.{ne_eqb}
 use lib.Dec.{eqb}
 use lib.ListN.{length, drop, replicate}
-use Rattle.refusal.specs.declared.Fault.{Fault}
-use Rattle.wire.proofs.Choices.{is-or}
-use Rattle.node.specs.Forest.{Forest, nil, node, size, snoc}
+use Rattle.node.specs.Forest.{Forest, nil, node, snoc}
 use Rattle.node.specs.Tags.{message_kind, bundle_kind, array_kind, class_of, sort_of}
 use Rattle.node.specs.declared.record.Item.{Item}
 use Rattle.node.specs.declared.tags.Class.{Class}
@@ -21,22 +18,23 @@ use Rattle.text.specs.Text.{non_zero}
 use Rattle.argument.specs.Argument.{read_arg}
 use Rattle.argument.specs.CodeParts.{StandsAt, between, padding_from, dirt_of}
 use Rattle.argument.specs.Dirt.{own_padding, arg_padding}
-use Rattle.argument.specs.declared.Arg.{Arg}
-use Rattle.argument.specs.declared.Arg.TheVariants as arg
+use Rattle.argument.specs.Results.{Arg}
+use Rattle.scan.proofs.Passed.{args-are}
+use Rattle.scan.specs.Results.{Scanned, Used}
+use Rattle.std.specs.Prelude.{Err, Ok}
+use Rattle.argument.specs.Results as arg
+use Rattle.arguments.specs.Results as measure
 use Rattle.argument.proofs.Dirt.{arg-padding, own_dirt, dirt-node, dirt-nil}
 use Rattle.argument.proofs.Pads.{dirt-few}
 use Rattle.argument.proofs.Stands.{stands_on, stands-somewhere}
 use Rattle.argument.proofs.Within.{given-within, given-kind}
 use Rattle.scan.specs.CodeScans.{used_of, more_used, arg_passed, turn, scan, tag_before, back, AllClosed}
-use Rattle.scan.specs.declared.Scanned.{Scanned}
-use Rattle.scan.specs.declared.Scanned.TheVariants.{Used, Refused}
 use Rattle.scan.specs.declared.Back.{Back}
 use Rattle.scan.specs.declared.Back.TheVariants.{Uncut, Cut}
 use Rattle.scan.proofs.Passed.{any-base}
 use Rattle.arguments.specs.Arguments.{Args, refused, args, later, arg_taken, Open, waits, array_item, act, read_tags, read_args}
 use Rattle.arguments.specs.CodeReadings.{measured, kept_of, ArgsAccepted}
-use Rattle.arguments.specs.declared.Measured.TheVariants as measure
-use Rattle.arguments.proofs.Counts.{scan-accepted, measured-within}
+use Rattle.arguments.proofs.Counts.{measured-are, scan-accepted, measured-within}
 use Rattle.arguments.proofs.Kept.{clash}
 
 -- the class of a tag that is an argument's
@@ -97,42 +95,42 @@ module _ (base : ℕ) (msg : List ℕ) where
   -- the dirt of what is kept: where k is what the tags give, s their scan, f the frame and b what waits below it
   abbrev Weighs : Back → Scanned → Forest → List Open → Args → Type 0
   Weighs k s f b (refused fault) = Unit {0}
-  Weighs k (Refused fault) f b (args kept used) = ⊥
-  Weighs (Uncut n c i) (Used u dirty) f b (args kept used) = dirt_of base msg kept ≡ dirt_of base msg f + waiting_dirt n b + dirty
-  Weighs (Cut n c i) (Used u dirty) f b (args kept used) = dirt_of base msg kept ≤ dirty
+  Weighs k (Err fault) f b (args kept used) = ⊥
+  Weighs (Uncut n c i) (Ok scanned) f b (args kept used) = dirt_of base msg kept ≡ dirt_of base msg f + waiting_dirt n b + scanned.dirty
+  Weighs (Cut n c i) (Ok scanned) f b (args kept used) = dirt_of base msg kept ≤ scanned.dirty
 
   weighs-later : (k : Back) (s : Scanned) (f f' : Forest) (b : List Open) (o : Args) (n dirt : ℕ)
       → dirt_of base msg f' ≡ dirt_of base msg f + dirt → Weighs k s f' b o → Weighs k (more_used n dirt s) f b (later n o)
   weighs-later k s f f' b (refused fault) n dirt e w = tt
-  weighs-later k (Refused fault) f f' b (args kept used) n dirt e w = w
-  weighs-later (Uncut m c i) (Used u dirty) f f' b (args kept used) n dirt e w = omega arith
-  weighs-later (Cut m c i) (Used u dirty) f f' b (args kept used) n dirt e w = omega arith
+  weighs-later k (Err fault) f f' b (args kept used) n dirt e w = w
+  weighs-later (Uncut m c i) (Ok scanned) f f' b (args kept used) n dirt e w = omega arith
+  weighs-later (Cut m c i) (Ok scanned) f f' b (args kept used) n dirt e w = omega arith
 
   weighs-opens : (k : Back) (s : Scanned) (f : Forest) (start : ℕ) (b : List Open) (o : Args)
       → Weighs k s nil (waits f (array_item start) ∷ b) o → Weighs (tag_before Opens k) s f b o
   weighs-opens k s f start b (refused fault) w = tt
-  weighs-opens (Uncut zero c i) (Refused fault) f start b (args kept used) w = w
-  weighs-opens (Uncut (suc n) c i) (Refused fault) f start b (args kept used) w = w
-  weighs-opens (Cut n c i) (Refused fault) f start b (args kept used) w = w
-  weighs-opens (Uncut zero c i) (Used u dirty) f start b (args kept used) w = omega (arith, dirt-nil base msg)
-  weighs-opens (Uncut (suc n) c i) (Used u dirty) f start b (args kept used) w = omega (arith, dirt-nil base msg, array-clean start)
-  weighs-opens (Cut n c i) (Used u dirty) f start b (args kept used) w = w
+  weighs-opens (Uncut zero c i) (Err fault) f start b (args kept used) w = w
+  weighs-opens (Uncut (suc n) c i) (Err fault) f start b (args kept used) w = w
+  weighs-opens (Cut n c i) (Err fault) f start b (args kept used) w = w
+  weighs-opens (Uncut zero c i) (Ok scanned) f start b (args kept used) w = omega (arith, dirt-nil base msg)
+  weighs-opens (Uncut (suc n) c i) (Ok scanned) f start b (args kept used) w = omega (arith, dirt-nil base msg, array-clean start)
+  weighs-opens (Cut n c i) (Ok scanned) f start b (args kept used) w = w
 
   weighs-closes : (k : Back) (s : Scanned) (f g : Forest) (item : Item) (b : List Open) (o : Args)
       → Weighs k s (snoc g item f) b o → Weighs (tag_before Closes k) s f (waits g item ∷ b) o
   weighs-closes k s f g item b (refused fault) w = tt
-  weighs-closes (Uncut n c i) (Refused fault) f g item b (args kept used) w = w
-  weighs-closes (Cut n c i) (Refused fault) f g item b (args kept used) w = w
-  weighs-closes (Uncut n c i) (Used u dirty) f g item b (args kept used) w = omega (arith, dirt-snoc g item f)
-  weighs-closes (Cut n c i) (Used u dirty) f g item b (args kept used) w = w
+  weighs-closes (Uncut n c i) (Err fault) f g item b (args kept used) w = w
+  weighs-closes (Cut n c i) (Err fault) f g item b (args kept used) w = w
+  weighs-closes (Uncut n c i) (Ok scanned) f g item b (args kept used) w = omega (arith, dirt-snoc g item f)
+  weighs-closes (Cut n c i) (Ok scanned) f g item b (args kept used) w = w
 
   weighs-leaf : (class : Class) (k : Back) (s : Scanned) (f : Forest) (b : List Open) (o : Args) → Weighs k s f b o
       → Weighs (tag_before (Leaf class) k) s f b o
   weighs-leaf class k s f b (refused fault) w = tt
-  weighs-leaf class (Uncut n c i) (Refused fault) f b (args kept used) w = w
-  weighs-leaf class (Cut n c i) (Refused fault) f b (args kept used) w = w
-  weighs-leaf class (Uncut n c i) (Used u dirty) f b (args kept used) w = w
-  weighs-leaf class (Cut n c i) (Used u dirty) f b (args kept used) w = w
+  weighs-leaf class (Uncut n c i) (Err fault) f b (args kept used) w = w
+  weighs-leaf class (Cut n c i) (Err fault) f b (args kept used) w = w
+  weighs-leaf class (Uncut n c i) (Ok scanned) f b (args kept used) w = w
+  weighs-leaf class (Cut n c i) (Ok scanned) f b (args kept used) w = w
 
   -- ---- the tags, one after another
 
@@ -159,17 +157,17 @@ module _ (base : ℕ) (msg : List ℕ) where
       by-arg : (x : Arg) → x ≡ read_arg tag class base l p
           → Weighs (tag_before (Leaf class) (back ts)) (arg_passed (λ m q. scan ts m q (length b)) l p (used_of class l x)) f b
           (arg_taken (λ m q f. read_tags base ts m q f b) l p f x)
-      by-arg (arg.Refused fault) g = tt
-      by-arg (arg.Given item used) g =
-          let f' = snoc f item nil in
-          let o = read_tags base ts (drop used l) (p + used) f' b in
-          let s = scan ts (drop used l) (p + used) (length b) in
-          let own : own_dirt base msg item ≡ non_zero (between (padding_from class item used) used l)
+      by-arg (Err fault) g = tt
+      by-arg (Ok given) g =
+          let f' = snoc f given.item nil in
+          let o = read_tags base ts (drop given.used l) (p + given.used) f' b in
+          let s = scan ts (drop given.used l) (p + given.used) (length b) in
+          let own : own_dirt base msg given.item ≡ non_zero (between (padding_from class given.item given.used) given.used l)
           = ap non_zero (leaf-own tag class l p e g ∙ arg-padding tag base l p msg w class g) in
-          let there = stands_on base p l msg w used (given-within tag class base l p g) in
-          weighs-leaf class (back ts) (more_used used _ s) f b (later used o)
-          (weighs-later (back ts) s f f' b o used (non_zero (between (padding_from class item used) used l))
-          (omega (arith, dirt-snoc f item nil, dirt-nil base msg, own)) (h (drop used l) (p + used) f' b there))
+          let there = stands_on base p l msg w given.used (given-within tag class base l p g) in
+          weighs-leaf class (back ts) (more_used given.used _ s) f b (later given.used o)
+          (weighs-later (back ts) s f f' b o given.used (non_zero (between (padding_from class given.item given.used) given.used l))
+          (omega (arith, dirt-snoc f given.item nil, dirt-nil base msg, own)) (h (drop given.used l) (p + given.used) f' b there))
 
   all-weigh : (ts : List ℕ) → AllWeigh ts
   unfolding read_tags scan back
@@ -189,10 +187,10 @@ module _ (base : ℕ) (msg : List ℕ) where
         by_all : (k : Back) (s : Scanned) (o : Args) → AllClosed k → Used used dirty ≡ s → ArgsAccepted o → Weighs k s nil [] o
             → dirty ≡ dirt_of base msg (kept_of o)
         by_all k s (refused fault) a e v h = absurd v
-        by_all (Uncut n c i) (Used u d) (args kept x) a e v h =
-            let z : dirty ≡ d = cc in omega (arith, none-waits n, dirt-nil base msg)
-        by_all (Cut n c i) (Used u d) (args kept x) a e v h = absurd a
-        by_all k (Refused fault) (args kept x) a e v h = absurd h
+        by_all (Uncut n c i) (Ok scanned) (args kept x) a e v h =
+            let z : dirty ≡ scanned.dirty = (args-are e).1 in omega (arith, none-waits n, dirt-nil base msg)
+        by_all (Cut n c i) (Ok scanned) (args kept x) a e v h = absurd a
+        by_all k (Err fault) (args kept x) a e v h = absurd h
 
     -- where one stays open, it is no less
     pub cut-dirt : {n c i : ℕ} → Cut n c i ≡ back ts → dirt_of base msg (kept_of (read_args base ts l p)) ≤ dirty
@@ -202,18 +200,17 @@ module _ (base : ℕ) (msg : List ℕ) where
         by_all : (k : Back) (s : Scanned) (o : Args) → Cut n c i ≡ k → Used used dirty ≡ s → ArgsAccepted o → Weighs k s nil [] o
             → dirt_of base msg (kept_of o) ≤ dirty
         by_all k s (refused fault) a e v h = absurd v
-        by_all (Uncut m d j) (Used u x) (args kept y) a e v h = absurd (clash (sym a))
-        by_all (Cut m d j) (Used u x) (args kept y) a e v h = let z : dirty ≡ x = cc in omega arith
-        by_all k (Refused fault) (args kept y) a e v h = absurd h
+        by_all (Uncut m d j) (Ok scanned) (args kept y) a e v h = absurd (clash (sym a))
+        by_all (Cut m d j) (Ok scanned) (args kept y) a e v h = let z : dirty ≡ scanned.dirty = (args-are e).1 in omega (arith, h)
+        by_all k (Err fault) (args kept y) a e v h = absurd h
 
 measured-clean : {count deep used dirty : ℕ} (base : ℕ) (msg : List ℕ) (o : Args)
     → measure.Kept count deep used dirty ≡ measured (dirt_of base msg) o → dirty ≤ 6 * count
 unfolding measured
 measured-clean base msg (refused fault) e = let z : ◌≡◌ {A = ℕ} 0 1 = cc in absurd (omega arith)
 measured-clean {count} {deep} {used} {dirty} base msg (args kept u) e =
-    let c : count ≡ size kept = cc in
-    let d : dirty ≡ dirt_of base msg kept = cc in
-    omega (arith, dirt-few base msg kept)
+    let z = measured-are e in
+    omega (arith, dirt-few base msg kept, z.count, z.dirty)
 
 -- what a caller knows by the first reading: no more records than tags, no more bytes than there are, and at most 6 dirty bytes to a record
 pub measured-bounds : {count deep used dirty : ℕ} (ts l : List ℕ) (p : ℕ)

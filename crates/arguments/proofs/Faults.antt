@@ -11,8 +11,8 @@ use Rattle.node.specs.Tags.{sort_of}
 use Rattle.node.specs.declared.tags.Sort.{Sort}
 use Rattle.node.specs.declared.tags.Sort.TheVariants.{Opens, Closes, Leaf}
 use Rattle.argument.specs.Argument.{read_arg}
-use Rattle.argument.specs.declared.Arg.{Arg}
-use Rattle.argument.specs.declared.Arg.TheVariants as arg
+use Rattle.argument.specs.Results.{Arg}
+use Rattle.std.specs.Prelude.{Err, Ok}
 use Rattle.argument.proofs.Within.{given-within, arg-low}
 use Rattle.arguments.specs.Arguments.{Args, refused, args, later, arg_taken, Open, waits, array_item, act, read_tags, read_args}
 
@@ -35,12 +35,12 @@ low-act Closes go base tag l p frame (waits outer item ∷ below) h = h l p (sno
 low-act (Leaf class) go base tag l p frame below h = by-arg (read_arg tag class base l p) refl
   where
     by-arg : (x : Arg) → x ≡ read_arg tag class base l p → FaultsLow (p + length l) (arg_taken (λ m q f. go m q f below) l p frame x)
-    by-arg (arg.Refused k) e = arg-low tag class base l p e
-    by-arg (arg.Given item used) e =
-        let f = snoc frame item nil in
-        let same : p + used + length (drop used l) ≡ p + length l = omega (arith, length-drop used l, given-within tag class base l p e) in
-        low-later used (p + length l) (go (drop used l) (p + used) f below)
-        (subst (λ (m : ℕ). FaultsLow m (go (drop used l) (p + used) f below)) same (h (drop used l) (p + used) f below))
+    by-arg (Err k) e = arg-low tag class base l p e
+    by-arg (Ok given) e =
+        let f = snoc frame given.item nil in
+        let same : p + given.used + length (drop given.used l) ≡ p + length l = omega (arith, length-drop given.used l, given-within tag class base l p e) in
+        low-later given.used (p + length l) (go (drop given.used l) (p + given.used) f below)
+        (subst (λ (m : ℕ). FaultsLow m (go (drop given.used l) (p + given.used) f below)) same (h (drop given.used l) (p + given.used) f below))
 
 low-law : (base : ℕ) (ts l : List ℕ) (p : ℕ) (frame : Forest) (below : List Open)
     → FaultsLow (p + length l) (read_tags base ts l p frame below)

@@ -24,8 +24,9 @@ use Rattle.arguments.specs.Arguments.{Args, refused, args, later, arg_taken, Ope
 use Rattle.arguments.specs.CodeReadings.{kept_of, ArgsRoom}
 use Rattle.scan.specs.CodeScans.{tag_before, back, AllClosed}
 use Rattle.argument.specs.CodeRead.{ArgRead}
-use Rattle.argument.specs.declared.Arg.{Arg}
-use Rattle.argument.specs.declared.Arg.TheVariants as arg
+use Rattle.argument.specs.Results.{Arg}
+use Rattle.std.specs.Prelude.{Err, Ok}
+use Rattle.argument.specs.Results as arg
 use Rattle.scan.specs.declared.Back.{Back}
 use Rattle.scan.specs.declared.Back.TheVariants.{Uncut, Cut}
 use Rattle.argument.proofs.Within.{given-within}
@@ -306,8 +307,8 @@ module _ {base : ℕ} {F : Forest} {i E : ℕ} {T₀ T ts m : List ℕ} {q n top
   filling-given {class} e = by-arg (read_arg (get_or ts 0 0) class base m q) (turned e)
     where
       by-arg : (x : Arg) → arg_taken (λ m q f. read_tags base (drop 1 ts) m q f w.below) m q w.frame x ≡ args F w.used → ArgRead x
-      by-arg (arg.Given item used) r = tt
-      by-arg (arg.Refused fault) r = let z : ◌≡◌ {A = ℕ} 0 1 = cc in absurd (omega arith)
+      by-arg (Ok given) r = tt
+      by-arg (Err fault) r = let z : ◌≡◌ {A = ℕ} 0 1 = cc in absurd (omega arith)
 
 -- where no tag is left, the frame is all, and none waits below it
 ended : (base : ℕ) (ts m : List ℕ) (q : ℕ) {frame F : Forest} {used d c g : ℕ} (below : List Open) → length ts ≤ 0

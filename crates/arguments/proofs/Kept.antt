@@ -16,10 +16,10 @@ use Rattle.argument.specs.Argument.{read_arg}
 use Rattle.arguments.specs.Arguments.{Args, refused, args, later, arg_taken, Open, waits, array_item, act, read_tags, read_args}
 use Rattle.arguments.specs.CodeReadings.{kept_of, ArgsAccepted, ArgsRoom}
 use Rattle.scan.specs.CodeScans.{used_of, more_used, arg_passed, turn, scan, tag_before, back, AllClosed}
-use Rattle.argument.specs.declared.Arg.{Arg}
-use Rattle.argument.specs.declared.Arg.TheVariants as arg
-use Rattle.scan.specs.declared.Scanned.{Scanned}
-use Rattle.scan.specs.declared.Scanned.TheVariants.{Used, Refused}
+use Rattle.argument.specs.Results.{Arg}
+use Rattle.scan.proofs.Passed.{args-are}
+use Rattle.scan.specs.Results.{Scanned, Used}
+use Rattle.std.specs.Prelude.{Err, Ok}
 use Rattle.scan.specs.declared.Back.{Back}
 use Rattle.scan.specs.declared.Back.TheVariants.{Uncut, Cut}
 use Rattle.argument.proofs.Within.{given-within}
@@ -68,10 +68,10 @@ deep-act (Leaf class) (Cut n c i) go base tag l p frame below h w = tt
 deep-act (Leaf class) (Uncut n c i) go base tag l p frame below h w = by-arg (read_arg tag class base l p) w
   where
     by-arg : (x : Arg) → ArgsAccepted (arg_taken (λ m q f. go m q f below) l p frame x) → n ≤ length below
-    by-arg (arg.Refused fault) w = absurd w
-    by-arg (arg.Given item used) w =
-        let f = snoc frame item nil in
-        h (drop used l) (p + used) f below (accepted-later used (go (drop used l) (p + used) f below) w)
+    by-arg (Err fault) w = absurd w
+    by-arg (Ok given) w =
+        let f = snoc frame given.item nil in
+        h (drop given.used l) (p + given.used) f below (accepted-later given.used (go (drop given.used l) (p + given.used) f below) w)
 
 -- tags that are accepted close no more arrays than wait below
 pub deep-law : (base : ℕ) (ts l : List ℕ) (p : ℕ) (frame : Forest) (below : List Open) → ArgsAccepted (read_tags base ts l p frame below)
@@ -103,8 +103,8 @@ under-act (Leaf class) (Cut n c i) go base tag l p frame A B h w = absurd w
 under-act (Leaf class) (Uncut n c i) go base tag l p frame A B h w = by-arg (read_arg tag class base l p)
   where
     by-arg : (x : Arg) → arg_taken (λ m q f. go m q f (A ++ B)) l p frame x ≡ arg_taken (λ m q f. go m q f A) l p frame x
-    by-arg (arg.Refused fault) = refl
-    by-arg (arg.Given item used) = ap (later used) (h (drop used l) (p + used) (snoc frame item nil) A w)
+    by-arg (Err fault) = refl
+    by-arg (Ok given) = ap (later given.used) (h (drop given.used l) (p + given.used) (snoc frame given.item nil) A w)
 
 -- tags that close no more than the first frames read the same whatever waits below these
 pub under-law : (base : ℕ) (ts l : List ℕ) (p : ℕ) (frame : Forest) (A B : List Open) → Closed (back ts) (length A)
@@ -181,13 +181,13 @@ cut-act (Leaf class) (Cut m d i) base tag ts l p frame below n c g h e x w =
     by-arg : (y : Arg) → y ≡ read_arg tag class base l p → ArgsAccepted (arg_taken (λ m q f. read_tags base ts m q f below) l p frame y)
         → Keeps base (arg_passed (λ m q. scan (take n ts) m q (length below)) l p (used_of class l y))
         (arg_taken (λ m q f. read_tags base ts m q f below) l p frame y) (drop n ts) l p
-    by-arg (arg.Refused fault) r v = absurd v
-    by-arg (arg.Given item used) r v =
-        let f = snoc frame item nil in
-        let o = read_tags base ts (drop used l) (p + used) f below in
-        keeps-later base used _ (scan (take n ts) (drop used l) (p + used) (length below)) o (drop n ts) l p
+    by-arg (Err fault) r v = absurd v
+    by-arg (Ok given) r v =
+        let f = snoc frame given.item nil in
+        let o = read_tags base ts (drop given.used l) (p + given.used) f below in
+        keeps-later base given.used _ (scan (take n ts) (drop given.used l) (p + given.used) (length below)) o (drop n ts) l p
         (given-within tag class base l p r)
-        (h (drop used l) (p + used) f below n c g (let z : m ≡ n = cc in e ∙ cc) (accepted-later used o v))
+        (h (drop given.used l) (p + given.used) f below n c g (let z : m ≡ n = cc in e ∙ cc) (accepted-later given.used o v))
 
 -- how many tags a cut takes of those from some tag on
 first-le : (s : Sort) (k : Back) (n c g : ℕ) → tag_before s k ≡ Cut n c g → (m : ℕ)
@@ -244,12 +244,12 @@ module _ (base : ℕ) (ts l : List ℕ) (p : ℕ) {n c g : ℕ} (e : Cut n c g �
   keeps = cut-law base ts l p nil [] n c g (sym e) a
 
   -- the first tags of what is accepted are not refused
-  pub cut-never : {fault : Fault} → Refused fault ≡ scan (take n ts) l p 0 → ⊥
+  pub cut-never : {fault : Fault} → Err fault ≡ scan (take n ts) l p 0 → ⊥
   cut-never s = let r = keeps.scanned in let z : ◌≡◌ {A = ℕ} 0 1 = cc in omega arith
 
   module _ {used dirty : ℕ} (s : Used used dirty ≡ scan (take n ts) l p 0) where
     lost-is : keeps.lost ≡ used
-    lost-is = let r = keeps.scanned in cc
+    lost-is = (args-are (sym keeps.scanned ∙ sym s)).0
 
     reads-rest : read_args base ts l p ≡ later used (rest base ts l p n used)
     reads-rest =

@@ -1,5 +1,5 @@
 -- The backward scan finds how deep arrays are nested in what is kept: each '[' that is closed stands one level below those around it.
-use mathlib.Core.Path.{◌≡◌, refl, ap, sym, ◌∙◌, subst}
+use mathlib.Core.Path.{◌≡◌, refl, sym, ◌∙◌, subst}
 use mathlib.Core.Bool.{false}
 use mathlib.Core.Logic.{⊎_elim}
 use mathlib.Core.List.{List, [], ◌∷◌}
@@ -17,8 +17,9 @@ use Rattle.node.specs.declared.tags.Sort.{Sort}
 use Rattle.node.specs.declared.tags.Sort.TheVariants.{Opens, Closes, Leaf}
 use Rattle.node.proofs.Forests.{depth-snoc}
 use Rattle.argument.specs.Argument.{read_arg}
-use Rattle.argument.specs.declared.Arg.{Arg}
-use Rattle.argument.specs.declared.Arg.TheVariants as arg
+use Rattle.argument.specs.Results.{Arg}
+use Rattle.std.specs.Prelude.{Err, Ok}
+use Rattle.argument.specs.Results as arg
 use Rattle.argument.proofs.Within.{given-kind}
 use Rattle.arguments.specs.Arguments.{Args, refused, args, later, arg_taken, Open, waits, array_item, act, read_tags, read_args}
 use Rattle.arguments.specs.CodeReadings.{ArgsAccepted}
@@ -135,11 +136,11 @@ nested-act (Leaf class) k go base tag l p frame below s w h = by-arg (read_arg t
   where
     by-arg : (x : Arg) → x ≡ read_arg tag class base l p
         → Nested (reached (tag_before (Leaf class) k) frame below) (arg_taken (λ m q f. go m q f below) l p frame x)
-    by-arg (arg.Refused fault) g = tt
-    by-arg (arg.Given item used) g =
-        let f = snoc frame item nil in
-        nested-later (reached (tag_before (Leaf class) k) frame below) used (go (drop used l) (p + used) f below)
-        (rw (reached-leaf class k frame below item w (leaf-flat tag class base l p s g)) at (h (drop used l) (p + used) f below w))
+    by-arg (Err fault) g = tt
+    by-arg (Ok given) g =
+        let f = snoc frame given.item nil in
+        nested-later (reached (tag_before (Leaf class) k) frame below) given.used (go (drop given.used l) (p + given.used) f below)
+        (rw (reached-leaf class k frame below given.item w (leaf-flat tag class base l p s g)) at (h (drop given.used l) (p + given.used) f below w))
 
 nested-law : (base : ℕ) (ts l : List ℕ) (p : ℕ) (frame : Forest) (below : List Open) → Arrays below
     → Nested (reached (back ts) frame below) (read_tags base ts l p frame below)

@@ -11,7 +11,7 @@ use Rattle.argument.specs.CodeParts.{StandsAt, dirt_of}
 use Rattle.argument.proofs.Stands.{stands-somewhere}
 use Rattle.arguments.specs.Arguments.{read_args}
 use Rattle.arguments.specs.CodeReadings.{measured, kept_of}
-use Rattle.arguments.specs.declared.Measured.{Measured}
+use Rattle.arguments.specs.Results.{Measured}
 
 -- the first reading has one answer: some input has these bytes somewhere
 pub measure-osc-args-only : (tags input : List ℕ) (pos : ℕ) (r s : Measured)

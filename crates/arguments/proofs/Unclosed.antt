@@ -13,8 +13,8 @@ use Rattle.node.specs.Tags.{array_kind, class_of, sort_of}
 use Rattle.node.specs.declared.tags.Sort.{Sort}
 use Rattle.node.specs.declared.tags.Sort.TheVariants.{Opens, Closes, Leaf}
 use Rattle.argument.specs.Argument.{read_arg}
-use Rattle.argument.specs.declared.Arg.{Arg}
-use Rattle.argument.specs.declared.Arg.TheVariants as arg
+use Rattle.argument.specs.Results.{Arg}
+use Rattle.std.specs.Prelude.{Err, Ok}
 use Rattle.scan.specs.CodeScans.{tag_before, back}
 use Rattle.scan.specs.declared.Back.{Back}
 use Rattle.scan.specs.declared.Back.TheVariants.{Uncut}
@@ -82,10 +82,10 @@ module _ (base : ℕ) (post rest : List ℕ)
     where
       by-arg : (x : Arg) → arg_taken (λ m q f. all m q f below) l p frame x
           ≡ since_last base post l p (arg_taken (λ m q f. go m q f below) l p frame x)
-      by-arg (arg.Refused fault) = refl
-      by-arg (arg.Given item used) =
-          let f = snoc frame item nil in
-          ap (later used) (h (drop used l) (p + used) f below) ∙ since-later l p used (go (drop used l) (p + used) f below)
+      by-arg (Err fault) = refl
+      by-arg (Ok given) =
+          let f = snoc frame given.item nil in
+          ap (later given.used) (h (drop given.used l) (p + given.used) f below) ∙ since-later l p given.used (go (drop given.used l) (p + given.used) f below)
 
   front : (pre l : List ℕ) (p : ℕ) (frame : Forest) (below : List Open)
       → read_tags base (pre ++ rest) l p frame below ≡ since_last base post l p (read_tags base pre l p frame below)

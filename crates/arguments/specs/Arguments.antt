@@ -1,7 +1,7 @@
 -- The arguments of a message by its tags: document 01, "How bytes are read", rules 2 and 3.
 -- rosc's loop word for word: a frame that is filled, and the frames that wait below it; and rule 3's last sentence in its own words,
 -- which is proved of that loop (`kept_since_last` and `ends_so`, in proofs/Unclosed.antt).
-use Rattle.std.specs.Prelude.{◌≡◌, List, [], ◌∷◌, ◌++◌, ℕ, ◌+◌, drop}
+use Rattle.std.specs.Prelude.{◌≡◌, List, [], ◌∷◌, ◌++◌, ℕ, ◌+◌, drop, Err, Ok}
 use Rattle.refusal.specs.declared.Fault.{Fault}
 use Rattle.refusal.specs.declared.Fault.TheVariants.{NotOpen}
 use Rattle.node.specs.Forest.{Forest, nil, snoc}
@@ -10,8 +10,7 @@ use Rattle.node.specs.declared.record.Item.{Item}
 use Rattle.node.specs.declared.tags.Sort.{Sort}
 use Rattle.node.specs.declared.tags.Sort.TheVariants.{Opens, Closes, Leaf}
 use Rattle.argument.specs.Argument.{read_arg, arg_item}
-use Rattle.argument.specs.declared.Arg.{Arg}
-use Rattle.argument.specs.declared.Arg.TheVariants as arg
+use Rattle.argument.specs.Results.{Arg}
 
 -- the arguments that are kept and how many bytes of data were read; or the fault
 pub data Args : Type 0 where
@@ -25,8 +24,8 @@ later n (args kept used) = args kept (n + used)
 
 -- one argument more at the end of the frame; `go` reads the later tags' data
 abbrev pub arg_taken : (List ℕ → ℕ → Forest → Args) → List ℕ → ℕ → Forest → Arg → Args
-arg_taken go l p frame (arg.Refused fault) = refused fault
-arg_taken go l p frame (arg.Given item used) = later used (go (drop used l) (p + used) (snoc frame item nil))
+arg_taken go l p frame (Err fault) = refused fault
+arg_taken go l p frame (Ok given) = later given.used (go (drop given.used l) (p + given.used) (snoc frame given.item nil))
 
 -- the own numbers of an array whose [ stands where the data has reached `start`: both fields are 0 ("The node table")
 abbrev pub array_item : ℕ → Item

@@ -1,20 +1,19 @@
 -- Describes code, and no part of the document: what the two readings of a message's arguments answer and need, from what `read_args`
 -- says.
-use Rattle.std.specs.Prelude.{◌≡◌, List, ℕ}
+use Rattle.std.specs.Prelude.{◌≡◌, List, ℕ, Err}
 use Rattle.node.specs.Forest.{Forest, nil, size, depth}
 use Rattle.node.specs.Records.{TableRoom}
 use Rattle.scan.specs.CodeScans.{scan, back}
-use Rattle.scan.specs.declared.Scanned.TheVariants.{Used}
+use Rattle.arguments.specs.Results.{Kept, Measured}
+use Rattle.scan.specs.Results.{Used}
 use Rattle.scan.specs.declared.Back.{Back}
 use Rattle.scan.specs.declared.Back.TheVariants.{Uncut, Cut}
 use Rattle.arguments.specs.Arguments.{Args, refused, args}
-use Rattle.arguments.specs.declared.Measured.{Measured}
-use Rattle.arguments.specs.declared.Measured.TheVariants.{Kept, Refused}
 
 -- the first reading: how many records the kept arguments take, how deep arrays are nested in them, how many bytes were read, and how much
 -- dirt the kept ones have; or the fault
 unfoldable pub measured : (Forest → ℕ) → Args → Measured
-measured dirt (refused fault) = Refused fault
+measured dirt (refused fault) = Err fault
 measured dirt (args kept used) = Kept (size kept) (depth kept) used (dirt kept)
 
 -- a count that leaves dirt out

@@ -3,7 +3,7 @@
 
 mod records; // records.rt: the records of arguments whose arrays are all closed
 
-ghost use Rattle.std.specs.Prelude.{◌≡◌, List, ℕ, ◌+◌, ◌≤◌, length};
+ghost use Rattle.std.specs.Prelude.{◌≡◌, Ok, List, ℕ, ◌+◌, ◌≤◌, length};
 ghost use Rattle.wire.specs.Limits.{longest};
 ghost use Rattle.wire.specs.Wrote.{Wrote};
 ghost use Rattle.node.specs.Forest.{size};
@@ -15,71 +15,61 @@ ghost use Rattle.arguments.specs.CodeReadings.{CutAfter, Scans, ScanAccepts};
 ghost use Rattle.scan.specs.CodeScans.{back};
 
 use refusal::Fault;
-use scan::{Back, Scanned};
+use scan::Back;
 
-// What the first reading of the arguments answers.
-#[derive(Clone, Copy)]
-pub enum Measured {
-    // How many records the kept arguments take, how deep arrays are nested in them, how many bytes of data were read, and how many bytes
-    // of the kept ones' padding are not zero.
-    Kept {
-        count: usize,
-        depth: usize,
-        used: usize,
-        dirty: usize,
-    },
-    Refused(Fault),
+// What the first reading of the arguments finds: how many records the kept arguments take, how deep arrays are nested in them, how many bytes
+// of data were read, and how many bytes of the kept ones' padding are not zero.
+#[derive(Clone, Copy, Debug, PartialEq, Eq)]
+pub struct MeasuredArgs {
+    pub count: usize,
+    pub depth: usize,
+    pub used: usize,
+    pub dirty: usize,
 }
 
 // First reading of the arguments: nothing is written. Their offsets don't matter here, so it takes no `base`. Many messages have none, and
 // these need no scan.
 //
 // Ruled out: an array that is lost counted in the depth, or its dirt; padding counted from the arguments, and not from the frame.
-pub fn measure_osc_args(tags: &[u8], input: &[u8], pos: usize) -> Measured
+pub fn measure_osc_args(tags: &[u8], input: &[u8], pos: usize) -> Result<MeasuredArgs, Fault>
     requires { pos + length input.now ≤ longest }
     ensures { (base : ℕ) (msg : List ℕ) → StandsAt msg (base + pos) input.now
         → result ≡ measured (dirt_of base msg) (read_args base tags.now input.now pos) }
 {
     if tags.len() == 0 {
-        return Measured::Kept {
+        return Ok(MeasuredArgs {
             count: 0,
             depth: 0,
             used: 0,
             dirty: 0,
-        };
+        });
     }
-    match scan::scan_args(tags, input, pos) {
-        Scanned::Used { used, dirty } => {
-            let dirt = dirty_kept(tags, input, pos, dirty);
-            keep(tags, used, dirt)
-        }
-        Scanned::Refused(fault) => Measured::Refused(fault),
-    }
+    let scanned = scan::scan_args(tags, input, pos)?;
+    let dirt = dirty_kept(tags, input, pos, scanned.dirty);
+    Ok(keep(tags, scanned.used, dirt))
 }
 
 // The same where their dirt does not matter, and is answered as 0: in the second reading of a bundle it is known.
 //
 // Ruled out: the bytes read for the records; an array that is lost counted among the records.
-pub fn count_osc_args(tags: &[u8], input: &[u8], pos: usize) -> Measured
+pub fn count_osc_args(tags: &[u8], input: &[u8], pos: usize) -> Result<MeasuredArgs, Fault>
     requires { pos + length input.now ≤ longest }
     ensures { (base : ℕ) → result ≡ measured no_dirt (read_args base tags.now input.now pos) }
 {
-    match scan::scan_args(tags, input, pos) {
-        Scanned::Used { used, dirty: _ } => keep(tags, used, 0),
-        Scanned::Refused(fault) => Measured::Refused(fault),
-    }
+    let scanned = scan::scan_args(tags, input, pos)?;
+    Ok(keep(tags, scanned.used, 0))
 }
 
 // What tags keep that take `used` bytes, with so much dirt.
-fn keep(tags: &[u8], used: usize, dirty: usize) -> Measured
-    ensures { result ≡ keeping (back tags.now) used dirty }
+fn keep(tags: &[u8], used: usize, dirty: usize) -> MeasuredArgs
+    ensures { Ok result ≡ keeping (back tags.now) used dirty }
 {
     match scan::look_back(tags) {
         Back::Uncut {
             closed: _,
             count,
             depth,
-        } => Measured::Kept {
+        } => MeasuredArgs {
             count,
             depth,
             used,
@@ -89,7 +79,7 @@ fn keep(tags: &[u8], used: usize, dirty: usize) -> Measured
             first: _,
             count: after,
             depth,
-        } => Measured::Kept {
+        } => MeasuredArgs {
             count: after,
             depth,
             used,
@@ -150,13 +140,13 @@ fn dirty_since(tags: &[u8], first: usize, input: &[u8], pos: usize) -> usize
         → result ≡ dirt_of base msg (kept_of (read_args base tags.now input.now pos)) }
 {
     match scan::scan_args(&tags[..first], input, pos) {
-        Scanned::Used { used, dirty: _ } => {
-            match scan::scan_args(&tags[first..], &input[used..], pos + used) {
-                Scanned::Used { used: _, dirty } => dirty,
-                Scanned::Refused(_) => 0,
+        Ok(lost) => {
+            match scan::scan_args(&tags[first..], &input[lost.used..], pos + lost.used) {
+                Ok(kept) => kept.dirty,
+                Err(_) => 0,
             }
         }
-        Scanned::Refused(_) => 0,
+        Err(_) => 0,
     }
 }
 
@@ -189,17 +179,17 @@ pub fn read_osc_args(
             count: _,
             depth: _,
         } => match scan::scan_args(&tags[..first], input, pos) {
-            Scanned::Used { used, dirty: _ } => {
+            Ok(lost) => {
                 records::fill_whole(
                     &tags[first..],
-                    &input[used..],
+                    &input[lost.used..],
                     base,
-                    pos + used,
+                    pos + lost.used,
                     table,
                     index,
                 )
             }
-            Scanned::Refused(_) => {}
+            Err(_) => {}
         },
     }
 }

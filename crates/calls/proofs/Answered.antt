@@ -10,8 +10,8 @@ use Rattle.node.specs.Records.{record_size, records_of, stored}
 use Rattle.argument.specs.Dirt.{dirty_in}
 use Rattle.framing.specs.Framing.{Whole, trees, waiting, refusal, stopped}
 use Rattle.answering.specs.Limits.{limited, decoded, forest_of, tabled}
-use Rattle.results.specs.declared.Decoded.{Decoded}
-use Rattle.results.specs.declared.Decoded.TheVariants.{Packets, Waiting, Refused, Stopped}
+use Rattle.results.specs.Results.{DecodeAnswer, Packets, Stopped, Waiting}
+use Rattle.std.specs.Prelude.{Err}
 use Rattle.table.specs.Tree.{FieldsFit}
 use Rattle.calls.specs.Words.{Gives}
 use Rattle.calls.specs.Demands.{answer_to, table_after}
@@ -49,11 +49,11 @@ module _ (count dirty : ℕ) where
       by-decoded (λ r. Gives r count dirty → Held msg (rule msg) count dirty) rule capacity limit msg
       (λ h p. absurd p) (λ h p. absurd p) (λ h k. limited-held capacity limit msg (rule msg))
 
-  gives-stored : (r : Decoded) (f : Forest) (table : List ℕ) → Gives r count dirty → tabled r f table ≡ stored 0 f table
+  gives-stored : (r : DecodeAnswer) (f : Forest) (table : List ℕ) → Gives r count dirty → tabled r f table ≡ stored 0 f table
   gives-stored (Packets n left d) f table e = refl
   gives-stored (Stopped n left d k at) f table e = refl
   gives-stored Waiting f table e = absurd e
-  gives-stored (Refused k) f table e = absurd e
+  gives-stored (Err k) f table e = absurd e
 
   module _ (rule : List ℕ → Whole) (limit : ℕ) (msg table : List ℕ) (e : Gives (answer_to rule limit msg table) count dirty) where
     -- the table is the trees' records, and then as it was
@@ -86,8 +86,8 @@ module _ (count dirty : ℕ) where
         (length-records 0 f ∙ ap (λ (n : ℕ). record_size * n) (held rule _ limit msg e).counts)
 
 -- packets are an answer with records
-pub packets-give : {r : Decoded} {count left dirty : ℕ} → r ≡ Packets count left dirty → Gives r count dirty
-packets-give {r} {count} {left} {dirty} e = subst (λ (x : Decoded). Gives x count dirty) (sym e) (refl, refl)
+pub packets-give : {r : DecodeAnswer} {count left dirty : ℕ} → r ≡ Packets count left dirty → Gives r count dirty
+packets-give {r} {count} {left} {dirty} e = subst (λ (x : DecodeAnswer). Gives x count dirty) (sym e) (refl, refl)
 
 -- ---- an answer with packets
 

@@ -1,5 +1,5 @@
 -- Ticket 8: what the count of dirty padding says of any call that gives packets.
-use mathlib.Core.Path.{◌≡◌, sym, ◌∙◌}
+use mathlib.Core.Path.{sym, ◌∙◌}
 use native.Mathlib.Omega.{arith}
 use Rattle.argument.specs.Dirt.{packets_padding}
 use Rattle.argument.proofs.Pads.{padding-low, clean-bytes, bytes-clean}

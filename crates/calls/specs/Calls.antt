@@ -1,31 +1,21 @@
 -- Demand 1's public calls: what each is handed, and its contract, by the definitions that the call's own contract cites.
 -- crates/demands/src/entry_points.rt shows that each call meets what stands here.
-use Rattle.std.specs.Prelude.{false, List, [], ◌∷◌, ℕ, ℤ}
+use Rattle.std.specs.Prelude.{false, List, [], ◌∷◌, ℕ, ℤ, Err, Ok}
 use Rattle.clock.specs.Clock.{tag_for, unix_for}
 use Rattle.clock.specs.Shift.{shifted, difference_of}
 use Rattle.clock.specs.declared.Rule.{Rule}
-use Rattle.clock.specs.declared.Tagged.{Tagged}
-use Rattle.clock.specs.declared.Unix.{Unix}
+use Rattle.clock.specs.Results.{Tagged, Unix}
+use Rattle.results.specs.Results.{Checked, CueAnswer, DecodeAnswer, Encoded, IndexAnswer, PortionAnswer}
+use Rattle.values.specs.Results.{Looked, Started}
+use Rattle.wire.specs.Results.{Padded}
 use Rattle.edition.specs.declared.Edition.{Edition}
 use Rattle.edition.specs.declared.Edition.TheVariants.{Standard}
 use Rattle.edition.specs.declared.Framing.{Framing}
 use Rattle.edition.specs.declared.Framing.TheVariants.{TcpVec}
 use Rattle.results.specs.Differs.{index_differs}
-use Rattle.results.specs.declared.Decoded.{Decoded}
-use Rattle.results.specs.declared.Portion.{Portion}
-use Rattle.results.specs.declared.Indexed.{Indexed}
-use Rattle.results.specs.declared.Checked.{Checked}
-use Rattle.results.specs.declared.CueAt.{CueAt}
-use Rattle.results.specs.declared.Encoded.{Encoded}
 use Rattle.wire.specs.Pad.{pad_of}
-use Rattle.wire.specs.declared.Padded.{Padded}
-use Rattle.wire.specs.declared.Padded.TheVariants as padded
 use Rattle.values.specs.Look.{look_at, started_at, text_named}
 use Rattle.values.specs.declared.value.OscType.{OscType}
-use Rattle.values.specs.declared.look.Looked.{Looked}
-use Rattle.values.specs.declared.look.Looked.TheVariants as looked
-use Rattle.values.specs.declared.look.Started.{Started}
-use Rattle.values.specs.declared.look.Started.TheVariants as started
 use Rattle.framing.specs.Framing.{rule_of}
 use Rattle.answering.specs.Limits.{order_of, stops_by, waits_by, Decodes}
 use Rattle.portions.specs.Portions.{Steps}
@@ -39,23 +29,24 @@ use Rattle.contract.specs.Contract.{Contract, answers, reads, writes}
 
 -- how the answer of `pad` ends it
 abbrev pub by_padded : Padded → Ending
-by_padded (padded.At pos) = result
-by_padded (padded.Refused r) = refuses r
+by_padded (Ok pos) = result
+by_padded (Err r) = refuses r
 
 -- of `look`
 abbrev pub by_looked : Looked → Ending
-by_looked (looked.Value v) = result
-by_looked (looked.Refused r) = refuses r
+by_looked (Ok v) = result
+by_looked (Err r) = refuses r
 
 -- of `start_of`
 abbrev pub by_started : Started → Ending
-by_started (started.At start) = result
-by_started (started.Refused r) = refuses r
+by_started (Ok start) = result
+by_started (Err r) = refuses r
 
 -- the contract of a decoder, by its framing
 abbrev pub decoding : Framing → List ℕ → List ℕ → ℕ → Contract
 decoding framing msg table depth =
-    reads Decoded table (Decodes (rule_of framing depth) msg table depth) by_decoded (order_of framing) (waits_by framing) (stops_by framing)
+    reads DecodeAnswer table (Decodes (rule_of framing depth) msg table depth)
+    by_decoded (order_of framing) (waits_by framing) (stops_by framing)
 
 -- the contract of an encoder, by its frame
 abbrev pub encoding : (ℕ → List ℕ → List ℕ) → List ℕ → ℕ → List ℕ → List ℕ → Contract
@@ -69,12 +60,13 @@ pub data Call : Contract → Type 1 where
   decode : (framing : Framing) (msg table : List ℕ) (depth : ℕ) → Call (decoding framing msg table depth)
   -- a step over a stream: Ticket 14
   read_portion : (bytes table : List ℕ) (depth : ℕ)
-      → Call (reads Portion table (Steps bytes table depth) by_portion (order_of (TcpVec Standard)) false (stops_by (TcpVec Standard)))
+      → Call (reads PortionAnswer table (Steps bytes table depth)
+      by_portion (order_of (TcpVec Standard)) false (stops_by (TcpVec Standard)))
   -- a cue index: Ticket 5
   index_step : (bytes : List ℕ) (base : ℕ) (out : List ℕ)
-      → Call (reads Indexed out (Indexes bytes base out) by_indexed (1 ∷ 12 ∷ []) false cue_order)
+      → Call (reads IndexAnswer out (Indexes bytes base out) by_indexed (1 ∷ 12 ∷ []) false cue_order)
   compare : (fresh index : List ℕ) → Call (answers Checked (compared fresh index) by_checked (index_differs ∷ []))
-  cue_at : (index : List ℕ) (k : ℕ) → Call (answers CueAt (cue_in index k) by_cue_at (11 ∷ []))
+  cue_at : (index : List ℕ) (k : ℕ) → Call (answers CueAnswer (cue_in index k) by_cue_at (11 ∷ []))
   -- the encoders: document 01, and Ticket 1 for edition 2
   encode : (table : List ℕ) (count : ℕ) (source out : List ℕ) → Call (encoding unframed table count source out)
   encode_tcp : (edition : Edition) (table : List ℕ) (count : ℕ) (source out : List ℕ)

@@ -1,5 +1,5 @@
 -- The order's demand 3, over the definitions that the contracts cite.
-use Rattle.std.specs.Prelude.{◌≡◌, List, ◌++◌, ℕ, ◌-◌, ◌*◌, ◌≤◌, length, take, drop}
+use Rattle.std.specs.Prelude.{◌≡◌, List, ◌++◌, ℕ, ◌-◌, ◌*◌, ◌≤◌, length, take, drop, Err}
 use Rattle.refusal.specs.declared.Fault.{Fault}
 use Rattle.refusal.specs.declared.Refusal.TheVariants.{Unreadable, TableFull}
 use Rattle.wire.specs.Limits.{longest, deepest}
@@ -12,8 +12,7 @@ use Rattle.framing.specs.Framing.{Whole, rule_of}
 use Rattle.edition.specs.declared.Framing.{Framing}
 use Rattle.edition.specs.declared.Framing.TheVariants.{Tcp, TcpVec}
 use Rattle.answering.specs.Limits.{decoded, forest_of, tabled}
-use Rattle.results.specs.declared.Decoded.{Decoded}
-use Rattle.results.specs.declared.Decoded.TheVariants.{Packets, Refused}
+use Rattle.results.specs.Results.{DecodeAnswer, Packets}
 use Rattle.calls.specs.Words.{Continues, Mendable, Gives, NotFull, Unlimited, Allowed}
 
 -- the table after a decoder's call, by its rule, limit and message
@@ -21,7 +20,7 @@ abbrev pub table_after : (List ℕ → Whole) → ℕ → List ℕ → List ℕ 
 table_after rule limit msg table = tabled (decoded rule (capacity table) limit msg) (forest_of (rule msg)) table
 
 -- the answer of a decoder's call
-abbrev pub answer_to : (List ℕ → Whole) → ℕ → List ℕ → List ℕ → Decoded
+abbrev pub answer_to : (List ℕ → Whole) → ℕ → List ℕ → List ℕ → DecodeAnswer
 answer_to rule limit msg table = decoded rule (capacity table) limit msg
 
 -- ---- demand 3: more room
@@ -106,13 +105,13 @@ abbrev pub FaultsStay : (List ℕ → Whole) → Type 0
 FaultsStay rule =
     (msg more : List ℕ) (limit limit' : ℕ) (table table' : List ℕ) (k : Fault)
     → (Mendable k → ⊥) → limit' ≤ deepest → length (msg ++ more) ≤ longest
-    → answer_to rule limit msg table ≡ Refused (Unreadable k)
-    → answer_to rule limit' (msg ++ more) table' ≡ Refused (Unreadable k)
+    → answer_to rule limit msg table ≡ Err (Unreadable k)
+    → answer_to rule limit' (msg ++ more) table' ≡ Err (Unreadable k)
 
 -- ---- demand 3: n records always hold what n bytes decode to
 abbrev pub RecordsHold : Framing → Type 0
 RecordsHold framing =
-    (msg : List ℕ) (limit room : ℕ) → length msg ≤ room → decoded (rule_of framing limit) room limit msg ≡ Refused TableFull → ⊥
+    (msg : List ℕ) (limit room : ℕ) → length msg ≤ room → decoded (rule_of framing limit) room limit msg ≡ Err TableFull → ⊥
 
 -- ---- Ticket 8: what the count of dirty padding says, of any rule, so of each of the calls
 

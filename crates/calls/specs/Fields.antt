@@ -1,7 +1,7 @@
 -- Which field was short: document 02, Ticket 2, "split it by what ran out, with the offset at which that field began". Fields stand one
 -- after another, each right after the one before it; the one that is told is the first that needs more bytes than are there. So what stands
 -- before it says where it begins. A reader of a log relies on it.
-use Rattle.std.specs.Prelude.{◌≡◌, cond, List, [], ◌∷◌, ◌++◌, ℕ, ◌+◌, ◌-◌, ◌≤◌, ◌<◌, eqb, length, get_or, take, drop}
+use Rattle.std.specs.Prelude.{◌≡◌, cond, List, [], ◌∷◌, ◌++◌, ℕ, ◌+◌, ◌-◌, ◌≤◌, ◌<◌, eqb, length, get_or, take, drop, Err}
 use Rattle.refusal.specs.declared.Fault.TheVariants.{Short}
 use Rattle.refusal.specs.declared.Refusal.TheVariants.{Unreadable}
 use Rattle.refusal.specs.declared.Field.{Field}
@@ -19,7 +19,7 @@ use Rattle.heads.specs.Heads.{tags_in}
 use Rattle.packet.specs.FirstText.{bundle_word}
 use Rattle.packet.specs.Packet.{one}
 use Rattle.framing.specs.Framing.{Whole, Frame, read, read_frame, cut_frame, tcp2, tcp_vec, tcp_vec2}
-use Rattle.results.specs.declared.Decoded.TheVariants.{Refused, Stopped}
+use Rattle.results.specs.Results.{Stopped}
 use Rattle.calls.specs.Demands.{answer_to}
 
 -- ---- the fields of a packet, in their order
@@ -145,7 +145,7 @@ pub record ListShort (frame : ℕ → List ℕ → Frame) (Is : List ℕ → Fie
 abbrev pub FieldsShort : (List ℕ → Whole) → (List ℕ → Field → ℕ → Type 0) → Type 0
 FieldsShort rule Is =
     (msg : List ℕ) (limit : ℕ) (table : List ℕ) (field : Field) (at : ℕ)
-    → answer_to rule limit msg table ≡ Refused (Unreadable (Short field at)) → Is msg field at
+    → answer_to rule limit msg table ≡ Err (Unreadable (Short field at)) → Is msg field at
 
 -- so does a list, of a frame that it reads
 abbrev pub ListFieldsShort : Type 0
@@ -155,7 +155,7 @@ ListFieldsShort = FieldsShort tcp_vec (λ msg field at. (start : ℕ) × ListSho
 abbrev pub CutFieldsShort : Type 0
 CutFieldsShort =
     (msg : List ℕ) (limit : ℕ) (table : List ℕ) (field : Field) (at : ℕ)
-    → answer_to (tcp2 limit) limit msg table ≡ Refused (Unreadable (Short field at)) → CutShort msg field at
+    → answer_to (tcp2 limit) limit msg table ≡ Err (Unreadable (Short field at)) → CutShort msg field at
 
 -- and so does a list of edition 2, of the frame at which it stops
 abbrev pub CutFrameShort : Type 0

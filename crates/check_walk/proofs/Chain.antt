@@ -8,8 +8,8 @@ use lib.Dec.{eqb}
 use lib.ListN.{length, take, drop, length-append, length-take, length-drop}
 use Rattle.folding.specs.Folding.{joined_bytes}
 use Rattle.cues.specs.Checks.{compared, checked_as, numbered_from, followed_by}
-use Rattle.results.specs.declared.Checked.{Checked}
-use Rattle.results.specs.declared.Checked.TheVariants.{Fits, Differs}
+use Rattle.results.specs.Results.{Checked}
+use Rattle.std.specs.Prelude.{Ok, Err}
 use Rattle.recordings.specs.Recordings.{checked_in_parts}
 use Rattle.cues.proofs.Checks.{numbered-twice, numbered-none}
 use Rattle.told.specs.Told.{refusal_in}
@@ -31,13 +31,14 @@ module _ (part given : List ℕ) (from : ℕ) (next : ℕ → ℕ) (rest : Check
   by-check : (c : Checked) → compared part front ≡ c
       → ((k : ℕ) → from + k < most_checked → k ≤ length part → next (from + k) ≡ checked_number (numbered_from (from + k) rest))
       → unless_refused next (checked_number (numbered_from from c)) ≡ checked_number (numbered_from from (followed_by c rest))
-  by-check (Fits k) e go =
+  by-check (Ok k) e go =
       let few : k ≤ length part = omega (arith, fits-checked part front e) in
       let none : eqb (refusal_in (from + k)) 0 ≡ _ = eq-eqb (refusal_in (from + k)) 0 (omega arith) in
       rw none (go k (omega arith) few ∙ ap checked_number (sym (numbered-twice from k rest)))
-  by-check (Differs k) e go =
-      let few : k < 2 * length part + 1 = omega (arith, differs-checked part front e, length-take (length part) given) in
-      let some : eqb (refusal_in (differs_number (from + k))) 0 ≡ _ = ne_eqb (refusal_in (differs_number (from + k))) 0 (λ z. omega arith) in
+  by-check (Err differs) e go =
+      let few : differs.at < 2 * length part + 1 = omega (arith, differs-checked part front e, length-take (length part) given) in
+      let some : eqb (refusal_in (differs_number (from + differs.at))) 0 ≡ _
+      = ne_eqb (refusal_in (differs_number (from + differs.at))) 0 (λ z. omega arith) in
       rw some
 
 chain-is : (parts : List (List ℕ)) (from : ℕ) (given : List ℕ) → from + length (joined_bytes parts) < most_checked

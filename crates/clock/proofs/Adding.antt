@@ -1,5 +1,5 @@
 -- Ticket 13, "Shifts must add up", of the definitions; src/sums.rt says it of the calls.
-use Rattle.std.proofs.Common.{◌≡◌, ℕ, ◌+◌, ◌-◌, ◌%◌, ◌^◌, refl, ap, arith}
+use Rattle.std.proofs.Common.{◌≡◌, ◌+◌, ◌-◌, ◌%◌, ◌^◌, refl, ap, arith}
 use Rattle.clock.specs.Shift.{shifted, signed_of}
 use Rattle.clock.specs.Sums.{ByZero, ByTwo, AndBack, DifferenceOfShift, ImmediateShifted}
 

@@ -3,15 +3,13 @@ use Rattle.std.proofs.Common.{◌≡◌, ℕ, ◌-◌, ◌/◌, ◌%◌, ◌^◌
 use Rattle.clock.specs.Clock.{since1900, epoch, tag_for, rounded_of, seconds_of, unix_for}
 use Rattle.clock.specs.Promises.{TagCase, TagsAgree, TimesAgree}
 use Rattle.clock.specs.declared.Rule.TheVariants.{A, B}
-use Rattle.clock.specs.declared.Tagged.{Tagged}
-use Rattle.clock.specs.declared.Tagged.TheVariants.{Tag}
-use Rattle.clock.specs.declared.Unix.{Unix}
-use Rattle.clock.specs.declared.Unix.TheVariants.{At}
+use Rattle.clock.specs.Results.{At, Tagged, Unix}
+use Rattle.std.specs.Prelude.{Ok}
 use Rattle.clock.proofs.Tags.{tagged}
 use Rattle.clock.proofs.Times.{field_plain, timed}
 use Rattle.clock.proofs.Domains.{case-of, TimeCase, time-of}
 
-case-agrees : {z : ℤ} {n : ℕ} {r : Tagged} (t : ℕ) → TagCase A z n r → r ≡ Tag t → tag_for B z n ≡ Tag t
+case-agrees : {z : ℤ} {n : ℕ} {r : Tagged} (t : ℕ) → TagCase A z n r → r ≡ Ok t → tag_for B z n ≡ Ok t
 case-agrees t (TagCase.nanoseconds h) e = let never : ◌≡◌ {A = ℕ} 0 1 = cc in absurd (omega arith)
 case-agrees t (TagCase.late h l) e = let never : ◌≡◌ {A = ℕ} 0 1 = cc in absurd (omega arith)
 case-agrees t (TagCase.early h) e = let never : ◌≡◌ {A = ℕ} 0 1 = cc in absurd (omega arith)

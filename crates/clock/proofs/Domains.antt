@@ -9,12 +9,12 @@ use Rattle.clock.specs.declared.Rule.{Rule}
 use Rattle.clock.specs.declared.Rule.TheVariants.{A, B}
 use Rattle.clock.specs.declared.OutOfRange.{OutOfRange}
 use Rattle.clock.specs.declared.OutOfRange.TheVariants.{TooEarly}
-use Rattle.clock.specs.declared.Tagged.{Tagged}
-use Rattle.clock.specs.declared.Unix.{Unix}
-use Rattle.clock.specs.declared.Unix.TheVariants as Unix
+use Rattle.clock.specs.Results.{Tagged, Unix}
+use Rattle.std.specs.Prelude.{Err}
+use Rattle.clock.specs.Results as Unix
 use Rattle.clock.proofs.Nearest.{carry-high, carry-only}
 use Rattle.clock.proofs.Tags.{refused-nanoseconds, refused-late, refused-early, tagged}
-use Rattle.clock.proofs.Times.{field-wrapped, field_plain, refused-before-1970, timed}
+use Rattle.clock.proofs.Times.{field-wrapped, field_plain, refused-before-1970, same-time, timed}
 
 case-seconds : (rule : Rule) (s n : ℕ) → n < 1_000_000_000 → Dec (last_of rule < s) → TagCase rule (pos s) n (tag_for rule (pos s) n)
 case-seconds rule s n h (yes l) = rw (refused-late rule s n h l) (late {n = n} (omega arith) l)
@@ -47,7 +47,7 @@ tag_domains rule z n r = (λ c. case-answers c, λ e. subst (TagCase rule z n) e
 
 -- what `unix_of` is asked, and what it answers: 28 after the carry, and no other refusal
 pub data TimeCase (rule : Rule) (tag : ℕ) : Unix → Type 0 where
-  before-1970 : seconds_of rule tag < epoch → TimeCase rule tag (Unix.Refused TooEarly)
+  before-1970 : seconds_of rule tag < epoch → TimeCase rule tag (Err TooEarly)
   since-1970 : {s : ℕ} → s + epoch ≡ seconds_of rule tag → TimeCase rule tag (Unix.At (pos s) (rounded_of tag % 1_000_000_000))
 
 time-either : (rule : Rule) (tag : ℕ) → Dec (seconds_of rule tag < epoch) → TimeCase rule tag (unix_for rule tag)
@@ -60,7 +60,7 @@ pub time-of : (rule : Rule) (tag : ℕ) → TimeCase rule tag (unix_for rule tag
 time-of rule tag = time-either rule tag (dec_lt (seconds_of rule tag) epoch)
 
 -- "a tag on its way to Unix time is never refused by 27", nor by 26
-only-28 : {rule : Rule} {tag : ℕ} {r : Unix} (reason : OutOfRange) → TimeCase rule tag r → r ≡ Unix.Refused reason → reason ≡ TooEarly
+only-28 : {rule : Rule} {tag : ℕ} {r : Unix} (reason : OutOfRange) → TimeCase rule tag r → r ≡ Err reason → reason ≡ TooEarly
 only-28 reason (before-1970 h) e = cc
 only-28 reason (since-1970 q) e = let never : ◌≡◌ {A = ℕ} 0 1 = cc in absurd (omega arith)
 
@@ -72,9 +72,8 @@ case-normal : {rule : Rule} {tag : ℕ} {r : Unix} (z : ℤ) (n : ℕ) → TimeC
     → (z ≡ pos (nat_abs z)) × (n < 1_000_000_000)
 case-normal z n (before-1970 h) e = let never : ◌≡◌ {A = ℕ} 0 1 = cc in absurd (omega arith)
 case-normal {rule} {tag} z n (since-1970 {s} q) e =
-    let zs : z ≡ pos s = cc in
-    let ns : n ≡ rounded_of tag % 1_000_000_000 = cc in
-    (zs ∙ ap (λ (x : ℤ). pos (nat_abs x)) (sym zs), omega (arith, ns))
+    let same = same-time e in
+    (sym same.0 ∙ ap (λ (x : ℤ). pos (nat_abs x)) same.0, omega (arith, same.1))
 
 pub times_normal : TimesNormal
 times_normal rule tag z n e = case-normal z n (time-of rule tag) e
@@ -112,7 +111,7 @@ early-tag : (rule : Rule) (tag : ℕ) → seconds_of rule tag < epoch → Before
 early-tag A tag h = omega (arith, (early-of tag).1 h)
 early-tag B tag h = early-tag-b tag h (dec_lt (tag / 2 ^ 32) (2 ^ 31))
 
-refused-is : {rule : Rule} {tag : ℕ} {r : Unix} → TimeCase rule tag r → r ≡ Unix.Refused TooEarly → seconds_of rule tag < epoch
+refused-is : {rule : Rule} {tag : ℕ} {r : Unix} → TimeCase rule tag r → r ≡ Err TooEarly → seconds_of rule tag < epoch
 refused-is (before-1970 h) e = h
 refused-is (since-1970 q) e = let never : ◌≡◌ {A = ℕ} 0 1 = cc in absurd (omega arith)
 

@@ -5,8 +5,8 @@ use Rattle.clock.specs.Clock.{tag_for, unix_for}
 use Rattle.clock.specs.Shift.{shifted, difference_of}
 use Rattle.clock.specs.declared.Rule.TheVariants.{A, B}
 use Rattle.clock.specs.declared.OutOfRange.TheVariants.{Nanoseconds, TooLate, TooEarly}
-use Rattle.clock.specs.declared.Tagged.TheVariants.{Tag, Refused}
-use Rattle.clock.specs.declared.Unix.TheVariants as Unix
+use Rattle.std.specs.Prelude.{Err, Ok}
+use Rattle.clock.specs.Results as Unix
 
 -- the highest nanosecond value does not carry
 highest : fraction_of 999_999_999 ≡ 4_294_967_292
@@ -25,7 +25,7 @@ reaches-1970 : unix_for A (2_208_988_799 * 2 ^ 32 + (2 ^ 32 - 2)) ≡ Unix.At (p
 unfolding unix_for
 reaches-1970 = refl
 
-misses-1970 : unix_for A (2_208_988_799 * 2 ^ 32 + (2 ^ 32 - 3)) ≡ Unix.Refused TooEarly
+misses-1970 : unix_for A (2_208_988_799 * 2 ^ 32 + (2 ^ 32 - 3)) ≡ Err TooEarly
 unfolding unix_for
 misses-1970 = refl
 
@@ -35,7 +35,7 @@ unfolding unix_for
 past_the_last = refl
 
 -- the immediate tag (0, 1) is a plain number
-immediate-a : unix_for A 1 ≡ Unix.Refused TooEarly
+immediate-a : unix_for A 1 ≡ Err TooEarly
 unfolding unix_for
 immediate-a = refl
 
@@ -47,28 +47,28 @@ highest-shifted : shifted 1 (2 ^ 64 - 1) ≡ 0
 highest-shifted = refl
 
 -- the last second of each rule, and the one after it
-last-a : tag_for A (pos 2_085_978_495) 0 ≡ Tag (4_294_967_295 * 2 ^ 32)
+last-a : tag_for A (pos 2_085_978_495) 0 ≡ Ok (4_294_967_295 * 2 ^ 32)
 unfolding tag_for
 last-a = refl
 
-after-a : tag_for A (pos 2_085_978_496) 0 ≡ Refused TooLate
+after-a : tag_for A (pos 2_085_978_496) 0 ≡ Err TooLate
 unfolding tag_for
 after-a = refl
 
-wrapped-b : tag_for B (pos 2_085_978_496) 0 ≡ Tag 0
+wrapped-b : tag_for B (pos 2_085_978_496) 0 ≡ Ok 0
 unfolding tag_for
 wrapped-b = refl
 
-last-b : tag_for B (pos 4_233_462_143) 0 ≡ Tag (2_147_483_647 * 2 ^ 32)
+last-b : tag_for B (pos 4_233_462_143) 0 ≡ Ok (2_147_483_647 * 2 ^ 32)
 unfolding tag_for
 last-b = refl
 
-after-b : tag_for B (pos 4_233_462_144) 0 ≡ Refused TooLate
+after-b : tag_for B (pos 4_233_462_144) 0 ≡ Err TooLate
 unfolding tag_for
 after-b = refl
 
 -- 26 before 27 and 28
-first-26 : tag_for A (negsuc 0) 1_000_000_000 ≡ Refused Nanoseconds
+first-26 : tag_for A (negsuc 0) 1_000_000_000 ≡ Err Nanoseconds
 unfolding tag_for
 first-26 = refl
 

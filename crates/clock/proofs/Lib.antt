@@ -1,7 +1,7 @@
 -- Ticket 7's conversions, and the differences of tags, proved.
 --     Nearest    the formulas are the nearest; nanoseconds there and back; when a second is full
 --     Shifts     differences of tags, and 64 bits read as signed
---     Starts     a signed number of seconds, taken apart
+--     Starts     a signed number of seconds, taken as an unsigned one
 --     Tags       the answers of `tag_of`, case by case
 --     Times      those of `unix_of`
 --     Domains    the domains of the refusals

@@ -7,11 +7,10 @@ use Rattle.clock.specs.Shift.{shifted, signed_of, difference_of}
 use Rattle.clock.specs.Promises.{last_tag, Again, moved_little, past_the_last, MovedLittle, TwoReached, Carries, Stays, CarriesPast}
 use Rattle.clock.specs.declared.Rule.{Rule}
 use Rattle.clock.specs.declared.Rule.TheVariants.{A, B}
-use Rattle.clock.specs.declared.Unix.{Unix}
-use Rattle.clock.specs.declared.Unix.TheVariants.{At}
+use Rattle.clock.specs.Results.{At, Unix}
 use Rattle.clock.proofs.Nearest.{carry-high, carry-only}
 use Rattle.clock.proofs.Tags.{refused-late, tagged}
-use Rattle.clock.proofs.Times.{field-wrapped, field_plain, timed}
+use Rattle.clock.proofs.Times.{field-wrapped, field_plain, same-time, timed}
 use Rattle.clock.proofs.Domains.{TimeCase, time-of}
 
 -- the two highest fractions carry, also past the rule's last second
@@ -162,9 +161,8 @@ case-again : {rule : Rule} {tag : ℕ} {r : Unix} (z : ℤ) (n : ℕ) → tag < 
     → Again rule tag (tag_for rule z n)
 case-again z n fits (TimeCase.before-1970 h) e = let never : ◌≡◌ {A = ℕ} 0 1 = cc in absurd (omega arith)
 case-again {rule} {tag} z n fits (TimeCase.since-1970 {s} q) e =
-    let zs : z ≡ pos s = cc in
-    let ns : n ≡ rounded_of tag % 1_000_000_000 = cc in
-    rw (zs, ns) (again-either rule tag s fits q (dec_lt (last_of rule) s))
+    let same = same-time e in
+    rw (← same.0, ← same.1) (again-either rule tag s fits q (dec_lt (last_of rule) s))
 
 -- it lies at most 2 fractions from the tag, on either side and around the wrap, or is past the last second
 pub moved-at-most-two : MovedLittle

@@ -4,8 +4,7 @@ use Rattle.clock.specs.Clock.{clock_number, tag_for, unix_for}
 use Rattle.clock.specs.declared.Rule.{Rule}
 use Rattle.clock.specs.declared.OutOfRange.{OutOfRange}
 use Rattle.clock.specs.declared.OutOfRange.TheVariants.{Nanoseconds, TooLate, TooEarly}
-use Rattle.clock.specs.declared.Tagged.{Tagged}
-use Rattle.clock.specs.declared.Unix.{Unix}
+use Rattle.clock.specs.Results.{Tagged, Unix}
 
 -- the refusal of a number
 which : ℕ → OutOfRange

@@ -2,15 +2,13 @@
 use Rattle.std.proofs.Common.{◌≡◌, ℕ, ◌+◌, ◌*◌, ◌/◌, ◌%◌, ◌^◌, ◌<◌, ◌≤◌, ℤ, pos, sym, refl, ap, ◌∙◌, arith, le-ltb, lt-ltb}
 use native.Mathlib.Decide.{dec_lt}
 use Rattle.clock.specs.Nearest.{fraction_of, nanos_of}
-use Rattle.clock.specs.Clock.{since1900, epoch, tag_at, rounded_of, seconds_of, tag_for}
+use Rattle.clock.specs.Clock.{since1900, epoch, tag_at, rounded_of, seconds_of}
 use Rattle.clock.specs.Promises.{TagCase, era_of, OrderKept, LaterHigher}
 use Rattle.clock.specs.declared.Rule.{Rule}
 use Rattle.clock.specs.declared.Rule.TheVariants.{A, B}
-use Rattle.clock.specs.declared.Tagged.{Tagged}
-use Rattle.clock.specs.declared.Tagged.TheVariants.{Tag}
-use Rattle.clock.specs.declared.Unix.{Unix}
-use Rattle.clock.specs.declared.Unix.TheVariants.{At}
-use Rattle.clock.proofs.Times.{field-wrapped, field_plain}
+use Rattle.clock.specs.Results.{At, Tagged, Unix}
+use Rattle.std.specs.Prelude.{Ok}
+use Rattle.clock.proofs.Times.{field-wrapped, field_plain, same-time}
 use Rattle.clock.proofs.Domains.{case-of, TimeCase, time-of}
 use Rattle.clock.proofs.Returns.{field-stands, upper, lower}
 
@@ -76,9 +74,9 @@ time-nanos : {rule : Rule} {t : ℕ} {r : Unix} (s n : ℕ) → TimeCase rule t 
     → nanos_since rule t ≡ (s + epoch) * 1_000_000_000 + n
 time-nanos s n (TimeCase.before-1970 h) e = let never : ◌≡◌ {A = ℕ} 0 1 = cc in absurd (omega arith)
 time-nanos {rule} {t} s n (TimeCase.since-1970 {s = v} q) e =
-    let same : v ≡ s = cc in
-    let ns : n ≡ rounded_of t % 1_000_000_000 = cc in
-    omega (arith, same, ns, q)
+    let same = same-time e in
+    let seconds : v ≡ s = cc (same.0) in
+    omega (arith, seconds, same.1, q)
 
 pub order_kept : OrderKept
 order_kept rule t u s n s' n' era l e f =
@@ -90,7 +88,7 @@ order_kept rule t u s n s' n' era l e f =
     )
 
 -- the tag of a time, in fractions since 1900
-tag-fractions : {rule : Rule} {z : ℤ} {n : ℕ} {r : Tagged} (s t : ℕ) → TagCase rule z n r → z ≡ pos s → r ≡ Tag t
+tag-fractions : {rule : Rule} {z : ℤ} {n : ℕ} {r : Tagged} (s t : ℕ) → TagCase rule z n r → z ≡ pos s → r ≡ Ok t
     → (n < 1_000_000_000) × (fractions_of rule t ≡ (s + epoch) * 2 ^ 32 + fraction_of n)
 tag-fractions s t (TagCase.nanoseconds h) q e = let never : ◌≡◌ {A = ℕ} 0 1 = cc in absurd (omega arith)
 tag-fractions s t (TagCase.late h l) q e = let never : ◌≡◌ {A = ℕ} 0 1 = cc in absurd (omega arith)

@@ -6,11 +6,9 @@ use Rattle.clock.specs.Clock.{since1900, last_of, epoch, tag_at, tag_for, rounde
 use Rattle.clock.specs.Promises.{TagCase, ReturnsUnchanged}
 use Rattle.clock.specs.declared.Rule.{Rule}
 use Rattle.clock.specs.declared.Rule.TheVariants.{A, B}
-use Rattle.clock.specs.declared.Tagged.{Tagged}
-use Rattle.clock.specs.declared.Tagged.TheVariants.{Tag, Refused}
+use Rattle.clock.specs.Results.{At, Tagged}
+use Rattle.std.specs.Prelude.{Err, Ok}
 use Rattle.clock.specs.declared.OutOfRange.{OutOfRange}
-use Rattle.clock.specs.declared.Unix.TheVariants.{At}
-use Rattle.clock.specs.declared.Unix.TheVariants as Unix
 use Rattle.clock.proofs.Nearest.{nanos-return}
 use Rattle.clock.proofs.Times.{field-wrapped, field_plain, timed}
 use Rattle.clock.proofs.Domains.{case-of}
@@ -47,7 +45,7 @@ module _ (rule : Rule) (s nanos : ℕ) (below : nanos < 1_000_000_000) (in_range
       let n-back : rounded_of tag % 1_000_000_000 ≡ nanos = omega (arith, rounded) in
       timed rule tag (omega (arith, seconds)) ∙ cc (s-back, n-back)
 
-case-returns : {rule : Rule} {z : ℤ} {n : ℕ} {r : Tagged} (t : ℕ) → TagCase rule z n r → r ≡ Tag t → unix_for rule t ≡ At z n
+case-returns : {rule : Rule} {z : ℤ} {n : ℕ} {r : Tagged} (t : ℕ) → TagCase rule z n r → r ≡ Ok t → unix_for rule t ≡ At z n
 case-returns t (TagCase.nanoseconds h) e = let never : ◌≡◌ {A = ℕ} 0 1 = cc in absurd (omega arith)
 case-returns t (TagCase.late h l) e = let never : ◌≡◌ {A = ℕ} 0 1 = cc in absurd (omega arith)
 case-returns t (TagCase.early h) e = let never : ◌≡◌ {A = ℕ} 0 1 = cc in absurd (omega arith)
@@ -60,8 +58,8 @@ pub returns_unchanged : ReturnsUnchanged
 returns_unchanged rule z n t e = case-returns t (case-of rule z n) e
 
 -- what comes back by way of a tag
-pub returned-tag : (rule : Rule) (z : ℤ) (n t : ℕ) → tag_for rule z n ≡ Tag t → unix_for rule t ≡ returned rule z n
+pub returned-tag : (rule : Rule) (z : ℤ) (n t : ℕ) → tag_for rule z n ≡ Ok t → unix_for rule t ≡ returned rule z n
 returned-tag rule z n t e = returns_unchanged rule z n t e ∙ sym (ap (back_from z n) e)
 
-pub returned-refused : (rule : Rule) (z : ℤ) (n : ℕ) (r : OutOfRange) → tag_for rule z n ≡ Refused r → Unix.Refused r ≡ returned rule z n
+pub returned-refused : (rule : Rule) (z : ℤ) (n : ℕ) (r : OutOfRange) → tag_for rule z n ≡ Err r → Err r ≡ returned rule z n
 returned-refused rule z n r e = sym (ap (back_from z n) e)

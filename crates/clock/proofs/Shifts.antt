@@ -1,7 +1,7 @@
 -- What a difference of tags is, for all tags below 2^64; and what the machine reads from 64 bits as signed.
-use Rattle.std.proofs.Common.{◌≡◌, ℕ, suc, ◌+◌, ◌-◌, ◌%◌, ◌^◌, ◌<◌, ◌≤◌, ap, ◌∙◌, arith, w64, to_z, le-ltb, lt-ltb}
+use Rattle.std.proofs.Common.{◌≡◌, ℕ, suc, ◌+◌, ◌-◌, ◌%◌, ◌^◌, ◌<◌, ◌≤◌, ap, arith, w64, to_z, le-ltb, lt-ltb}
 use native.Mathlib.Decide.{dec_lt}
-use Rattle.clock.specs.Shift.{shifted, signed_of, difference_of, bits_of, OppositeLowest, DifferenceShifts}
+use Rattle.clock.specs.Shift.{signed_of, bits_of, OppositeLowest, DifferenceShifts}
 
 -- a number read as signed is what the machine reads from its 64 bits
 pub signed_low : (x : ℕ) → x < 2 ^ 63 → to_z w64 x ≡ signed_of x

@@ -1,12 +1,23 @@
 -- What `unix_for` says, case by case.
-use Rattle.std.proofs.Common.{◌≡◌, ℕ, ◌+◌, ◌-◌, ◌/◌, ◌%◌, ◌^◌, ◌<◌, ◌≤◌, pos, ◌∙◌, arith, w64, to_z, le-ltb, lt-ltb}
+use Rattle.std.proofs.Common.{◌≡◌, ℕ, ◌+◌, ◌-◌, ◌/◌, ◌%◌, ◌^◌, ◌<◌, ◌≤◌, ℤ, pos, ap, ◌∙◌, arith, w64, to_z, le-ltb, lt-ltb}
 use native.Mathlib.Decide.{dec_lt}
 use mir.Facts.{to_z_pos}
 use Rattle.clock.specs.Clock.{since1900, epoch, rounded_of, seconds_of, unix_for}
 use Rattle.clock.specs.declared.Rule.{Rule}
 use Rattle.clock.specs.declared.Rule.TheVariants.{A, B}
 use Rattle.clock.specs.declared.OutOfRange.TheVariants.{TooEarly}
-use Rattle.clock.specs.declared.Unix.TheVariants.{At, Refused}
+use Rattle.clock.specs.declared.UnixTime.{UnixTime}
+use Rattle.clock.specs.Results.{At}
+use Rattle.std.specs.Prelude.{Err}
+
+abbrev time : ℤ → ℕ → UnixTime
+time seconds nanos = record { seconds = seconds; nanos = nanos }
+
+-- times that are one answer are of one second and one nanosecond
+pub same-time : {y z : ℤ} {m n : ℕ} → At y m ≡ At z n → (y ≡ z) × (m ≡ n)
+same-time {y} {z} {m} {n} e =
+    let same : time y m ≡ time z n = cc in
+    (ap (λ (t : UnixTime). t.seconds) same, ap (λ (t : UnixTime). t.nanos) same)
 
 -- what a seconds field stands for, case by case
 pub field-wrapped : (field : ℕ) → field < 2 ^ 31 → since1900 B field ≡ field + 2 ^ 32
@@ -24,7 +35,7 @@ since-below A field h = omega arith
 since-below B field h = since-below-either field h (dec_lt field (2 ^ 31))
 
 -- 28, after the carry
-pub refused-before-1970 : (rule : Rule) (tag : ℕ) → seconds_of rule tag < epoch → unix_for rule tag ≡ Refused TooEarly
+pub refused-before-1970 : (rule : Rule) (tag : ℕ) → seconds_of rule tag < epoch → unix_for rule tag ≡ Err TooEarly
 unfolding unix_for
 refused-before-1970 rule tag h = rw (lt-ltb (seconds_of rule tag) epoch h)
 
@@ -42,7 +53,7 @@ module _ (rule : Rule) (tag s n : ℕ) (field : s ≡ since1900 rule (tag / 2 ^ 
   seconds-are : seconds_of rule tag ≡ s + n / 1_000_000_000
   seconds-are = omega arith
 
-  pub code-early : s + n / 1_000_000_000 < epoch → unix_for rule tag ≡ Refused TooEarly
+  pub code-early : s + n / 1_000_000_000 < epoch → unix_for rule tag ≡ Err TooEarly
   code-early h = refused-before-1970 rule tag (omega (arith, seconds-are))
 
   pub code_at : epoch ≤ s + n / 1_000_000_000

@@ -1,14 +1,12 @@
 -- Clock conversion: document 02, Ticket 7. A tag is seconds * 2^32 + fractions, below 2^64; a Unix time is signed seconds and nanoseconds.
-use Rattle.std.specs.Prelude.{ℕ, ◌+◌, ◌-◌, ◌*◌, ◌/◌, ◌%◌, ◌^◌, cond, ℤ, pos, ◌+ℤ◌, int_lt, nat_le, nat_lt, unsigned_abs}
+use Rattle.std.specs.Prelude.{ℕ, ◌+◌, ◌-◌, ◌*◌, ◌/◌, ◌%◌, ◌^◌, cond, ℤ, pos, ◌+ℤ◌, int_lt, nat_le, nat_lt, unsigned_abs, Err, Ok}
 use Rattle.clock.specs.Nearest.{fraction_of, nanos_of}
 use Rattle.clock.specs.declared.Rule.{Rule}
 use Rattle.clock.specs.declared.Rule.TheVariants.{A, B}
 use Rattle.clock.specs.declared.OutOfRange.{OutOfRange}
 use Rattle.clock.specs.declared.OutOfRange.TheVariants.{Nanoseconds, TooLate, TooEarly}
-use Rattle.clock.specs.declared.Tagged.{Tagged}
-use Rattle.clock.specs.declared.Tagged.TheVariants as Tagged
-use Rattle.clock.specs.declared.Unix.{Unix}
-use Rattle.clock.specs.declared.Unix.TheVariants as Unix
+use Rattle.clock.specs.Results.{Tagged, Unix}
+use Rattle.clock.specs.Results as Unix
 
 -- "26 nanoseconds of 10^9 or more, 27 later than the rule allows, 28 before 1970 after any carry"
 abbrev pub clock_number : OutOfRange → ℕ
@@ -41,10 +39,10 @@ tag_at seconds fraction = seconds % 2 ^ 32 * 2 ^ 32 + fraction
 -- what `tag_of` answers, the refusals "in that order"
 unfoldable pub tag_for : Rule → ℤ → ℕ → Tagged
 tag_for rule seconds nanos =
-    cond (nat_le 1_000_000_000 nanos) (Tagged.Refused Nanoseconds)
-    (cond (int_lt (pos (last_of rule)) seconds) (Tagged.Refused TooLate)
-    (cond (int_lt (carried seconds nanos) (pos 0)) (Tagged.Refused TooEarly)
-    (Tagged.Tag (tag_at (unsigned_abs (carried seconds nanos) + epoch) (fraction_of nanos % 2 ^ 32)))))
+    cond (nat_le 1_000_000_000 nanos) (Err Nanoseconds)
+    (cond (int_lt (pos (last_of rule)) seconds) (Err TooLate)
+    (cond (int_lt (carried seconds nanos) (pos 0)) (Err TooEarly)
+    (Ok (tag_at (unsigned_abs (carried seconds nanos) + epoch) (fraction_of nanos % 2 ^ 32)))))
 
 -- the nanoseconds of a tag's fraction, a full second among them
 abbrev pub rounded_of : ℕ → ℕ
@@ -57,13 +55,13 @@ seconds_of rule tag = since1900 rule (tag / 2 ^ 32) + rounded_of tag / 1_000_000
 -- what `unix_of` answers: "a tag on its way to Unix time is never refused by 27"
 unfoldable pub unix_for : Rule → ℕ → Unix
 unix_for rule tag =
-    cond (nat_lt (seconds_of rule tag) epoch) (Unix.Refused TooEarly)
+    cond (nat_lt (seconds_of rule tag) epoch) (Err TooEarly)
     (Unix.At (pos (seconds_of rule tag - epoch)) (rounded_of tag % 1_000_000_000))
 
 -- what comes back of a Unix time by way of its tag, by Ticket 7: the same time, or the refusal
 abbrev pub back_from : ℤ → ℕ → Tagged → Unix
-back_from seconds nanos (Tagged.Tag tag) = Unix.At seconds nanos
-back_from seconds nanos (Tagged.Refused reason) = Unix.Refused reason
+back_from seconds nanos (Ok tag) = Unix.At seconds nanos
+back_from seconds nanos (Err reason) = Err reason
 
 -- by a rule
 abbrev pub returned : Rule → ℤ → ℕ → Unix

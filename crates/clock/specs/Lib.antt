@@ -1,6 +1,6 @@
 pub mod Nearest
 pub mod Clock
-pub mod CodeStart
 pub mod Shift
 pub mod Promises
 pub mod Sums
+pub mod Results

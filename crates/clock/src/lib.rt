@@ -8,8 +8,7 @@ mod sums; // sums.rt: what Ticket 13 demands of shifts
 ghost use Rattle.std.specs.Prelude.{◌≡◌, ◌^◌, ◌<◌};
 ghost use Rattle.clock.specs.Nearest.{fraction_of, nanos_of};
 ghost use Rattle.clock.specs.Clock.{clock_number, last_of, since1900, tag_for, unix_for};
-ghost use Rattle.clock.specs.CodeStart.{split_seconds};
-ghost use Rattle.clock.specs.Shift.{shifted, signed_of, difference_of};
+ghost use Rattle.clock.specs.Shift.{shifted, difference_of};
 
 // The nanoseconds of a second.
 const NANOS: u64 = 1_000_000_000;
@@ -21,7 +20,7 @@ const FRACTIONS: u64 = 0x1_0000_0000;
 const EPOCH: u64 = 2_208_988_800;
 
 // What a seconds field stands for. The caller chooses.
-#[derive(Clone, Copy)]
+#[derive(Clone, Copy, Debug, PartialEq, Eq)]
 pub enum Rule {
     // As rosc reads it: the seconds since 1900, which end in 2036.
     A,
@@ -30,7 +29,7 @@ pub enum Rule {
 }
 
 // Why there is no answer.
-#[derive(Clone, Copy)]
+#[derive(Clone, Copy, Debug, PartialEq, Eq)]
 pub enum OutOfRange {
     // Nanoseconds of 10^9 or more.
     Nanoseconds,
@@ -79,49 +78,22 @@ fn nanos_of(fraction: u64) -> u64
     (fraction * NANOS + FRACTIONS / 2) / FRACTIONS
 }
 
-// Where a signed number of Unix seconds lies.
-#[derive(Clone, Copy)]
-enum Start {
-    // Before 1970.
-    Earlier,
-    // So many seconds after it began.
-    Seconds(u64),
-}
-
-fn start_of(seconds: i64) -> Start
-    ensures { result ≡ split_seconds seconds }
-{
-    if seconds < 0 {
-        return Start::Earlier;
-    }
-    Start::Seconds(seconds as u64)
-}
-
-// A tag, or why there is none.
-#[derive(Clone, Copy)]
-pub enum Tagged {
-    Tag(u64),
-    Refused(OutOfRange),
-}
-
 // The tag of a Unix time. No carry happens here: the highest fraction of any nanoseconds is 2^32 - 4.
 //
 // Ruled out: a tag for the second after the rule's last; 27 or 28 where 26 holds too.
-pub fn tag_of(rule: Rule, seconds: i64, nanos: u64) -> Tagged
+pub fn tag_of(rule: Rule, seconds: i64, nanos: u64) -> Result<u64, OutOfRange>
     ensures { result ≡ tag_for rule seconds nanos }
 {
     if NANOS <= nanos {
-        return Tagged::Refused(OutOfRange::Nanoseconds);
+        return Err(OutOfRange::Nanoseconds);
     }
-    match start_of(seconds) {
-        Start::Earlier => Tagged::Refused(OutOfRange::TooEarly),
-        Start::Seconds(s) => {
-            if last_of(rule) < s {
-                return Tagged::Refused(OutOfRange::TooLate);
-            }
-            Tagged::Tag((s + EPOCH) % FRACTIONS * FRACTIONS + fraction_of(nanos))
-        }
+    let Ok(s) = u64::try_from(seconds) else {
+        return Err(OutOfRange::TooEarly);
+    };
+    if last_of(rule) < s {
+        return Err(OutOfRange::TooLate);
     }
+    Ok((s + EPOCH) % FRACTIONS * FRACTIONS + fraction_of(nanos))
 }
 
 // The seconds since 1900 that a seconds field stands for.
@@ -133,35 +105,36 @@ fn since_1900(rule: Rule, field: u64) -> u64
         Rule::A => field,
         Rule::B => {
             if field < FRACTIONS / 2 {
-                return field + FRACTIONS;
+                field + FRACTIONS
+            } else {
+                field
             }
-            field
         }
     }
 }
 
-// A Unix time, or why there is none.
+// A Unix time: seconds since 1970 began, and nanoseconds.
 #[derive(Clone, Copy)]
-pub enum Unix {
-    At { seconds: i64, nanos: u64 },
-    Refused(OutOfRange),
+pub struct UnixTime {
+    pub seconds: i64,
+    pub nanos: u64,
 }
 
 // The Unix time of a tag. A fraction that rounds to a full second carries, also past the rule's last second.
 //
 // Ruled out: halves rounded down; 10^9 nanoseconds in an answer; 28 for a tag that reaches 1970 by its carry.
-pub fn unix_of(rule: Rule, tag: u64) -> Unix
+pub fn unix_of(rule: Rule, tag: u64) -> Result<UnixTime, OutOfRange>
     ensures { result ≡ unix_for rule tag }
 {
     let nanos = nanos_of(tag % FRACTIONS);
     let seconds = since_1900(rule, tag / FRACTIONS) + nanos / NANOS;
     if seconds < EPOCH {
-        return Unix::Refused(OutOfRange::TooEarly);
+        return Err(OutOfRange::TooEarly);
     }
-    Unix::At {
+    Ok(UnixTime {
         seconds: (seconds - EPOCH) as i64,
         nanos: nanos % NANOS,
-    }
+    })
 }
 
 // A tag moved on by an amount, modulo 2^64.
@@ -170,17 +143,7 @@ pub fn unix_of(rule: Rule, tag: u64) -> Unix
 pub fn shift(tag: u64, by: u64) -> u64
     ensures { result ≡ shifted tag by }
 {
-    std::num::wrapping_add_u64(tag, by)
-}
-
-// The signed number of 64 bits.
-fn signed(x: u64) -> i64
-    ensures { result ≡ signed_of x }
-{
-    if x < 0x8000_0000_0000_0000 {
-        return x as i64;
-    }
-    !((!x) as i64)
+    tag.wrapping_add(by)
 }
 
 // The difference of a tag from an old one, around the wrap.
@@ -189,5 +152,5 @@ fn signed(x: u64) -> i64
 pub fn difference(tag: u64, old: u64) -> i64
     ensures { result ≡ difference_of tag old }
 {
-    signed(std::num::wrapping_sub_u64(tag, old))
+    tag.wrapping_sub(old).cast_signed()
 }

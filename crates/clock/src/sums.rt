@@ -20,7 +20,7 @@ fn by_two(tag: u64, x: u64, y: u64) -> u64
 fn and_back(tag: u64, x: u64) -> u64
     ensures { result ≡ tag }
 {
-    crate::shift(crate::shift(tag, x), std::num::wrapping_sub_u64(0, x))
+    crate::shift(crate::shift(tag, x), 0u64.wrapping_sub(x))
 }
 
 // "the difference of the shifted tag from the old one is x read as signed"

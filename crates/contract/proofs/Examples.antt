@@ -6,16 +6,16 @@ use Prim.Native.Nat.{ℕ}
 use native.Mathlib.Omega.{arith}
 use lib.ListN.{get_or}
 use Rattle.refusal.specs.declared.Refusal.TheVariants.{OutputShort}
-use Rattle.results.specs.declared.Encoded.{Encoded}
-use Rattle.results.specs.declared.Encoded.TheVariants.{Written, Refused}
+use Rattle.results.specs.Results.{Encoded}
+use Rattle.std.specs.Prelude.{Err, Ok}
 use Rattle.contract.specs.Endings.{by_encoded}
 use Rattle.contract.specs.Contract.{Contract, writes, Demand1}
 use Rattle.contract.proofs.OneEnding.{WellEnded, one-ending}
 
 -- a call that writes a 7 over the first byte of its output; 12 where there is none
 abbrev seven_of : List ℕ → Encoded
-seven_of [] = Refused OutputShort
-seven_of (x ∷ l) = Written 1
+seven_of [] = Err OutputShort
+seven_of (x ∷ l) = Ok 1
 
 abbrev seven_at : List ℕ → List ℕ
 seven_at [] = []
@@ -34,7 +34,7 @@ seven-demand out = one-ending (seven (12 ∷ []) out) (seven_of out) (seven_at o
 
 -- `listed`: with 11 alone it does not
 unlisted : Demand1 (seven (11 ∷ []) []) → ⊥
-unlisted d = false≢true (d.listed (Refused OutputShort) [] (refl, refl))
+unlisted d = false≢true (d.listed (Err OutputShort) [] (refl, refl))
 
 -- the contract of an encoder that is lent a zero, by what it promises
 abbrev zeroed : (Encoded → List ℕ → Type 0) → Contract
@@ -45,12 +45,12 @@ seven-not-zero : ◌≡◌ {A = List ℕ} (7 ∷ []) (0 ∷ []) → ⊥
 seven-not-zero e = let z : ◌≡◌ {A = ℕ} 7 0 = ap (λ (l : List ℕ). get_or l 0 0) e in omega arith
 
 -- `unchanged`: no refusal leaves another byte
-spoiled : Demand1 (zeroed (λ r after. (r ≡ Refused OutputShort) × (after ≡ 7 ∷ []))) → ⊥
-spoiled d = seven-not-zero (d.unchanged (Refused OutputShort) (7 ∷ []) (refl, refl) tt)
+spoiled : Demand1 (zeroed (λ r after. (r ≡ Err OutputShort) × (after ≡ 7 ∷ []))) → ⊥
+spoiled d = seven-not-zero (d.unchanged (Err OutputShort) (7 ∷ []) (refl, refl) tt)
 
 -- `settled`: no contract leaves bytes open
-unsettled : Demand1 (zeroed (λ r after. r ≡ Written 1)) → ⊥
-unsettled d = seven-not-zero (d.settled (Written 1) (Written 1) (7 ∷ []) (0 ∷ []) refl refl).1
+unsettled : Demand1 (zeroed (λ r after. r ≡ Ok 1)) → ⊥
+unsettled d = seven-not-zero (d.settled (Ok 1) (Ok 1) (7 ∷ []) (0 ∷ []) refl refl).1
 
 -- `met`: no contract asks for what cannot be
 unmet : Demand1 (zeroed (λ r after. ⊥)) → ⊥

@@ -7,7 +7,8 @@ use lib.ListN.{length, take}
 use Rattle.wire.specs.Number.{bytes}
 use Rattle.cues.specs.Cues.{entry_of}
 use Rattle.cues.specs.Checks.{compared_at, compared, InRecords, FirstAt, followed_by}
-use Rattle.results.specs.declared.Checked.TheVariants.{Fits, Differs}
+use Rattle.results.specs.Results.{Differs}
+use Rattle.std.specs.Prelude.{Ok}
 use Rattle.cues.proofs.Checks.{fits_exactly, differs_first, check_in_parts}
 
 -- a frame of 16 bytes with 2 records at offset 0, one of 20 bytes with 3 after it, and the latter with 4
@@ -25,7 +26,7 @@ two = first ++ second
 
 -- ---- two records against themselves
 
-itself : compared two two ≡ Fits 2
+itself : compared two two ≡ Ok 2
 unfolding compared_at bytes
 itself = refl
 

@@ -13,8 +13,8 @@ use Rattle.wire.specs.Same.{same_bytes}
 use Rattle.cues.specs.Cues.{entry_size}
 use Rattle.cues.specs.Checks.{compared_at, compared, InRecords, FitsExactly, FirstAt}
 use Rattle.cues.specs.Checks.{DiffersFirst, numbered_from, followed_by, CheckInParts}
-use Rattle.results.specs.declared.Checked.{Checked}
-use Rattle.results.specs.declared.Checked.TheVariants.{Fits, Differs}
+use Rattle.results.specs.Results.{Checked, Differs}
+use Rattle.std.specs.Prelude.{Ok, Err}
 use Rattle.wire.proofs.Choices.{lt-or-le}
 use Rattle.wire.proofs.Same.{same-one, is_same}
 
@@ -41,12 +41,12 @@ two-differ : (a b : List ℕ) → (a ≡ b → ⊥) → same_bytes a b ≡ false
 two-differ a b h = sym (is_same false a b (λ t. absurd (false≢true t), λ t. absurd (h t)))
 
 -- where no record may be compared, so many fit
-none_more : (k : ℕ) (f g : List ℕ) → compared_at zero k f g ≡ Fits k
+none_more : (k : ℕ) (f g : List ℕ) → compared_at zero k f g ≡ Ok k
 unfolding compared_at
 none_more k f g = refl
 
 -- where no byte is left, so many records fit
-pub ends : (n k : ℕ) (f g : List ℕ) → length f + length g ≡ 0 → compared_at n k f g ≡ Fits k
+pub ends : (n k : ℕ) (f g : List ℕ) → length f + length g ≡ 0 → compared_at n k f g ≡ Ok k
 unfolding compared_at
 ends zero k f g e = none_more k f g
 ends (suc n) k f g e = rw (eq-eqb (length f + length g) 0 e)
@@ -89,14 +89,14 @@ any-bound (suc n) (suc m) k f g h i =
 
 -- an answer after m records and n more
 pub numbered-twice : (m n : ℕ) (r : Checked) → numbered_from m (numbered_from n r) ≡ numbered_from (m + n) r
-numbered-twice m n (Fits k) = ap Fits (omega arith)
-numbered-twice m n (Differs k) = ap Differs (omega arith)
+numbered-twice m n (Ok k) = ap Ok (omega arith)
+numbered-twice m n (Err differs) = ap Differs (omega arith)
 
 -- the number of the first record is added
 counted-from : (n k : ℕ) (f g : List ℕ) → compared_at n k f g ≡ numbered_from k (compared_at n 0 f g)
-counted-from zero k f g = none_more k f g ∙ ap Fits (omega arith) ∙ sym (ap (numbered_from k) (none_more 0 f g))
+counted-from zero k f g = none_more k f g ∙ ap Ok (omega arith) ∙ sym (ap (numbered_from k) (none_more 0 f g))
 counted-from (suc n) k f g =
-    by_front f g (λ z. ends (suc n) k f g z ∙ ap Fits (omega arith) ∙ sym (ap (numbered_from k) (ends (suc n) 0 f g z)))
+    by_front f g (λ z. ends (suc n) k f g z ∙ ap Ok (omega arith) ∙ sym (ap (numbered_from k) (ends (suc n) 0 f g z)))
     (λ p e. passes n k f g p e ∙ counted-from n (k + 1) _ _
     ∙ sym (numbered-twice k 1 (compared_at n 0 (drop entry_size f) (drop entry_size g)))
     ∙ sym (ap (numbered_from k) (passes n 0 f g p e ∙ counted-from n 1 _ _)))
@@ -153,15 +153,15 @@ module _ (f g : List ℕ) (k : ℕ) (e : Compares f g k) where
       num = omega arith
 
   -- no byte is left
-  pub all_fit : max (length f) (length g) ≤ entry_size * k → Fits k ≡ compared f g
+  pub all_fit : max (length f) (length g) ≤ entry_size * k → Ok k ≡ compared f g
   all_fit h = sym (e ∙ ends _ k _ _ (omega (arith, length-drop (entry_size * k) f, length-drop (entry_size * k) g)))
 
 -- ---- what a check says
 
 -- what an answer says of two indexes
 abbrev Says : List ℕ → List ℕ → Checked → Type 0
-Says f g (Fits n) = (f ≡ g) × InRecords (length f) n
-Says f g (Differs k) = FirstAt f g k
+Says f g (Ok n) = (f ≡ g) × InRecords (length f) n
+Says f g (Err differs) = FirstAt f g differs.at
 
 -- so much and a record more is one record, and then so much of what follows
 front-and : (j : ℕ) (l : List ℕ) → take (entry_size * (1 + j)) l ≡ take entry_size l ++ take (entry_size * j) (drop entry_size l)
@@ -170,25 +170,25 @@ front-and j l = let e : entry_size * (1 + j) ≡ entry_size + entry_size * j = o
 -- what an answer says of what follows a record that is the same, it says of both indexes one record later
 says-numbered : (f g : List ℕ) (r : Checked) → 0 < length f + length g → take entry_size f ≡ take entry_size g
     → Says (drop entry_size f) (drop entry_size g) r → Says f g (numbered_from 1 r)
-says-numbered f g (Fits n) h e s =
+says-numbered f g (Ok n) h e s =
     let one : f ≡ g
     = sym (take-append-drop entry_size f)
     ∙ ap (λ (x : List ℕ). x ++ drop entry_size f) e
     ∙ ap (λ (x : List ℕ). take entry_size g ++ x) s.0
     ∙ take-append-drop entry_size g in
     (one, (omega (arith, length-drop entry_size f), omega (arith, length-drop entry_size f, ap length one)))
-says-numbered f g (Differs k) h e s =
+says-numbered f g (Err differs) h e s =
     record {
-      before = front-and k f ∙ ap₂ ◌++◌ e s.before ∙ sym (front-and k g);
+      before = front-and differs.at f ∙ ap₂ ◌++◌ e s.before ∙ sym (front-and differs.at g);
       there =
           λ z.
-          let n : 1 + k + 1 ≡ 1 + (k + 1) = omega arith in
+          let n : 1 + differs.at + 1 ≡ 1 + (differs.at + 1) = omega arith in
           s.there
           (append_cancel_left (take entry_size g) _ _
-          (ap (λ (x : List ℕ). x ++ take (entry_size * (k + 1)) (drop entry_size f)) (sym e)
-          ∙ sym (front-and (k + 1) f)
+          (ap (λ (x : List ℕ). x ++ take (entry_size * (differs.at + 1)) (drop entry_size f)) (sym e)
+          ∙ sym (front-and (differs.at + 1) f)
           ∙ (rw n at z)
-          ∙ front-and (k + 1) g));
+          ∙ front-and (differs.at + 1) g));
     }
 
 -- of two with no byte
@@ -218,9 +218,9 @@ fits_exactly f g =
       counts = λ n e. (answer-says f g e).1;
     }
   where
-    accepted : f ≡ g → (r : Checked) → compared f g ≡ r → (n : ℕ) × r ≡ Fits n
-    accepted e (Fits n) h = (n, refl)
-    accepted e (Differs k) h = absurd ((answer-says f g h).there (ap (take (entry_size * (k + 1))) e))
+    accepted : f ≡ g → (r : Checked) → compared f g ≡ r → (n : ℕ) × r ≡ Ok n
+    accepted e (Ok n) h = (n, refl)
+    accepted e (Err differs) h = absurd ((answer-says f g h).there (ap (take (entry_size * (differs.at + 1))) e))
 
 -- one that it does not accept is told by the first record that differs, is missing or is extra
 pub differs_first : (fresh given : List ℕ) → DiffersFirst fresh given
@@ -255,11 +255,11 @@ module _ (f g : List ℕ) where
       earlier i j v u h = v.there (same-before (i + 1) j (omega arith) u.before)
 
       by_answer : (r : Checked) → compared f g ≡ r → r ≡ Differs k
-      by_answer (Fits n) e = absurd (w.there (ap (take (entry_size * (k + 1))) (answer-says f g e).0))
-      by_answer (Differs j) e =
-          ⊎_elim (λ h. absurd (earlier j k (answer-says f g e) w h))
-          (λ h. ⊎_elim (λ i. absurd (earlier k j w (answer-says f g e) i)) (λ i. ap Differs (omega arith)) (lt-or-le k j))
-          (lt-or-le j k)
+      by_answer (Ok n) e = absurd (w.there (ap (take (entry_size * (k + 1))) (answer-says f g e).0))
+      by_answer (Err differs) e =
+          ⊎_elim (λ h. absurd (earlier differs.at k (answer-says f g e) w h))
+          (λ h. ⊎_elim (λ i. absurd (earlier k differs.at w (answer-says f g e) i)) (λ i. ap Differs (omega arith)) (lt-or-le k differs.at))
+          (lt-or-le differs.at k)
 
 -- ---- a check in parts
 
@@ -269,25 +269,25 @@ pub ends-within : (f more g : List ℕ) → length f % entry_size ≡ 0 → leng
 ends-within f more g whole short rest = by_answer (compared f g) refl
   where
     by_answer : (r : Checked) → compared f g ≡ r → compared (f ++ more) g ≡ followed_by r rest
-    by_answer (Fits n) e = absurd (omega (arith, ap length (answer-says f g e).0))
-    by_answer (Differs k) e =
+    by_answer (Ok n) e = absurd (omega (arith, ap length (answer-says f g e).0))
+    by_answer (Err differs) e =
         let w = answer-says f g e in
-        let here : entry_size * (k + 1) ≤ length f = omega (arith, differs-in f g k e) in
-        first-told (f ++ more) g k
+        let here : entry_size * (differs.at + 1) ≤ length f = omega (arith, differs-in f g differs.at e) in
+        first-told (f ++ more) g differs.at
         (record {
-          before = take-append-le (entry_size * k) f more (omega arith) ∙ w.before;
-          there = λ z. w.there (sym (take-append-le (entry_size * (k + 1)) f more here) ∙ z);
+          before = take-append-le (entry_size * differs.at) f more (omega arith) ∙ w.before;
+          there = λ z. w.there (sym (take-append-le (entry_size * (differs.at + 1)) f more here) ∙ z);
         })
 
 -- nothing before
 pub numbered-none : (r : Checked) → numbered_from 0 r ≡ r
-numbered-none (Fits k) = ap Fits (omega arith)
-numbered-none (Differs k) = ap Differs (omega arith)
+numbered-none (Ok k) = ap Ok (omega arith)
+numbered-none (Err differs) = ap Differs (omega arith)
 
 -- one record more before both parts
 numbered-followed : (a r : Checked) → numbered_from 1 (followed_by a r) ≡ followed_by (numbered_from 1 a) r
-numbered-followed (Fits n) r = numbered-twice 1 n r
-numbered-followed (Differs k) r = refl
+numbered-followed (Ok n) r = numbered-twice 1 n r
+numbered-followed (Err differs) r = refl
 
 -- where the first parts are whole records of one number, an answer for all is theirs, and then that of what follows
 pub check_in_parts : CheckInParts

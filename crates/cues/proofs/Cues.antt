@@ -20,13 +20,14 @@ use Rattle.framing.proofs.FrameKnot.{FrameIn, cut_in, Prefixed, cut-prefixed}
 use Rattle.rosc_inputs.proofs.Totals.{one-tree, one_size}
 use Rattle.standard_inputs.proofs.Cuts.{Shallow, cut-shallow}
 use Rattle.answering.specs.Limits.{limited, decoded}
-use Rattle.results.specs.declared.Decoded.{Decoded}
-use Rattle.results.specs.declared.Decoded.TheVariants as answer
+use Rattle.cues.specs.Results.{Cue}
+use Rattle.results.specs.Results.{DecodeAnswer}
+use Rattle.std.specs.Prelude.{Err, Ok, Some}
+use Rattle.cues.specs.Results as cue
+use Rattle.results.specs.Results as answer
 use Rattle.folding.specs.Folding.{Verdict}
 use Rattle.folding.specs.Frames.{judged}
 use Rattle.cues.specs.Cues.{most_in_a_cue, recorded, record_adds, judged_cue, cue_of}
-use Rattle.cues.specs.declared.cue.Cue.{Cue}
-use Rattle.cues.specs.declared.cue.Cue.TheVariants as cue
 use Rattle.cues.proofs.Shortest.{shortest_frame, FrameLong, frame_long}
 
 -- the cue of a frame at the front of l
@@ -37,9 +38,9 @@ cue_by l x = judged_cue (judged recorded record_adds 0 l x)
 
 -- a frame that is accepted has 12 bytes at least, no more records than bytes and than a table of 64 KiB has, and is all there
 abbrev pub CueIn : ℕ → Cue → Type 0
-CueIn m (cue.Given size records) = (shortest_frame ≤ size) × (size ≤ m) × (records ≤ size) × (records ≤ most_in_a_cue)
+CueIn m (Ok (Some front)) = (shortest_frame ≤ front.size) × (front.size ≤ m) × (front.records ≤ front.size) × (front.records ≤ most_in_a_cue)
 CueIn m cue.Waiting = Unit {0}
-CueIn m (cue.Refused k) = Unit {0}
+CueIn m (Err k) = Unit {0}
 
 judged-in : (l : List ℕ) (x : Frame) → FrameIn (length l) x → FrameLong x → CueIn (length l) (cue_by l x)
 judged-in l wait w v = tt
@@ -66,9 +67,9 @@ moved_none NotScalar = refl
 
 -- one that is refused has its prefix, and a field that was short begins in these bytes or right after them
 abbrev RefusedIn : ℕ → Cue → Type 0
-RefusedIn m (cue.Given size records) = Unit {0}
+RefusedIn m (Ok (Some front)) = Unit {0}
 RefusedIn m cue.Waiting = Unit {0}
-RefusedIn m (cue.Refused k) = (4 ≤ m) × (offset_of k ≤ m)
+RefusedIn m (Err k) = (4 ≤ m) × (offset_of k ≤ m)
 
 judged-prefixed : (l : List ℕ) (x : Frame) → FrameIn (length l) x → Prefixed (length l) x → RefusedIn (length l) (cue_by l x)
 judged-prefixed l wait w p = tt
@@ -79,7 +80,7 @@ judged-prefixed l (read (one item f u)) w p =
 judged-prefixed l (refused k) w p = (p.0, omega (arith, p.1))
 
 -- so is a refused frame
-pub cue-prefixed : (l : List ℕ) (k : Refusal) → cue_of l ≡ cue.Refused k → (4 ≤ length l) × (offset_of k ≤ length l)
+pub cue-prefixed : (l : List ℕ) (k : Refusal) → cue_of l ≡ Err k → (4 ≤ length l) × (offset_of k ≤ length l)
 unfolding cue_of
 cue-prefixed l k e =
     subst (RefusedIn (length l)) e
@@ -88,21 +89,21 @@ cue-prefixed l k e =
 -- ---- what it is judged as, from the answer of the decoder
 
 -- by an answer for n bytes of input
-abbrev pub cue_from : ℕ → Decoded → Cue
+abbrev pub cue_from : ℕ → DecodeAnswer → Cue
 cue_from n (answer.Packets count left dirty) = cue.Given (n - left) count
 cue_from n answer.Waiting = cue.Waiting
-cue_from n (answer.Refused k) = cue.Refused k
-cue_from n (answer.Stopped count left dirty k at) = cue.Refused k
+cue_from n (Err k) = Err k
+cue_from n (answer.Stopped count left dirty k at) = Err k
 
 -- no more is left than there was
-abbrev pub LeftIn : ℕ → Decoded → Type 0
+abbrev pub LeftIn : ℕ → DecodeAnswer → Type 0
 LeftIn n (answer.Packets count left dirty) = left ≤ n
 LeftIn n answer.Waiting = Unit {0}
-LeftIn n (answer.Refused k) = Unit {0}
+LeftIn n (Err k) = Unit {0}
 LeftIn n (answer.Stopped count left dirty k at) = Unit {0}
 
 -- an answer that is what a frame is judged as
-pub record Judges (n : ℕ) (d : Decoded) (x : Cue) : Type 0 where
+pub record Judges (n : ℕ) (d : DecodeAnswer) (x : Cue) : Type 0 where
   pub same : cue_from n d ≡ x
   pub inside : LeftIn n d
 
@@ -111,21 +112,21 @@ limited-judges : (limit : ℕ) (msg : List ℕ) (x : Frame) → FrameIn (length 
 limited-judges limit msg wait w s = record { same = refl; inside = tt }
 limited-judges limit msg (refused k) w s = record { same = refl; inside = tt }
 limited-judges limit msg (read (fault k)) w s =
-    record { same = ap (λ (j : Fault). cue.Refused (Unreadable j)) (moved_none k); inside = tt }
+    record { same = ap (λ (j : Fault). Err (Unreadable j)) (moved_none k); inside = tt }
 limited-judges limit msg (read (one item f u)) w s =
     let n = length msg in
     let whole : n - (n - u) ≡ u = omega arith in
     rw (one-tree item f, one_size item f, le-leb _ _ s)
-    (by_both (λ (d : Decoded) (y : Verdict ℕ). Judges n d (judged_cue y)) (leb (1 + size f) most_in_a_cue)
+    (by_both (λ (d : DecodeAnswer) (y : Verdict ℕ). Judges n d (judged_cue y)) (leb (1 + size f) most_in_a_cue)
     (record { same = ap (λ (k : ℕ). cue.Given k (1 + size f)) whole; inside = omega arith })
     (record { same = refl; inside = tt }))
 
 -- the decoder of one frame of edition 2 answers what the frame is judged as
-pub answer_judges : {d : Decoded} (msg : List ℕ) → length msg ≤ longest → d ≡ decoded (tcp2 deepest) most_in_a_cue deepest msg
+pub answer_judges : {d : DecodeAnswer} (msg : List ℕ) → length msg ≤ longest → d ≡ decoded (tcp2 deepest) most_in_a_cue deepest msg
     → Judges (length msg) d (cue_of msg)
 unfolding decoded tcp2 cue_of
 answer_judges msg h e =
     let given : decoded (tcp2 deepest) most_in_a_cue deepest msg
     ≡ limited most_in_a_cue deepest msg (first (length msg) (cut_frame deepest 0 msg)) = rw (decoded, le-leb (length msg) longest h) in
-    subst (λ (d : Decoded). Judges (length msg) d (cue_of msg)) (sym (e ∙ given))
+    subst (λ (d : DecodeAnswer). Judges (length msg) d (cue_of msg)) (sym (e ∙ given))
     (limited-judges deepest msg (cut_frame deepest 0 msg) (cut_in deepest 0 msg) (cut-shallow deepest 0 msg))

@@ -22,8 +22,9 @@ use Rattle.folding.proofs.Framed.{Framed, ends, lacks, fails, frame, framed}
 use Rattle.folding.proofs.Frames as frames
 use Rattle.cues.specs.Cues.{recorded, judged_cue, cue_of, entry_size, entry_of, entry_adds, indexing, Index, index, index_of}
 use Rattle.cues.specs.Cues.{most_in_a_cue, written_of, entries_of, most_entries}
-use Rattle.cues.specs.declared.cue.Cue.{Cue}
-use Rattle.cues.specs.declared.cue.Cue.TheVariants as cue
+use Rattle.cues.specs.Results.{Cue}
+use Rattle.std.specs.Prelude.{Err, Ok, Some}
+use Rattle.cues.specs.Results as cue
 use Rattle.results.specs.declared.End.{End}
 use Rattle.results.specs.declared.End.TheVariants as end
 use Rattle.cues.proofs.Shortest.{shortest_frame}
@@ -33,9 +34,9 @@ use Rattle.cues.proofs.Cues.{CueIn, cue-in, cue-prefixed, cue_by}
 
 -- a cue as the fold's judge says it: what it adds is its record
 abbrev pub verdict_of : ℕ → Cue → Verdict (List ℕ)
-verdict_of base (cue.Given size records) = takes size (entry_of base size records)
+verdict_of base (Ok (Some front)) = takes front.size (entry_of base front.size front.records)
 verdict_of base cue.Waiting = waits
-verdict_of base (cue.Refused k) = refuses k
+verdict_of base (Err k) = refuses k
 
 judged-cue : (base : ℕ) (l : List ℕ) (x : Frame) → FrameIn (length l) x
     → judged recorded entry_adds base l x ≡ verdict_of base (cue_by l x)
@@ -78,16 +79,16 @@ pub record Taken (base : ℕ) (l : List ℕ) (u : ℕ) (a : List ℕ) : Type 0 w
 abbrev pub Cued : ℕ → List ℕ → Verdict (List ℕ) → Type 0
 Cued base l (takes u a) = Taken base l u a
 Cued base l waits = cue_of l ≡ cue.Waiting
-Cued base l (refuses k) = cue_of l ≡ cue.Refused k
+Cued base l (refuses k) = cue_of l ≡ Err k
 
 -- every verdict says so
 pub cued : {v : Verdict (List ℕ)} (base : ℕ) (l : List ℕ) → indexing.judge base l ≡ v → Cued base l v
 cued base l e = subst (Cued base l) (sym (judge-cue base l refl) ∙ e) (by-cue (cue_of l) refl)
   where
     by-cue : (x : Cue) → x ≡ cue_of l → Cued base l (verdict_of base x)
-    by-cue (cue.Given u c) q = record { records = c; given = sym q; entry = refl; inside = cue-in l q }
+    by-cue (Ok (Some front)) q = record { records = front.records; given = sym q; entry = refl; inside = cue-in l q }
     by-cue cue.Waiting q = sym q
-    by-cue (cue.Refused k) q = sym q
+    by-cue (Err k) q = sym q
 
 -- ---- the bytes of an index are records
 
@@ -131,7 +132,7 @@ abbrev pub IndexIn : (ℕ → Refusal → Type 0) → ℕ → ℕ → Index → 
 IndexIn S base m (index written at why) =
     (base ≤ at) × (at ≤ base + m) × (shortest_frame * length written ≤ entry_size * (at - base)) × EndIn S (base + m - at) why
 
-module _ (S : ℕ → Refusal → Type 0) (says : (l : List ℕ) (k : Refusal) → cue_of l ≡ cue.Refused k → S (length l) k) where
+module _ (S : ℕ → Refusal → Type 0) (says : (l : List ℕ) (k : Refusal) → cue_of l ≡ Err k → S (length l) k) where
   framed-index : {base : ℕ} {l : List ℕ} {i : Index} → Framed indexing base l i → IndexIn S base (length l) i
   framed-index ends = (omega arith, omega arith, omega arith, tt)
   framed-index (lacks some e) = (omega arith, omega arith, omega arith, tt)

@@ -10,15 +10,15 @@ use Rattle.wire.specs.Number.{number}
 use Rattle.wire.proofs.Choices.{by-test, by-eq, by_le}
 use Rattle.node.specs.Forest.{nil, node, size, depth}
 use Rattle.heads.specs.Heads.{length_of}
-use Rattle.heads.specs.declared.Length.{Length}
-use Rattle.heads.specs.declared.Length.TheVariants as cut
+use Rattle.heads.specs.Results.{Length}
+use Rattle.cues.specs.Results as cue
+use Rattle.heads.specs.Results as cut
 use Rattle.packet.specs.Packet.{Out, fault, one, after, read_packet}
 use Rattle.framing.specs.Framing.{Frame, wait, read, refused, wholly, cut_with, cut_frame}
 use Rattle.folding.specs.Folding.{Verdict}
 use Rattle.folding.specs.Walks.{MayContinue}
 use Rattle.folding.proofs.Framed.{Framed, ends, lacks, fails, frame, framed, framed-in, framed-rest}
 use Rattle.cues.specs.Cues.{most_in_a_cue, judged_cue, cue_of, indexing, index, KeptIsShort}
-use Rattle.cues.specs.declared.cue.Cue.TheVariants as cue
 use Rattle.results.specs.declared.End.{End}
 use Rattle.cues.proofs.Cues.{cue_by}
 use Rattle.cues.proofs.Indexes.{index-inside, cued}

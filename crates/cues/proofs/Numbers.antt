@@ -18,8 +18,9 @@ use Rattle.answering.specs.Limits.{frame_order}
 use Rattle.answering.proofs.Numbers.{frame-faults, FrameAmong, frame-among}
 use Rattle.cues.specs.Cues.{most_in_a_cue, judged_cue, cue_of}
 use Rattle.cues.specs.Refusals.{cue_order}
-use Rattle.cues.specs.declared.cue.Cue.{Cue}
-use Rattle.cues.specs.declared.cue.Cue.TheVariants as cue
+use Rattle.cues.specs.Results.{Cue}
+use Rattle.std.specs.Prelude.{Err, Ok, Some}
+use Rattle.cues.specs.Results as cue
 use Rattle.cues.proofs.Cues.{cue_by}
 
 -- one of some numbers is one of more
@@ -33,9 +34,9 @@ among-more n (x ∷ l) m h = by_first (eqb n x) (among-more n l m) h
 
 -- the refusal of a frame is one of those
 abbrev CueAmong : Cue → Type 0
-CueAmong (cue.Given size records) = Unit {0}
+CueAmong (Ok (Some front)) = Unit {0}
 CueAmong cue.Waiting = Unit {0}
-CueAmong (cue.Refused k) = among (number_of k) cue_order ≡ true
+CueAmong (Err k) = among (number_of k) cue_order ≡ true
 
 judged-among : (l : List ℕ) (x : Frame) → FrameAmong frame_order x → CueAmong (cue_by l x)
 judged-among l wait h = tt
@@ -46,6 +47,6 @@ judged-among l (read (one item f used)) h =
 judged-among l (refused k) h = among-more (number_of k) frame_order (10 ∷ []) h
 
 -- the number of a refused frame is one of those
-pub refused-among : (l : List ℕ) (k : Refusal) → cue_of l ≡ cue.Refused k → among (number_of k) cue_order ≡ true
+pub refused-among : (l : List ℕ) (k : Refusal) → cue_of l ≡ Err k → among (number_of k) cue_order ≡ true
 unfolding cue_of
 refused-among l k e = subst CueAmong e (judged-among l (cut_frame deepest 0 l) (frame-among deepest 0 l))

@@ -4,15 +4,15 @@ use mathlib.Core.List.{List}
 use Prim.Native.Nat.{ℕ}
 use lib.ListN.{length}
 use Rattle.cues.specs.Cues.{index_of, written_of, index_answer, index_leaves, Indexes}
-use Rattle.results.specs.declared.Indexed.{Indexed}
+use Rattle.results.specs.Results.{IndexAnswer}
 
 module _ {l : List ℕ} {base : ℕ} {out : List ℕ} where
   -- two outcomes are one
-  pub indexes-only : {r s : Indexed} {after after' : List ℕ} → Indexes l base out r after → Indexes l base out s after'
+  pub indexes-only : {r s : IndexAnswer} {after after' : List ℕ} → Indexes l base out r after → Indexes l base out s after'
       → (r ≡ s) × (after ≡ after')
   indexes-only v w =
       let e = v.answers ∙ sym w.answers in
-      (e, v.leaves ∙ ap (λ (x : Indexed). index_leaves x (written_of (index_of base l)) out) e ∙ sym w.leaves)
+      (e, v.leaves ∙ ap (λ (x : IndexAnswer). index_leaves x (written_of (index_of base l)) out) e ∙ sym w.leaves)
 
   -- what the definitions give meets the contract
   pub indexes-met : Indexes l base out (index_answer base l (length out))

@@ -17,11 +17,12 @@ use Rattle.folding.specs.Folding.{with_sum}
 use Rattle.cues.specs.Cues.{longest_recording, cue_of, entry_size, entry_of, indexing, Index, index, index_of, written_of, entries_of}
 use Rattle.cues.specs.Cues.{indexed_as, Indexes}
 use Rattle.cues.specs.CodeCues.{stretch_by, stretch_of, written_in, CanWrite}
-use Rattle.cues.specs.declared.cue.Cue.{Cue}
-use Rattle.cues.specs.declared.cue.Cue.TheVariants as cue
+use Rattle.cues.specs.Results.{Cue}
+use Rattle.std.specs.Prelude.{Err, Ok, Some}
+use Rattle.cues.specs.Results as cue
+use Rattle.results.specs.Results as indexed
 use Rattle.results.specs.declared.End.TheVariants as end
-use Rattle.results.specs.declared.Indexed.TheVariants as indexed
-use Rattle.cues.specs.declared.index.Stretch.{Stretch}
+use Rattle.results.specs.declared.Indexed.{Indexed}
 use Rattle.cues.proofs.Shortest.{shortest_frame}
 use Rattle.cues.proofs.Cues.{CueIn, cue-in}
 use Rattle.cues.proofs.Indexes.{index-none, index_by, index-by, length-entry, written-more, written-length}
@@ -29,7 +30,7 @@ use Rattle.cues.proofs.Indexes.{index-none, index_by, index-by, length-entry, wr
 -- ---- the first pass
 
 -- the stretch of n records, then those of an index
-abbrev stretch_after : ℕ → ℕ → Index → Stretch
+abbrev stretch_after : ℕ → ℕ → Index → Indexed
 stretch_after n base (index written at why) = record { records = n + length written / entry_size; used = at - base; end = why }
 
 after_none : (base : ℕ) (l : List ℕ) → stretch_of base l ≡ stretch_after 0 base (index_of base l)
@@ -93,7 +94,7 @@ module _ (l : List ℕ) (at n : ℕ) (w : Counting l at n) where
         sym (by_next z base ∙ rw (add-zero n, used))
 
     -- at a frame that is refused
-    pub counting-refused : {k : Refusal} → x ≡ cue.Refused k
+    pub counting-refused : {k : Refusal} → x ≡ Err k
         → (base : ℕ) → record { records = n; used = at; end = end.Refused k } ≡ stretch_of base l
     counting-refused z base =
         let used : base + at - base ≡ at = omega arith in
@@ -106,9 +107,9 @@ written-by : {x : Cue} (base : ℕ) (l : List ℕ) → x ≡ cue_of l → writte
 written-by {x} base [] e = ap written_of (index-none base [] (omega arith)) ∙ by-cue x (cue-in [] e)
   where
     by-cue : (c : Cue) → CueIn 0 c → [] ≡ written_of (index_by base [] c)
-    by-cue (cue.Given size records) w = absurd (omega arith)
+    by-cue (Ok (Some front)) w = absurd (omega arith)
     by-cue cue.Waiting w = refl
-    by-cue (cue.Refused k) w = refl
+    by-cue (Err k) w = refl
 written-by base (y ∷ l) e = ap written_of (index-by base (y ∷ l) (omega arith) e)
 
 -- n records are written, and after them come those of the frames from `at` on
@@ -151,7 +152,7 @@ module _ (l : List ℕ) (base : ℕ) (o₀ : List ℕ) (at n : ℕ) (o : List �
     writing-waits z = writing-whole (written-by (base + at) (drop at l) (sym z ∙ f ∙ ap cue_of s))
 
     -- at a frame that is refused
-    pub writing-refused : {k : Refusal} → x ≡ cue.Refused k → Wrote (written_in l base) o₀ o
+    pub writing-refused : {k : Refusal} → x ≡ Err k → Wrote (written_in l base) o₀ o
     writing-refused z = writing-whole (written-by (base + at) (drop at l) (sym z ∙ f ∙ ap cue_of s))
 
     module _ {size count : ℕ} (z : x ≡ cue.Given size count) where
@@ -191,30 +192,30 @@ module _ (l : List ℕ) (base : ℕ) (o₀ : List ℕ) (at n : ℕ) (o : List �
 -- ---- a step
 
 -- 1 of a buffer over the limit
-pub step-long : (l : List ℕ) (base : ℕ) (out : List ℕ) → longest < length l → Indexes l base out (indexed.Refused TooLong) out
+pub step-long : (l : List ℕ) (base : ℕ) (out : List ℕ) → longest < length l → Indexes l base out (Err TooLong) out
 step-long l base out h = record { answers = rw (lt-leb _ _ h); leaves = refl }
 
 module _ (l : List ℕ) (base : ℕ) (out : List ℕ) (short : length l ≤ longest) where
   -- 1 of a recording over the limit
-  pub step-far : longest_recording < base + length l → Indexes l base out (indexed.Refused TooLong) out
+  pub step-far : longest_recording < base + length l → Indexes l base out (Err TooLong) out
   step-far h = record { answers = rw (le-leb _ _ short, lt-leb _ _ h); leaves = refl }
 
-  module _ (low : base + length l ≤ longest_recording) {s : Stretch} (e : s ≡ stretch_of base l) where
+  module _ (low : base + length l ≤ longest_recording) {s : Indexed} (e : s ≡ stretch_of base l) where
     counted_is : s.records ≡ entries_of (index_of base l)
-    counted_is = ap (λ (x : Stretch). x.records) e ∙ go (index_of base l)
+    counted_is = ap (λ (x : Indexed). x.records) e ∙ go (index_of base l)
       where
         go : (i : Index) → (stretch_by base i).records ≡ entries_of i
         go (index written at why) = refl
 
     answer-is : indexed.Written s.records s.used s.end ≡ indexed_as base (index_of base l)
-    answer-is = ap (λ (x : Stretch). indexed.Written x.records x.used x.end) e ∙ go (index_of base l)
+    answer-is = ap (λ (x : Indexed). indexed.Written x.records x.used x.end) e ∙ go (index_of base l)
       where
         go : (i : Index)
             → indexed.Written (stretch_by base i).records (stretch_by base i).used (stretch_by base i).end ≡ indexed_as base i
         go (index written at why) = refl
 
     -- 12 where the output has room for fewer records
-    pub step-short : length out / entry_size < s.records → Indexes l base out (indexed.Refused OutputShort) out
+    pub step-short : length out / entry_size < s.records → Indexes l base out (Err OutputShort) out
     step-short h =
         let over : length out < length (written_in l base) = omega (arith, counted_is, written-length base l) in
         record { answers = rw (le-leb _ _ short, le-leb _ _ low, lt-leb _ _ over); leaves = refl }

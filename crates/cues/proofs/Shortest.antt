@@ -10,18 +10,17 @@ use Rattle.wire.proofs.Choices.{by-test, by-eq, by_le}
 use Rattle.node.specs.Forest.{nil, node, depth}
 use Rattle.node.specs.declared.record.Item.{Item}
 use Rattle.text.specs.Text.{read_text}
-use Rattle.text.specs.declared.Text.{Text}
-use Rattle.text.specs.declared.Text.TheVariants.{Found, Lacks}
+use Rattle.heads.specs.Results.{Length}
+use Rattle.packet.specs.Results.{Bundle, Message, Start}
+use Rattle.std.specs.Prelude.{Err, Ok}
+use Rattle.text.specs.Results.{Found, Text}
+use Rattle.heads.specs.Results as cut
 use Rattle.text.proofs.Within.{found-ends}
 use Rattle.arguments.specs.Arguments.{Args, refused, args, read_args}
 use Rattle.heads.specs.Heads.{tags_in, length_of, message_item, bundle_item}
-use Rattle.heads.specs.declared.Length.{Length}
-use Rattle.heads.specs.declared.Length.TheVariants as cut
 use Rattle.packet.specs.FirstText.{start_of}
 use Rattle.packet.specs.Packet.{Out, fault, one, Elements, upto, after, message_with, types_then, read_message, bundle_with, bundle_by}
 use Rattle.packet.specs.Packet.{started_by, packet_by, read_packet, read_elements}
-use Rattle.packet.specs.declared.Start.{Start}
-use Rattle.packet.specs.declared.Start.TheVariants.{Message, Bundle, Refused}
 use Rattle.packet.proofs.FirstText.{message-text, bundle-text}
 use Rattle.packet.proofs.Knot.{packet-eq}
 use Rattle.framing.specs.Framing.{Frame, wait, read, wholly, cut_with, cut_frame}
@@ -51,10 +50,10 @@ unfolding read_message
 message-long base item l p h = by-text (read_text l p) refl
   where
     by-text : (t : Text) → t ≡ read_text l p → AtLeast 4 (types_then base item l p t)
-    by-text (Lacks k) e = tt
-    by-text (Found m used) e =
-        let o = read_args base (tags_in (take m l)) (drop used l) (p + used) in
-        after-long 4 0 used (message_with item o) (text-long l p h e).0 (arguments-long item o)
+    by-text (Err k) e = tt
+    by-text (Ok text) e =
+        let o = read_args base (tags_in (take text.length l)) (drop text.used l) (p + text.used) in
+        after-long 4 0 text.used (message_with item o) (text-long l p h e).0 (arguments-long item o)
 
 -- what follows "#bundle": the time tag
 bundle-long : (start : ℕ) (es : List ℕ → ℕ → Elements) (l : List ℕ) (p : ℕ) → AtLeast 4 (bundle_by start es l p)
@@ -78,7 +77,7 @@ packet-long base l p h = subst (AtLeast 8) (sym (packet-eq base l p)) (by-start 
         let w = text-long l p h (bundle-text l p e) in
         let o = bundle_by (base + p) (λ m q. read_elements base m q) (drop used l) (p + used) in
         after-long 4 4 used o w.0 (bundle-long (base + p) (λ m q. read_elements base m q) (drop used l) (p + used))
-    by-start (Refused k) e = tt
+    by-start (Err k) e = tt
 
 -- the bytes of a frame that is given
 abbrev pub shortest_frame : ℕ

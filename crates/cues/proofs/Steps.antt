@@ -1,5 +1,5 @@
 -- A step that writes tells the index of its bytes: what a program may take from its answer and from its output.
-use mathlib.Core.Path.{◌≡◌, refl, ap, sym, subst, ◌∙◌}
+use mathlib.Core.Path.{◌≡◌, sym, refl, ap, subst, ◌∙◌}
 use mathlib.Core.List.{List, ◌++◌}
 use Prim.Native.Nat.{ℕ, ◌+◌, ◌*◌, ◌-◌, ◌/◌, ◌<◌, ◌≤◌}
 use native.Mathlib.Omega.{arith}
@@ -9,13 +9,16 @@ use Rattle.wire.specs.Limits.{longest}
 use Rattle.wire.proofs.Choices.{by_le}
 use Rattle.refusal.specs.declared.Refusal.{Refusal}
 use Rattle.folding.specs.Walks.{MayContinue}
+use Rattle.wire.proofs.Payloads.{ok-is}
+use Rattle.results.specs.declared.Indexed.{Indexed}
 use Rattle.cues.specs.Cues.{entry_size, most_entries, longest_recording, Index, index, index_of, written_of}
 use Rattle.cues.specs.Cues.{indexed_as, Indexes}
 use Rattle.results.specs.Ends.{FieldUpTo}
 use Rattle.results.specs.declared.End.{End}
 use Rattle.results.specs.declared.End.TheVariants as end
-use Rattle.results.specs.declared.Indexed.{Indexed}
-use Rattle.results.specs.declared.Indexed.TheVariants as indexed
+use Rattle.results.specs.Results.{IndexAnswer}
+use Rattle.std.specs.Prelude.{Err}
+use Rattle.results.specs.Results as indexed
 use Rattle.cues.proofs.Shortest.{shortest_frame}
 use Rattle.cues.proofs.Indexes.{EndIn, IndexIn, FieldIn, field_in, written-length, written_fits}
 use Rattle.cues.proofs.Kept.{kept_is_short}
@@ -38,15 +41,16 @@ field-up-to used n m end.Waiting h e = tt
 field-up-to used n m (end.Refused k) h e = omega (arith, h, e)
 
 module _ {l out after : List ℕ} {base n used : ℕ} {why : End} (w : Indexes l base out (indexed.Written n used why) after) where
-  abbrev told : Indexed → Type 0
+  abbrev told : IndexAnswer → Type 0
   told r = indexed.Written n used why ≡ r → Stepped l base n used why out after
 
   by_index : length l ≤ longest → base + length l ≤ longest_recording → length (written_of (index_of base l)) ≤ length out
       → (i : Index) → index_of base l ≡ i → IndexIn FieldIn base (length l) i → told (indexed_as base i)
   by_index short low room (index written at last) e v p =
-      let count : n ≡ length written / entry_size = cc in
-      let bytes : used ≡ at - base = cc in
-      let ends : last ≡ why = cc in
+      let same : ◌≡◌ {A = Indexed} _ _ = ok-is p in
+      let count : n ≡ length written / entry_size = ap (λ (x : Indexed). x.records) same in
+      let bytes : used ≡ at - base = ap (λ (x : Indexed). x.used) same in
+      let ends : last ≡ why = sym (ap (λ (x : Indexed). x.end) same) in
       let is-written : written_of (index_of base l) ≡ written = ap written_of e in
       let long : length written ≡ entry_size * n = omega (arith, written-length base l, ap length is-written, count) in
       let there : at ≡ base + used = omega (arith, v.0, bytes) in
@@ -81,7 +85,7 @@ module _ {l out after : List ℕ} {base n used : ℕ} {why : End} (w : Indexes l
       (λ _ p. absurd (not-refused p))
       w.answers
     where
-      not-refused : {k : Refusal} → indexed.Written n used why ≡ indexed.Refused k → ⊥
+      not-refused : {k : Refusal} → indexed.Written n used why ≡ Err k → ⊥
       not-refused p = let z : ◌≡◌ {A = ℕ} 0 1 = cc in omega arith
 
   -- where a buffer is full and no frame was refused, some bytes were used
@@ -90,10 +94,10 @@ module _ {l out after : List ℕ} {base n used : ℕ} {why : End} (w : Indexes l
       let s = stepped in
       omega (arith, kept_is_short base l (take (entry_size * n) after) (base + used) why g s.is, length-drop (base + used - base) l)
 
-module _ {l out after : List ℕ} {base : ℕ} {k : Refusal} (w : Indexes l base out (indexed.Refused k) after) (short : length l ≤ longest)
+module _ {l out after : List ℕ} {base : ℕ} {k : Refusal} (w : Indexes l base out (Err k) after) (short : length l ≤ longest)
     (room : entry_size * most_entries ≤ length out) where
-  abbrev far : Indexed → Type 0
-  far r = indexed.Refused k ≡ r → longest_recording < base + length l
+  abbrev far : IndexAnswer → Type 0
+  far r = Err k ≡ r → longest_recording < base + length l
 
   -- a step over a buffer, with room for as many records as a buffer has, is refused only where the recording is too long
   pub only-far : longest_recording < base + length l
@@ -107,5 +111,5 @@ module _ {l out after : List ℕ} {base : ℕ} {k : Refusal} (w : Indexes l base
       (λ long _. absurd (omega arith))
       w.answers
     where
-      not_written : (i : Index) → indexed.Refused k ≡ indexed_as base i → ⊥
+      not_written : (i : Index) → Err k ≡ indexed_as base i → ⊥
       not_written (index written at why) p = let z : ◌≡◌ {A = ℕ} 0 1 = cc in omega arith

@@ -2,14 +2,14 @@
 use Rattle.std.specs.Prelude.{◌≡◌, List, ℕ, ◌+◌, ◌-◌, ◌/◌, ◌≤◌, length}
 use Rattle.wire.specs.Limits.{longest}
 use Rattle.cues.specs.Cues.{longest_recording, Index, index, index_of, written_of, entries_of, entry_size}
-use Rattle.cues.specs.declared.index.Stretch.{Stretch}
+use Rattle.results.specs.declared.Indexed.{Indexed}
 
 -- the first pass over bytes at offset `base`: how many records, how many bytes, and why no more
-abbrev pub stretch_by : ℕ → Index → Stretch
+abbrev pub stretch_by : ℕ → Index → Indexed
 stretch_by base (index written at why) = record { records = length written / entry_size; used = at - base; end = why }
 
 -- that of a buffer's frames
-abbrev pub stretch_of : ℕ → List ℕ → Stretch
+abbrev pub stretch_of : ℕ → List ℕ → Indexed
 stretch_of base l = stretch_by base (index_of base l)
 
 -- the bytes that the second pass writes

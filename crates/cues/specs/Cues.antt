@@ -1,6 +1,6 @@
 -- The cue index of a recording: document 02, Ticket 5, over edition 2 of Ticket 1. It is a fold (crates/folding) over the bytes of a whole
 -- recording, or of a part of it that stands at some offset.
-use Rattle.std.specs.Prelude.{◌≡◌, cond, List, [], ◌++◌, ℕ, ◌+◌, ◌-◌, ◌*◌, ◌/◌, ◌<◌, leb, ltb, length, take, drop}
+use Rattle.std.specs.Prelude.{◌≡◌, cond, List, [], ◌++◌, ℕ, ◌+◌, ◌-◌, ◌*◌, ◌/◌, ◌<◌, leb, ltb, length, take, drop, Err, Ok}
 use Rattle.refusal.specs.declared.Refusal.TheVariants.{TooLong, BadTable, OutputShort}
 use Rattle.wire.specs.Limits.{longest, deepest}
 use Rattle.wire.specs.Number.{number, bytes}
@@ -8,13 +8,11 @@ use Rattle.node.specs.Forest.{size}
 use Rattle.folding.specs.Folding.{Verdict, takes, waits, refuses, Fold, Folding, fold_of, sum_in}
 use Rattle.folding.specs.Frames.{Reading, FrameAdds, judge_of, over_frames}
 use Rattle.folding.specs.Walks.{Stepping}
-use Rattle.cues.specs.declared.cue.Cue.{Cue}
-use Rattle.cues.specs.declared.cue.Cue.TheVariants as cue
+use Rattle.cues.specs.Results.{Cue}
+use Rattle.results.specs.Results.{CueAnswer, IndexAnswer}
+use Rattle.cues.specs.Results as cue
+use Rattle.results.specs.Results as results
 use Rattle.results.specs.declared.End.{End}
-use Rattle.results.specs.declared.Indexed.{Indexed}
-use Rattle.results.specs.declared.Indexed.TheVariants as indexed
-use Rattle.results.specs.declared.CueAt.{CueAt}
-use Rattle.results.specs.declared.CueAt.TheVariants as found
 -- an index is a fold, and `index` makes one
 pub use Rattle.folding.specs.Folding.{folded as index}
 pub use Rattle.folding.specs.Walks.{MayContinue}
@@ -35,7 +33,7 @@ record_adds base own item inside = 1 + size inside
 abbrev pub judged_cue : Verdict ℕ → Cue
 judged_cue (takes size records) = cue.Given size records
 judged_cue waits = cue.Waiting
-judged_cue (refuses k) = cue.Refused k
+judged_cue (refuses k) = Err k
 
 -- the frame at the front of l; "Waiting counts so" (as not accepted)
 unfoldable pub cue_of : List ℕ → Cue
@@ -84,32 +82,32 @@ entries_of i = length (written_of i) / entry_size
 -- ---- a step over a buffer
 
 -- what a step says of bytes at offset `base`, where its output has room
-abbrev pub indexed_as : ℕ → Index → Indexed
-indexed_as base (index written at why) = indexed.Written (length written / entry_size) (at - base) why
+abbrev pub indexed_as : ℕ → Index → IndexAnswer
+indexed_as base (index written at why) = results.Written (length written / entry_size) (at - base) why
 
 -- the answer of a step: 1 of a buffer over 65,535 bytes or of a recording of 2^63 bytes and more; 12 where the output is too short
-abbrev pub index_answer : ℕ → List ℕ → ℕ → Indexed
+abbrev pub index_answer : ℕ → List ℕ → ℕ → IndexAnswer
 index_answer base l room =
     cond (leb (length l) longest)
     (cond (leb (base + length l) longest_recording)
-    (cond (leb (length (written_of (index_of base l))) room) (indexed_as base (index_of base l)) (indexed.Refused OutputShort))
-    (indexed.Refused TooLong))
-    (indexed.Refused TooLong)
+    (cond (leb (length (written_of (index_of base l))) room) (indexed_as base (index_of base l)) (Err OutputShort))
+    (Err TooLong))
+    (Err TooLong)
 
 -- the output after an answer: the index's bytes over its first ones, and a refusal changes none
-abbrev pub index_leaves : Indexed → List ℕ → List ℕ → List ℕ
-index_leaves (indexed.Written records used why) written out = written ++ drop (length written) out
-index_leaves (indexed.Refused k) written out = out
+abbrev pub index_leaves : IndexAnswer → List ℕ → List ℕ → List ℕ
+index_leaves (Ok indexed') written out = written ++ drop (length written) out
+index_leaves (Err k) written out = out
 
 -- the contract of a step
-pub record Indexes (l : List ℕ) (base : ℕ) (out : List ℕ) (r : Indexed) (after : List ℕ) : Type 0 where
+pub record Indexes (l : List ℕ) (base : ℕ) (out : List ℕ) (r : IndexAnswer) (after : List ℕ) : Type 0 where
   pub answers : r ≡ index_answer base l (length out)
   pub leaves : after ≡ index_leaves r (written_of (index_of base l)) out
 
 -- what a step does by this contract, with any output: the records are the front of it
 abbrev pub IndexStep : Stepping (List ℕ)
 IndexStep base l written used why =
-    (n : ℕ) × (out : List ℕ) × (after : List ℕ) × Indexes l base out (indexed.Written n used why) after
+    (n : ℕ) × (out : List ℕ) × (after : List ℕ) × Indexes l base out (results.Written n used why) after
     × (written ≡ take (entry_size * n) after)
 
 -- what waits leaves room in a buffer for a byte more, so that every recording can be read
@@ -131,5 +129,5 @@ abbrev pub cue_records : List ℕ → ℕ → ℕ
 cue_records w k = number 4 (drop (entry_size * k + 12) w)
 
 -- what is found by number k: those of a record that is all there; else 11
-abbrev pub cue_in : List ℕ → ℕ → CueAt
-cue_in w k = cond (ltb k (length w / entry_size)) (found.At (cue_offset w k) (cue_size w k) (cue_records w k)) (found.Refused BadTable)
+abbrev pub cue_in : List ℕ → ℕ → CueAnswer
+cue_in w k = cond (ltb k (length w / entry_size)) (results.At (cue_offset w k) (cue_size w k) (cue_records w k)) (Err BadTable)

@@ -2,3 +2,4 @@ pub mod Cues
 pub mod CodeCues
 pub mod Checks
 pub mod Refusals
+pub mod Results

@@ -10,45 +10,32 @@ use results::Decoded;
 // The records of a table of 64 KiB: a frame with more of them is not accepted.
 pub const MOST_IN_A_CUE: usize = 3276;
 
-// What stands at the front of some bytes of a recording.
-#[derive(Clone, Copy)]
-pub enum Cue {
-    // A frame that is accepted: its bytes, prefix included, and the records of its table.
-    Given { size: usize, records: usize },
-    // A frame that is not all there.
-    Waiting,
-    Refused(Refusal),
+// A frame that is accepted: its bytes, prefix included, and the records of its table.
+#[derive(Clone, Copy, Debug, PartialEq, Eq)]
+pub struct JudgedFrame {
+    pub size: usize,
+    pub records: usize,
 }
 
-// Judges the frame at the front of `bytes`.
+// Judges the frame at the front of `bytes`; none where it is not all there.
 //
 // Ruled out: a frame with 3,277 records accepted; the length told without the prefix.
-pub fn cue_of(bytes: &[u8]) -> Cue
+pub fn cue_of(bytes: &[u8]) -> Result<Option<JudgedFrame>, Refusal>
     requires { length bytes.now ≤ longest }
     ensures { result ≡ cue_of bytes.now }
 {
-    match answering::answer(
-        Framing::Tcp(Edition::Standard),
-        bytes,
-        MOST_IN_A_CUE,
-        wire::DEEPEST,
-    ) {
+    let framing = Framing::Tcp(Edition::Standard);
+    let decoded = answering::answer(framing, bytes, MOST_IN_A_CUE, wire::DEEPEST)?;
+    match decoded {
         Decoded::Packets {
             count,
             left,
             dirty: _,
-        } => Cue::Given {
+        } => Ok(Some(JudgedFrame {
             size: bytes.len() - left,
             records: count,
-        },
-        Decoded::Waiting => Cue::Waiting,
-        Decoded::Refused(refusal) => Cue::Refused(refusal),
-        Decoded::Stopped {
-            count: _,
-            left: _,
-            dirty: _,
-            refusal,
-            frame: _,
-        } => Cue::Refused(refusal),
+        })),
+        Decoded::Waiting => Ok(None),
+        Decoded::Stopped { refusal, .. } => Err(refusal),
     }
 }

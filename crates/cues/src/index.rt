@@ -5,7 +5,7 @@ ghost use Rattle.wire.specs.Wrote.{Wrote};
 ghost use Rattle.cues.specs.Cues.{entry_of, entry_size, Indexes};
 ghost use Rattle.cues.specs.CodeCues.{stretch_of, CanWrite, written_in};
 
-use crate::cue::{Cue, cue_of};
+use crate::cue::cue_of;
 use refusal::Refusal;
 use results::{End, Indexed};
 
@@ -18,41 +18,29 @@ pub const MOST_ENTRIES: usize = 5461;
 // The length that a recording has at most.
 pub const LONGEST_RECORDING: u64 = 0x7fff_ffff_ffff_ffff;
 
-// The frames of a buffer: how many are accepted, the bytes that they take, and why no more.
-#[derive(Clone, Copy)]
-pub struct Stretch {
-    records: usize,
-    used: usize,
-    end: End,
-}
-
 // Writes the index of the frames of `bytes`, which stand at offset `base` of a recording, over the first bytes of `out`.
 //
 // Ruled out: the offset of a frame told after its prefix; a record for a frame that is not accepted.
-pub fn index_step(bytes: &[u8], base: u64, out: &mut [u8]) -> Indexed
+pub fn index_step(bytes: &[u8], base: u64, out: &mut [u8]) -> Result<Indexed, Refusal>
     ensures { Indexes bytes.now base out.old result out.new }
 {
     if wire::LONGEST < bytes.len() {
-        return Indexed::Refused(Refusal::TooLong);
+        return Err(Refusal::TooLong);
     }
     if LONGEST_RECORDING - (bytes.len() as u64) < base {
-        return Indexed::Refused(Refusal::TooLong);
+        return Err(Refusal::TooLong);
     }
     let stretch = measure_cues(bytes);
     if out.len() / ENTRY_SIZE < stretch.records {
-        return Indexed::Refused(Refusal::OutputShort);
+        return Err(Refusal::OutputShort);
     }
     write_cues(bytes, base, stretch.records, out);
-    let end = stretch.end;
-    Indexed::Written {
-        records: stretch.records,
-        used: stretch.used,
-        end,
-    }
+    Ok(stretch)
 }
 
-// The frames of `bytes` that are accepted, up to the first that is not, wherever they stand. It writes nothing.
-fn measure_cues(bytes: &[u8]) -> Stretch
+// The frames of `bytes` that are accepted, up to the first that is not, wherever they stand. It writes nothing. By a `while`: a step is as
+// long as its frame, and what ends it is an answer too.
+fn measure_cues(bytes: &[u8]) -> Indexed
     requires { length bytes.now ≤ longest }
     ensures { (base : ℕ) → result ≡ stretch_of base bytes.now }
 {
@@ -60,19 +48,19 @@ fn measure_cues(bytes: &[u8]) -> Stretch
     let mut records = 0;
     while at < bytes.len() {
         match cue_of(&bytes[at..]) {
-            Cue::Given { size, records: _ } => {
-                at += size;
+            Ok(Some(frame)) => {
+                at += frame.size;
                 records += 1;
             }
-            Cue::Waiting => {
-                return Stretch {
+            Ok(None) => {
+                return Indexed {
                     records,
                     used: at,
                     end: End::Waiting,
                 };
             }
-            Cue::Refused(refusal) => {
-                return Stretch {
+            Err(refusal) => {
+                return Indexed {
                     records,
                     used: at,
                     end: End::Refused(refusal),
@@ -80,7 +68,7 @@ fn measure_cues(bytes: &[u8]) -> Stretch
             }
         }
     }
-    Stretch {
+    Indexed {
         records,
         used: at,
         end: End::Whole,
@@ -93,28 +81,15 @@ fn write_cues(bytes: &[u8], base: u64, records: usize, out: &mut [u8])
     ensures { Wrote (written_in bytes.now base) out.old out.new }
 {
     let mut at = 0;
-    let mut written = 0;
-    while written < records {
+    for written in 0..records {
         match cue_of(&bytes[at..]) {
-            Cue::Given {
-                size,
-                records: count,
-            } => {
-                put_entry(
-                    &mut out[ENTRY_SIZE * written..],
-                    base + at as u64,
-                    size,
-                    count,
-                );
-                at += size;
-                written += 1;
+            Ok(Some(frame)) => {
+                let later = &mut out[ENTRY_SIZE * written..];
+                put_entry(later, base + at as u64, frame.size, frame.records);
+                at += frame.size;
             }
-            Cue::Waiting => {
-                return;
-            }
-            Cue::Refused(_) => {
-                return;
-            }
+            Ok(None) => return,
+            Err(_) => return,
         }
     }
 }

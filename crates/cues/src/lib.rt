@@ -7,7 +7,7 @@ mod index; // index.rt: the frames of a buffer
 mod lookup; // lookup.rt: a cue by its number
 
 pub use checked::{compare, compare_from};
-pub use cue::{Cue, MOST_IN_A_CUE, cue_of};
+pub use cue::{JudgedFrame, MOST_IN_A_CUE, cue_of};
 pub use index::{ENTRY_SIZE, MOST_ENTRIES, index_step};
 pub use lookup::cue_at;
-pub use results::{Checked, CueAt, End, INDEX_DIFFERS, Indexed};
+pub use results::{CueAt, End, INDEX_DIFFERS, IndexDiffers, Indexed};

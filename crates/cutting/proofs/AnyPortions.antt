@@ -9,19 +9,17 @@ use Rattle.refusal.specs.declared.Refusal.{Refusal}
 use Rattle.node.specs.Forest.{Forest, nil, node, size}
 use Rattle.node.specs.Records.{capacity}
 use Rattle.argument.specs.Dirt.{packets_padding, dirty_in}
-use Rattle.framing.specs.Framing.{Whole, trees, waiting, refusal, stopped, before, tcp_vec2}
+use Rattle.framing.specs.Framing.{Whole, trees, waiting, refusal, stopped, tcp_vec2}
 use Rattle.edition.specs.declared.Framing.TheVariants.{TcpVec}
 use Rattle.framing.proofs.Lists.{vec2-remaining}
 use Rattle.answering.specs.Limits.{forest_of}
-use Rattle.results.specs.declared.Decoded.{Decoded}
-use Rattle.results.specs.declared.Decoded.TheVariants.{Stopped}
+use Rattle.results.specs.Results.{DecodeAnswer, Stopped}
 use Rattle.decoder.specs.CodeFrames.{Accepted}
 use Rattle.decoder.proofs.Sizes.{vec2-accepted, WholeIn, vec2-in}
 use Rattle.decoder.proofs.Cuts.{rest_of, rest-accepted}
 use Rattle.decoder.proofs.Offsets.{WholeLow, whole_low}
 use Rattle.folding.specs.Folding.{joined_bytes}
 use Rattle.portions.specs.Portions.{portion_of, table_by}
-use Rattle.results.specs.declared.Portion.TheVariants as step
 use Rattle.table.specs.Tree.{Spans}
 use Rattle.calls.specs.Words.{Gives}
 use Rattle.calls.proofs.Answered.{held}
@@ -136,7 +134,7 @@ module _ (limit : ℕ) (stream whole : List ℕ) (total soil : ℕ) (b : Bytes s
       step-records table r =
           let w = tcp_vec2 limit msg in
           let gives : Gives (list_answer limit msg table) (size (forest_of w)) (dirty_in msg (forest_of w))
-          = subst (λ (x : Decoded). Gives x (size (forest_of w)) (dirty_in msg (forest_of w))) (sym (step_told table r))
+          = subst (λ (x : DecodeAnswer). Gives x (size (forest_of w)) (dirty_in msg (forest_of w))) (sym (step_told table r))
           (told-gives msg w (vec2-accepted limit msg)) in
           let mine : Spans (table_by limit msg table) 0 (size f) f
           = subst (λ (x : Forest). Spans (table_by limit msg table) 0 (size x) x) e
@@ -175,7 +173,7 @@ module _ (limit : ℕ) (stream whole : List ℕ) (total soil : ℕ) (b : Bytes s
       = is ∙ ap (λ (l : List ℕ). joined_whole first (rest_of limit (length pre) l)) (append-nil kept)
       ∙ ap (joined_whole first) (vec2-moved limit (length pre) kept ∙ ap (moved_whole (length pre)) waits)
       ∙ ap (λ (f : Forest). trees f (length kept)) (join-end first) in
-      subst (λ (r : Decoded). Recorded limit total t (length pre) (size first) (dirty_in stream first) kept [] r)
+      subst (λ (r : DecodeAnswer). Recorded limit total t (length pre) (size first) (dirty_in stream first) kept [] r)
       (sym (given-told limit stream whole total soil g ∙ ap (told_as stream) last)) done
 
   module _ (later : List (List ℕ)) (pre kept portion : List ℕ) (first : Forest)
@@ -277,7 +275,8 @@ module _ (limit : ℕ) (stream whole : List ℕ) (total soil : ℕ) (b : Bytes s
       step-ends : Goes k first kept (portion ∷ later)
       step-ends =
           let q = ap forest_of e in
-          subst (λ (r : Decoded). Recorded limit total t k (size first) (dirty_in stream first) kept (portion ∷ later) r) (sym last-answer)
+          subst (λ (r : DecodeAnswer). Recorded limit total t k (size first) (dirty_in stream first) kept (portion ∷ later) r)
+          (sym last-answer)
           (ends
           (λ table room. (
             ap (portion_of (length msg)) (step_told pre msg more first there f nil q last-forests table room ∙ ap (told_as msg) e),

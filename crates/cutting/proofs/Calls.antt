@@ -9,15 +9,15 @@ use lib.Seq.{drop-append-le}
 use Rattle.edition.specs.declared.Edition.TheVariants.{Standard}
 use Rattle.refusal.specs.declared.Refusal.{Refusal}
 use Rattle.wire.proofs.Parts.{drop-small}
-use Rattle.node.specs.Forest.{Forest, nil, node, size}
+use Rattle.node.specs.Forest.{Forest, size}
 use Rattle.node.specs.Records.{capacity}
 use Rattle.argument.specs.Dirt.{dirty_in}
-use Rattle.framing.specs.Framing.{Whole, trees, waiting, refusal, stopped, before, tcp_vec2}
+use Rattle.framing.specs.Framing.{Whole, trees, waiting, refusal, stopped, tcp_vec2}
 use Rattle.edition.specs.declared.Framing.TheVariants.{TcpVec}
 use Rattle.framing.proofs.Lists.{vec2-remaining}
 use Rattle.answering.specs.Limits.{forest_of}
-use Rattle.results.specs.declared.Decoded.{Decoded}
-use Rattle.results.specs.declared.Decoded.TheVariants.{Packets, Waiting, Refused, Stopped}
+use Rattle.results.specs.Results.{DecodeAnswer, Packets, Stopped, Waiting}
+use Rattle.std.specs.Prelude.{Err}
 use Rattle.decoder.specs.CodeFrames.{Accepted}
 use Rattle.decoder.proofs.Sizes.{vec2-accepted}
 use Rattle.decoder.proofs.Cuts.{rest_of, rest-accepted}
@@ -29,7 +29,7 @@ use Rattle.calls.proofs.Longer.Stay.{list_stays}
 use Rattle.osc10.specs.Words.{Bytes}
 use Rattle.osc10.proofs.Arguments.{join}
 use Rattle.given.proofs.Encodable.Tables.{gives_trees}
-use Rattle.cutting.specs.Moved.{moved_forest, moved_refusal, moved_whole, MovedRecords}
+use Rattle.cutting.specs.Moved.{moved_forest, moved_whole, MovedRecords}
 use Rattle.cutting.specs.Cutting.{list_answer, list_table, joined_answer, FirstPart, YieldsRest, CutChangesNothing, EveryCut}
 use Rattle.cutting.proofs.Shift.{size-moved, rest-moved}
 use Rattle.cutting.proofs.Records.{size-joined, spans-joined, spans-moved}
@@ -40,12 +40,12 @@ use Rattle.cutting.proofs.Told.{told_as, Roomy, told, roomy, given-told}
 -- ---- what an answer with records shows
 
 -- it is none of 1, 10 and 13
-gives-allowed : (total soil : ℕ) (r : Decoded) → Gives r total soil → Allowed r
+gives-allowed : (total soil : ℕ) (r : DecodeAnswer) → Gives r total soil → Allowed r
 gives-allowed total soil r g =
     record {
-      no_1 = λ e. subst (λ (x : Decoded). Gives x total soil) e g;
-      no_10 = λ e. subst (λ (x : Decoded). Gives x total soil) e g;
-      no_13 = λ e. subst (λ (x : Decoded). Gives x total soil) e g;
+      no_1 = λ e. subst (λ (x : DecodeAnswer). Gives x total soil) e g;
+      no_10 = λ e. subst (λ (x : DecodeAnswer). Gives x total soil) e g;
+      no_13 = λ e. subst (λ (x : DecodeAnswer). Gives x total soil) e g;
     }
 
 -- a list is told with its records
@@ -122,10 +122,10 @@ part-size limit msg more =
     by_whole (stopped f left why at) a = le_refl (size f)
 
 -- as a list that stops is told with m bytes more left
-abbrev left_more : ℕ → Decoded → Decoded
+abbrev left_more : ℕ → DecodeAnswer → DecodeAnswer
 left_more m (Packets count left dirty) = Packets count left dirty
 left_more m Waiting = Waiting
-left_more m (Refused r) = Refused r
+left_more m (Err r) = Err r
 left_more m (Stopped count left dirty why at) = Stopped count (left + m) dirty why at
 
 module _ (limit : ℕ) (msg more whole part rest : List ℕ) (total soil : ℕ) (b : Bytes (msg ++ more))
@@ -150,7 +150,7 @@ module _ (limit : ℕ) (msg more whole part rest : List ℕ) (total soil : ℕ) 
       let n = size (forest_of (tcp_vec2 limit msg)) in
       let d = dirty_in msg (forest_of (tcp_vec2 limit msg)) in
       let gives : Gives (list_answer limit msg part) n d
-      = subst (λ (x : Decoded). Gives x n d) (sym part-told) (told-gives msg (tcp_vec2 limit msg) (vec2-accepted limit msg)) in
+      = subst (λ (x : DecodeAnswer). Gives x n d) (sym part-told) (told-gives msg (tcp_vec2 limit msg) (vec2-accepted limit msg)) in
       record {
         count = n;
         dirty = d;
@@ -221,7 +221,7 @@ module _ (limit : ℕ) (msg more whole part rest : List ℕ) (total soil : ℕ) 
         (dirty_in tail (forest_of (tcp_vec2 limit tail)))
     tail-gives =
         let w = tcp_vec2 limit tail in
-        subst (λ (x : Decoded). Gives x (size (forest_of w)) (dirty_in tail (forest_of w))) (sym tail-told)
+        subst (λ (x : DecodeAnswer). Gives x (size (forest_of w)) (dirty_in tail (forest_of w))) (sym tail-told)
         (told-gives tail w (vec2-accepted limit tail))
 
     tail-answer : (w : Whole) → tcp_vec2 limit tail ≡ w → Accepted w
@@ -268,10 +268,10 @@ module _ (limit : ℕ) (msg more whole part rest : List ℕ) (total soil : ℕ) 
         }
 
   -- what law 3 says of an answer
-  abbrev RestBy : Decoded → Type 0
+  abbrev RestBy : DecodeAnswer → Type 0
   RestBy (Packets count left dirty) = YieldsRest limit msg more whole rest count dirty (length msg - left)
   RestBy Waiting = Unit {0}
-  RestBy (Refused x) = Unit {0}
+  RestBy (Err x) = Unit {0}
   RestBy (Stopped count left dirty why at) = Unit {0}
 
   rest-told : (w : Whole) → tcp_vec2 limit msg ≡ w → RestBy (told_as msg w)

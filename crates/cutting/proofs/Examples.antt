@@ -19,7 +19,7 @@ use Rattle.packet.specs.FirstText.{start_of}
 use Rattle.packet.specs.Packet.{read_message, packet_by, packet_at, read_packet}
 use Rattle.framing.specs.Framing.{cut_frame, frames_at, tcp_vec2}
 use Rattle.answering.specs.Limits.{decoded}
-use Rattle.results.specs.declared.Decoded.TheVariants.{Packets, Stopped}
+use Rattle.results.specs.Results.{Packets, Stopped}
 use Rattle.table.proofs.Examples.{small_bytes}
 use Rattle.calls.specs.Words.{Gives}
 use Rattle.calls.proofs.Answered.{packets-give}

@@ -23,22 +23,20 @@ use Rattle.node.specs.declared.tags.Class.TheVariants.{Four, Eight, Bare, Text a
 use Rattle.node.specs.declared.tags.Sort.{Sort}
 use Rattle.node.specs.declared.tags.Sort.TheVariants.{Opens, Closes, Leaf}
 use Rattle.text.specs.Text.{reach, read_text}
-use Rattle.text.specs.declared.Text.{Text}
-use Rattle.text.specs.declared.Text.TheVariants.{Found, Lacks}
+use Rattle.argument.specs.Results.{Arg}
+use Rattle.heads.specs.Results.{ElementSize, Length}
+use Rattle.packet.specs.Results.{Start}
+use Rattle.std.specs.Prelude.{Err, None, Some, Ok}
+use Rattle.text.specs.Results.{Text}
+use Rattle.argument.specs.Results as arg
+use Rattle.heads.specs.Results as cut
+use Rattle.packet.specs.Results as start
 use Rattle.argument.specs.Argument.{arg_item, text_arg, read_arg}
-use Rattle.argument.specs.declared.Arg.{Arg}
-use Rattle.argument.specs.declared.Arg.TheVariants as arg
 use Rattle.arguments.specs.Arguments.{Args, refused, args, later, arg_taken, array_item, Open, waits, act, read_tags, read_args}
 use Rattle.heads.specs.Heads.{tags_in, size_of, length_of, message_item, bundle_item}
-use Rattle.heads.specs.declared.ElementSize.{ElementSize}
-use Rattle.heads.specs.declared.ElementSize.TheVariants as sizes
-use Rattle.heads.specs.declared.Length.{Length}
-use Rattle.heads.specs.declared.Length.TheVariants as cut
 use Rattle.packet.specs.FirstText.{start_of}
 use Rattle.packet.specs.Packet.{Out, fault, one, Elements, upto, after, message_with, types_then, read_message, bundle_with, bundle_by}
 use Rattle.packet.specs.Packet.{filling, held_by, element_by, joined, go_on, elements_by, started_by, packet_by, packet_at, elements_at, read_packet}
-use Rattle.packet.specs.declared.Start.{Start}
-use Rattle.packet.specs.declared.Start.TheVariants as start
 use Rattle.framing.specs.Framing.{Whole, trees, waiting, refusal, stopped, Frame, wait, read, refused as ended, wholly, cut_with, cut_frame}
 use Rattle.framing.specs.Framing.{before, stops}
 use Rattle.framing.proofs.FrameKnot.{FrameIn, cut_in}
@@ -73,8 +71,8 @@ snoc-moved k (node item' f' rest) item g = ap (node (moved_item k item') (moved_
 -- ---- what is read, further on: a fault is told from the part that is read, and stays
 
 abbrev moved_arg : ℕ → Arg → Arg
-moved_arg k (arg.Given item used) = arg.Given (moved_item k item) used
-moved_arg k (arg.Refused j) = arg.Refused j
+moved_arg k (Ok given) = arg.Given (moved_item k given.item) given.used
+moved_arg k (Err j) = Err j
 
 abbrev moved_args : ℕ → Args → Args
 moved_args k (refused j) = refused j
@@ -131,8 +129,8 @@ module _ (k base : ℕ) where
   arg-moved l p String tag t = by-text (read_text l p)
     where
       by-text : (x : Text) → ArgMoved (text_arg tag (k + base + p) p x) (text_arg tag (base + p) p x)
-      by-text (Found n used) = rw (t, add_assoc)
-      by-text (Lacks j) = refl
+      by-text (Ok text) = rw (t, add_assoc)
+      by-text (Err j) = refl
   arg-moved l p Blob tag t =
       by_both ArgMoved (leb 4 (length l))
       (by_both ArgMoved (leb (4 + number 4 l) (length l))
@@ -162,11 +160,12 @@ module _ (k base : ℕ) where
       by-arg : (x : Arg)
           → arg_taken (λ m q f. go' m q f (moved_opens k below)) l p (moved_forest k frame) (moved_arg k x)
           ≡ moved_args k (arg_taken (λ m q f. go m q f below) l p frame x)
-      by-arg (arg.Refused j) = refl
-      by-arg (arg.Given item used) =
-          ap (λ (f : Forest). later used (go' (drop used l) (p + used) f (moved_opens k below))) (snoc-moved k frame item nil)
-          ∙ ap (later used) (h (drop used l) (p + used) (snoc frame item nil) below)
-          ∙ later-moved k used (go (drop used l) (p + used) (snoc frame item nil) below)
+      by-arg (Err j) = refl
+      by-arg (Ok given) =
+          ap (λ (f : Forest). later given.used (go' (drop given.used l) (p + given.used) f (moved_opens k below)))
+          (snoc-moved k frame given.item nil)
+          ∙ ap (later given.used) (h (drop given.used l) (p + given.used) (snoc frame given.item nil) below)
+          ∙ later-moved k given.used (go (drop given.used l) (p + given.used) (snoc frame given.item nil) below)
 
   tags-moved : (tags l : List ℕ) (p : ℕ) (frame : Forest) (below : List Open)
       → read_tags (k + base) tags l p (moved_forest k frame) (moved_opens k below) ≡ moved_args k (read_tags base tags l p frame below)
@@ -188,13 +187,14 @@ module _ (k base : ℕ) where
       by_args (args kept used) = refl
 
       by-text : (x : Text) → types_then (k + base) (moved_item k item) l p x ≡ moved_out k (types_then base item l p x)
-      by-text (Lacks j) = refl
-      by-text (Found m used) =
-          let tags = tags_in (take m l) in
-          let o = read_args base tags (drop used l) (p + used) in
-          ap (λ (x : Args). after used (message_with (moved_item k item) x)) (tags-moved tags (drop used l) (p + used) nil [])
-          ∙ ap (after used) (by_args o)
-          ∙ after-moved k used (message_with item o)
+      by-text (Err j) = refl
+      by-text (Ok text) =
+          let tags = tags_in (take text.length l) in
+          let o = read_args base tags (drop text.used l) (p + text.used) in
+          ap (λ (x : Args). after text.used (message_with (moved_item k item) x))
+          (tags-moved tags (drop text.used l) (p + text.used) nil [])
+          ∙ ap (after text.used) (by_args o)
+          ∙ after-moved k text.used (message_with item o)
 
   module _ (es es' : List ℕ → ℕ → Elements) (he : (m : List ℕ) (q : ℕ) → es' m q ≡ moved_elements k (es m q)) where
     bundle-moved : (at : ℕ) (l : List ℕ) (p : ℕ) → bundle_by (k + at) es' l p ≡ moved_out k (bundle_by at es l p)
@@ -221,7 +221,7 @@ module _ (k base : ℕ) where
             ap (λ (x : ℕ). after used (bundle_by x es' (drop used l) (p + used))) (add_assoc k base p)
             ∙ ap (after used) (bundle-moved (base + p) (drop used l) (p + used))
             ∙ after-moved k used (bundle_by (base + p) es (drop used l) (p + used))
-        by-start (start.Refused j) = refl
+        by-start (Err j) = refl
 
     module _ (pk pk' : List ℕ → ℕ → Out) (hp : (m : List ℕ) (q : ℕ) → pk' m q ≡ moved_out k (pk m q)) where
       elements-by-moved : (l : List ℕ) (p : ℕ) → elements_by pk' es' l p ≡ moved_elements k (elements_by pk es l p)
@@ -233,9 +233,9 @@ module _ (k base : ℕ) where
           by-filling n (one item inside used) = refl
 
           by_size : (x : ElementSize) → held_by pk' l p x ≡ moved_out k (held_by pk l p x)
-          by_size (sizes.Holds n) =
+          by_size (Some n) =
               ap (filling n) (hp (take n (drop 4 l)) (p + 4)) ∙ by-filling n (pk (take n (drop 4 l)) (p + 4))
-          by_size sizes.RunsOut = refl
+          by_size None = refl
 
           by-joined : (item : Item) (inside : Forest) (n : ℕ) (x : Elements)
               → joined (moved_item k item) (moved_forest k inside) n (moved_elements k x) ≡ moved_elements k (joined item inside n x)

@@ -10,8 +10,8 @@ use Rattle.node.specs.Records.{capacity}
 use Rattle.argument.specs.Dirt.{dirty_in}
 use Rattle.framing.specs.Framing.{Whole, trees, waiting, refusal, stopped, tcp_vec2}
 use Rattle.answering.specs.Limits.{limited, decoded, forest_of}
-use Rattle.results.specs.declared.Decoded.{Decoded}
-use Rattle.results.specs.declared.Decoded.TheVariants.{Packets, Waiting, Refused, Stopped}
+use Rattle.results.specs.Results.{DecodeAnswer, Packets, Stopped, Waiting}
+use Rattle.std.specs.Prelude.{Err}
 use Rattle.decoder.specs.CodeFrames.{Accepted}
 use Rattle.decoder.proofs.Chosen.{by-decoded, by-bounded}
 use Rattle.decoder.proofs.Sizes.{vec2-accepted, vec2-shallow}
@@ -19,10 +19,10 @@ use Rattle.calls.specs.Words.{Gives}
 use Rattle.cutting.specs.Cutting.{list_answer}
 
 -- a list of msg as it is told where no limit refuses it
-abbrev pub told_as : List ℕ → Whole → Decoded
+abbrev pub told_as : List ℕ → Whole → DecodeAnswer
 told_as msg (trees f left) = Packets (size f) left (dirty_in msg f)
 told_as msg waiting = Waiting
-told_as msg (refusal r) = Refused r
+told_as msg (refusal r) = Err r
 told_as msg (stopped f left why at) = Stopped (size f) left (dirty_in msg f) why at
 
 -- neither 13 nor 1 refuses a call

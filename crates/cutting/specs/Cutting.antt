@@ -1,22 +1,21 @@
 -- Ticket 14: cutting a stream of edition 2 changes nothing. Over the answers and tables of `decode_tcp_vec` and of the step that a recorder
 -- repeats. Streams of at most 65,535 bytes, with room for every record, under one depth limit: where the call for all of the stream gives
 -- records, it is such a one, since 13, 1 and 10 refuse every other.
-use Rattle.std.specs.Prelude.{◌≡◌, List, [], ◌∷◌, ◌++◌, ℕ, ◌+◌, ◌-◌, ◌*◌, ◌≤◌, length, take, drop}
+use Rattle.std.specs.Prelude.{◌≡◌, List, [], ◌∷◌, ◌++◌, ℕ, ◌+◌, ◌-◌, ◌*◌, ◌≤◌, length, take, drop, Err}
 use Rattle.refusal.specs.declared.Refusal.{Refusal}
 use Rattle.node.specs.Records.{record_size, capacity}
 use Rattle.framing.specs.Framing.{tcp_vec2}
-use Rattle.results.specs.declared.Decoded.{Decoded}
-use Rattle.results.specs.declared.Decoded.TheVariants.{Packets, Waiting, Refused, Stopped}
+use Rattle.results.specs.Results.{DecodeAnswer, Packets, Stopped, Waiting}
+use Rattle.results.specs.Results as step
 use Rattle.folding.specs.Folding.{joined_bytes}
 use Rattle.portions.specs.Portions.{step_of, table_by}
-use Rattle.results.specs.declared.Portion.TheVariants as step
 use Rattle.calls.specs.Words.{Gives}
 use Rattle.calls.specs.Demands.{answer_to, table_after}
 use Rattle.osc10.specs.Words.{Bytes}
 use Rattle.cutting.specs.Moved.{moved_refusal, MovedRecords}
 
 -- the answer of `decode_tcp_vec` in edition 2
-abbrev pub list_answer : ℕ → List ℕ → List ℕ → Decoded
+abbrev pub list_answer : ℕ → List ℕ → List ℕ → DecodeAnswer
 list_answer limit = answer_to (tcp_vec2 limit) limit
 
 -- the table that it leaves
@@ -25,10 +24,10 @@ list_table limit = table_after (tcp_vec2 limit) limit
 
 -- the answer for a stream by that for its rest, where k bytes came before, with `count` records and so much dirty padding: counts and dirty
 -- padding add up, and how the list ends is the same (Ticket 14)
-abbrev pub joined_answer : ℕ → ℕ → ℕ → Decoded → Decoded
+abbrev pub joined_answer : ℕ → ℕ → ℕ → DecodeAnswer → DecodeAnswer
 joined_answer k count dirty (Packets n left d) = Packets (count + n) left (dirty + d)
 joined_answer k count dirty Waiting = Waiting
-joined_answer k count dirty (Refused r) = Refused r
+joined_answer k count dirty (Err r) = Err r
 joined_answer k count dirty (Stopped n left d why at) = Stopped (count + n) left (dirty + d) (moved_refusal k why) (k + at)
 
 -- law 1: "the list from a beginning of the stream is the first part of the list from all of it"
@@ -74,11 +73,11 @@ EveryCut =
 -- what a recorder meets that repeats the step: before it k bytes were consumed, with `count` records and so much dirty padding, and it
 -- holds what was kept. It adds the next portion, has a table with room, and keeps the bytes from `used` on. t is the table of the whole
 -- stream, and the last index the answer that all steps together make
-pub data Recorded (limit total : ℕ) (t : List ℕ) : ℕ → ℕ → ℕ → List ℕ → List (List ℕ) → Decoded → Type 0 where
+pub data Recorded (limit total : ℕ) (t : List ℕ) : ℕ → ℕ → ℕ → List ℕ → List (List ℕ) → DecodeAnswer → Type 0 where
   -- there is no portion more
   done : {k count dirty : ℕ} {held : List ℕ} → Recorded limit total t k count dirty held [] (Packets count (length held) dirty)
   -- the step reads some frames
-  reads : {k count dirty n used d : ℕ} {held portion : List ℕ} {later : List (List ℕ)} {r : Decoded}
+  reads : {k count dirty n used d : ℕ} {held portion : List ℕ} {later : List (List ℕ)} {r : DecodeAnswer}
       → ((table : List ℕ) → total ≤ capacity table
       → (step_of limit (held ++ portion) table ≡ step.Read n used d) × MovedRecords k count n (table_by limit (held ++ portion) table) t)
       → Recorded limit total t (k + used) (count + n) (dirty + d) (drop used (held ++ portion)) later r

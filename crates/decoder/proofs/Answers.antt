@@ -15,8 +15,8 @@ use Rattle.framing.specs.Framing.{rule_of}
 use Rattle.edition.specs.declared.Framing.{Framing}
 use Rattle.answering.specs.Limits.{limited, decoded, forest_of, tabled}
 use Rattle.argument.specs.Dirt.{dirty_in}
-use Rattle.results.specs.declared.Decoded.{Decoded}
-use Rattle.results.specs.declared.Decoded.TheVariants.{Packets, Waiting, Refused, Stopped}
+use Rattle.results.specs.Results.{DecodeAnswer, Packets, Stopped, Waiting}
+use Rattle.std.specs.Prelude.{Err}
 use Rattle.decoder.specs.CodeFrames.{frame_packet, Accepted, Fillable}
 use Rattle.decoder.proofs.Chosen.{by-decoded, by-bounded}
 use Rattle.decoder.proofs.Sizes.{nodes-in, whole_in}
@@ -24,15 +24,15 @@ use Rattle.decoder.proofs.Sizes.{nodes-in, whole_in}
 -- ---- an answer with records
 
 -- a refusal is no answer of packets
-pub no-packets : {A : Type 0} {count left dirty : ℕ} {r : Refusal} → Packets count left dirty ≡ Refused r → A
+pub no-packets : {A : Type 0} {count left dirty : ℕ} {r : Refusal} → Packets count left dirty ≡ Err r → A
 no-packets e = let z : ◌≡◌ {A = ℕ} 0 1 = cc in absurd (omega arith)
 
 -- the records that an answer gives: of packets, and of those before a refused frame
-abbrev pub Counts : Decoded → ℕ → Type 0
+abbrev pub Counts : DecodeAnswer → ℕ → Type 0
 Counts (Packets n left dirty) count = n ≡ count
 Counts (Stopped n left dirty k at) count = n ≡ count
 Counts Waiting count = ⊥
-Counts (Refused r) count = ⊥
+Counts (Err r) count = ⊥
 
 -- the input is short enough and accepted, and its records fit
 record Fitting (w : Whole) (capacity n count : ℕ) : Type 0 where
@@ -44,26 +44,26 @@ record Fitting (w : Whole) (capacity n count : ℕ) : Type 0 where
 records-fit : {count : ℕ} (rule : List ℕ → Whole) (capacity limit : ℕ) (msg : List ℕ) → Counts (decoded rule capacity limit msg) count
     → Fitting (rule msg) capacity (length msg) count
 records-fit {count} rule capacity limit msg e =
-    by-decoded (λ (x : Decoded). Counts x count → Fitting (rule msg) capacity (length msg) count) rule capacity limit msg
+    by-decoded (λ (x : DecodeAnswer). Counts x count → Fitting (rule msg) capacity (length msg) count) rule capacity limit msg
     (λ _ i. absurd i) (λ _ i. absurd i) (λ _ h. by_whole h (rule msg)) e
   where
     by_whole : length msg ≤ longest → (w : Whole) → Counts (limited capacity limit msg w) count → Fitting w capacity (length msg) count
     by_whole h waiting i = absurd i
     by_whole h (refusal k) i = absurd i
     by_whole h (trees f n) i =
-        by-bounded (λ (x : Decoded). Counts x count → Fitting (trees f n) capacity (length msg) count) capacity limit f
+        by-bounded (λ (x : DecodeAnswer). Counts x count → Fitting (trees f n) capacity (length msg) count) capacity limit f
         (Packets (size f) n (dirty_in msg f)) (λ _ j. absurd j) (λ _ j. absurd j)
         (λ _ s j. record { short = h; accepted = tt; records = j; fits = omega (arith, s, j) }) i
     by_whole h (stopped f n k at) i =
-        by-bounded (λ (x : Decoded). Counts x count → Fitting (stopped f n k at) capacity (length msg) count) capacity limit f
+        by-bounded (λ (x : DecodeAnswer). Counts x count → Fitting (stopped f n k at) capacity (length msg) count) capacity limit f
         (Stopped (size f) n (dirty_in msg f) k at) (λ _ j. absurd j) (λ _ j. absurd j)
         (λ _ s j. record { short = h; accepted = tt; records = j; fits = omega (arith, s, j) }) i
 
 -- where records are answered, the second reading has what it needs
-pub fillable : {count : ℕ} {r : Decoded} (framing : Framing) (limit : ℕ) (msg T : List ℕ) → Counts r count
+pub fillable : {count : ℕ} {r : DecodeAnswer} (framing : Framing) (limit : ℕ) (msg T : List ℕ) → Counts r count
     → r ≡ decoded (rule_of framing limit) (capacity T) limit msg → Fillable (rule_of framing limit msg) (length msg) count T
 fillable {count} framing limit msg T n e =
-    let w = records-fit (rule_of framing limit) (capacity T) limit msg (subst (λ (x : Decoded). Counts x count) e n) in
+    let w = records-fit (rule_of framing limit) (capacity T) limit msg (subst (λ (x : DecodeAnswer). Counts x count) e n) in
     record {
       short = w.short;
       accepted = w.accepted;
@@ -75,8 +75,8 @@ fillable {count} framing limit msg T n e =
     }
 
 -- an answer without packets leaves the table
-pub unwritten : {x y : Decoded} (f : Forest) (T : List ℕ) → x ≡ y → T ≡ tabled y f T → T ≡ tabled x f T
-unwritten f T e w = subst (λ (z : Decoded). T ≡ tabled z f T) (sym e) w
+pub unwritten : {x y : DecodeAnswer} (f : Forest) (T : List ℕ) → x ≡ y → T ≡ tabled y f T → T ≡ tabled x f T
+unwritten f T e w = subst (λ (z : DecodeAnswer). T ≡ tabled z f T) (sym e) w
 
 -- ---- the trees of one packet and of one frame are those of the input
 

@@ -15,13 +15,13 @@ use Rattle.heads.specs.Heads.{size_of, prefix_of, length_of}
 use Rattle.packet.specs.FirstText.{start_of}
 use Rattle.framing.specs.Framing.{Whole, udp, read_frame, cut_frame, tcp, tcp2, frames_at, tcp_vec, tcp_vec2}
 use Rattle.answering.specs.Limits.{decoded, forest_of, tabled, Decodes}
-use Rattle.results.specs.declared.Decoded.{Decoded}
+use Rattle.results.specs.Results.{DecodeAnswer}
 use Rattle.decoder.specs.Cases.{reply_of, Each, none, ◌and◌}
 use Rattle.decoder.specs.Examples.{examples, misread, standard}
 use Rattle.decoder.proofs.Only.{decodes-only, decodes-met}
 
 -- what a call answers and leaves is what the definitions give, which are computed
-ends : {rule : List ℕ → Whole} {msg table : List ℕ} {limit : ℕ} (r : Decoded) (after : List ℕ) → Decodes rule msg table limit r after
+ends : {rule : List ℕ → Whole} {msg table : List ℕ} {limit : ℕ} (r : DecodeAnswer) (after : List ℕ) → Decodes rule msg table limit r after
     → (reply_of r ≡ reply_of (decoded rule (capacity table) limit msg))
     × (after ≡ tabled (decoded rule (capacity table) limit msg) (forest_of (rule msg)) table)
 ends r after m = let x = decodes-only m decodes-met in (ap reply_of x.0, x.1)

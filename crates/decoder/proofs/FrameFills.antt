@@ -26,11 +26,13 @@ use Rattle.heads.specs.Heads.{prefix_of, length_of}
 use Rattle.fill.specs.CodeFill.{tree_of, reread, Fills}
 use Rattle.decoder.specs.CodeFrames.{frame_packet, packet_cut_by, packet_cut, Accepted}
 use Rattle.heads.specs.declared.Prefix.TheVariants as prefix
-use Rattle.heads.specs.declared.Length.{Length}
-use Rattle.heads.specs.declared.Length.TheVariants as cut
+use Rattle.fill.specs.Results.{Reread, Wrote}
+use Rattle.fill.specs.declared.Element.{Element}
+use Rattle.wire.proofs.Payloads.{some-is}
+use Rattle.heads.specs.Results.{Length}
+use Rattle.std.specs.Prelude.{None}
+use Rattle.heads.specs.Results as cut
 use Rattle.heads.proofs.Heads.{part-4}
-use Rattle.fill.specs.declared.Reread.{Reread}
-use Rattle.fill.specs.declared.Reread.TheVariants.{Wrote, Nothing}
 use Rattle.fill.proofs.Fills.{room_after, fills-after}
 use Rattle.framing.proofs.FrameKnot.{FrameIn, frame-in, cut_in}
 use Rattle.framing.proofs.FrameStarts.{Unrefused, frame-unrefused}
@@ -266,9 +268,9 @@ module _ (frame : ℕ → List ℕ → Frame) (stop : ℕ → ℕ → Refusal �
       by-frame (refused k) e i h = let z : ◌≡◌ {A = ℕ} 0 1 = cc in absurd (omega arith)
       by-frame (read (fault k)) e i h = let z : ◌≡◌ {A = ℕ} 0 1 = cc in absurd (omega arith)
       by-frame (read (one item g u)) e i h =
-          let en : n ≡ 1 + size g = cc in
-          let ee : next ≡ 0 + u = cc in
-          (omega arith, omega (arith, length-drop at msg), omega (arith, w.low, ap size (forest-tree e)))
+          let en : n ≡ 1 + size g = ap (λ (x : Element). x.count) (some-is h) in
+          let ee : next ≡ 0 + u = ap (λ (x : Element). x.next) (some-is h) in
+          (omega (arith, i, ee), omega (arith, i, ee, length-drop at msg), omega (arith, en, w.low, ap size (forest-tree e)))
 
   listing-tree : {item : Item} {u : ℕ} {g : Forest} {x : Reread} {Y : List ℕ} → frame at (drop at msg) ≡ read (one item g u)
       → Fills (frame_packet (frame at (drop at msg))) 0 c later x Y
@@ -307,20 +309,22 @@ module _ (frame : ℕ → List ℕ → Frame) (stop : ℕ → ℕ → Refusal �
       by-frame (refused k) e h = let z : ◌≡◌ {A = ℕ} 0 1 = cc in absurd (omega arith)
       by-frame (read (fault k)) e h = let z : ◌≡◌ {A = ℕ} 0 1 = cc in absurd (omega arith)
       by-frame (read (one item g u)) e h =
-          let en : n ≡ 1 + size g = cc in let e0 : next ≡ 0 + u = cc in let ee : next ≡ u = e0 ∙ zero-add u in
+          let en : n ≡ 1 + size g = ap (λ (x : Element). x.count) (some-is h) in
+          let e0 : next ≡ 0 + u = ap (λ (x : Element). x.next) (some-is h) in
+          let ee : next ≡ u = e0 ∙ zero-add u in
           rw (en, ee) (listing-tree e f)
 
 module _ (msg T₀ T : List ℕ) (at c : ℕ) (w : Listing remaining (forest_of (tcp_vec msg)) msg T₀ T at c) (some : at < length msg) where
   -- the next frame of edition 1 waits
   pub listing-waits : {x : Reread} {Y : List ℕ}
-      → Fills (frame_packet (read_frame at (drop at msg))) 0 c (lent T c) x Y → x ≡ Nothing
+      → Fills (frame_packet (read_frame at (drop at msg))) 0 c (lent T c) x Y → x ≡ None
       → returned T c Y ≡ stored 0 (forest_of (tcp_vec msg)) T₀
   listing-waits {x} {Y} f z = by-frame (read_frame at (drop at msg)) refl (frame-unrefused at (drop at msg)) (sym z ∙ f.answered)
     where
       here' : remaining at (drop at msg) ≡ listed (λ b m. read_frame b m) refuses at (drop at msg)
       here' = lists.remaining-list _ refuses at (drop at msg) (omega (arith, length-drop at msg))
 
-      by-frame : (y : Frame) → read_frame at (drop at msg) ≡ y → Unrefused y → Nothing ≡ reread 0 (frame_packet y)
+      by-frame : (y : Frame) → read_frame at (drop at msg) ≡ y → Unrefused y → None ≡ reread 0 (frame_packet y)
           → returned T c Y ≡ stored 0 (forest_of (tcp_vec msg)) T₀
       by-frame wait e u h =
           lent-stored T c c nil (f.table
@@ -337,7 +341,7 @@ module _ (msg T₀ T : List ℕ) (at c : ℕ) (w : Listing remaining (forest_of 
 pub record Next (limit : ℕ) (msg : List ℕ) (at : ℕ) : Type 0 where
   pub some : at < length msg
   pub same : frame_packet (cut_frame limit at (drop at msg)) ≡ packet_cut at (drop at msg)
-  pub written : (p : ℕ) → Nothing ≡ reread p (packet_cut at (drop at msg)) → ⊥
+  pub written : (p : ℕ) → None ≡ reread p (packet_cut at (drop at msg)) → ⊥
 
 pub next-given : (limit : ℕ) (msg : List ℕ) (at : ℕ) → 0 < size (forest_of (remaining2 limit at (drop at msg))) → Next limit msg at
 unfolding size
@@ -368,7 +372,7 @@ next-given limit msg at h = by-rest (lt-or-le 0 (length (drop at msg)))
         record {
           some = s;
           same = ap frame_packet e ∙ sym g;
-          written = λ p n. let m : Nothing ≡ reread p (one item f u) = n ∙ ap (reread p) g in
+          written = λ p n. let m : None ≡ reread p (one item f u) = n ∙ ap (reread p) g in
               let z : ◌≡◌ {A = ℕ} 0 1 = cc in absurd (omega arith);
         }
 

@@ -14,8 +14,8 @@ use Rattle.framing.proofs.FrameKnot.{FrameIn, frame-in, cut_in}
 use Rattle.framing.proofs.Lists as lists
 use Rattle.answering.specs.Limits.{forest_of}
 use Rattle.fill.specs.CodeFill.{tree_of, Fills}
-use Rattle.fill.specs.declared.Reread.{Reread}
-use Rattle.fill.specs.declared.Reread.TheVariants.{Wrote, Nothing}
+use Rattle.fill.specs.Results.{Reread, Wrote}
+use Rattle.std.specs.Prelude.{None}
 use Rattle.decoder.specs.CodeFrames.{frame_packet, packet_cut}
 use Rattle.decoder.proofs.FrameFills.{Listing, lent, returned, remaining, remaining2, listing-end, no-nodes, next_fits, next-in}
 use Rattle.decoder.proofs.FrameFills.{listing-on, listing-waits, Next, next-given}
@@ -105,7 +105,7 @@ module _ (t : RoscTurn) where
   rosc-written e = frame_written rosc_frame refuses rosc_list (λ limit. frame-in) t e
 
   -- the frame waits: all is written
-  pub rosc-waits : t.wrote ≡ Nothing → returned t.table t.count t.last ≡ stored 0 (forest_of (tcp_vec t.msg)) t.blank
+  pub rosc-waits : t.wrote ≡ None → returned t.table t.count t.last ≡ stored 0 (forest_of (tcp_vec t.msg)) t.blank
   rosc-waits e = listing-waits t.msg t.blank t.table t.at t.count t.so_far t.more t.fills e
 
 -- ---- edition 2
@@ -160,7 +160,7 @@ module _ (limit : ℕ) (msg T₀ T : List ℕ) (at c : ℕ) {count : ℕ}
         }
 
     -- it is not nothing
-    pub cut-not-nothing : x ≡ Nothing → ⊥
+    pub cut-not-nothing : x ≡ None → ⊥
     cut-not-nothing z = next.written 0 (sym z ∙ (rw (tail msg at) at f).answered)
 
 -- the frame is written

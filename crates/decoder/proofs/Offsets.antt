@@ -4,7 +4,7 @@ use mathlib.Core.List.{List, [], ◌∷◌}
 use Prim.Native.Nat.{ℕ, zero, suc, ◌+◌, ◌≤◌}
 use native.Mathlib.Omega.{arith}
 use lib.ListN.{length, drop, length-drop}
-use Rattle.refusal.specs.Refusal.{fault_offset, offset_of, moved_by}
+use Rattle.refusal.specs.Refusal.{fault_offset, moved_by}
 use Rattle.refusal.specs.declared.Fault.{Fault}
 use Rattle.refusal.specs.declared.Fault.TheVariants.{Empty, Short, NotUtf8, BadStart, NotOpen, UnknownTag, NotScalar}
 use Rattle.refusal.specs.declared.Refusal.{Refusal}
@@ -15,8 +15,7 @@ use Rattle.wire.proofs.Choices.{by_le}
 use Rattle.packet.specs.Packet.{Out, fault, one, read_packet}
 use Rattle.packet.proofs.Faults.{OutLow, packet-low}
 use Rattle.framing.specs.Framing.{Whole, trees, waiting, refusal, stopped, single, udp, Frame, wait, read, refused, read_frame}
-use Rattle.framing.specs.Framing.{cut_frame, first, tcp, tcp2, before, after_frame, frames_at, refuses, stops, tcp_vec, tcp_vec2, rule_of}
-use Rattle.edition.specs.declared.Framing.{Framing}
+use Rattle.framing.specs.Framing.{cut_frame, first, tcp, tcp2, before, after_frame, frames_at, refuses, stops, tcp_vec, tcp_vec2}
 use Rattle.edition.specs.declared.Framing.TheVariants.{Udp, Tcp, TcpVec}
 use Rattle.edition.specs.declared.Edition.TheVariants.{Rosc, Standard}
 use Rattle.framing.proofs.FrameKnot.{FrameIn, frame-in, cut_in, Prefixed, cut-prefixed}

@@ -11,7 +11,7 @@ use Rattle.decoder.specs.CodeFrames.{Accepted}
 use Rattle.packet.specs.Packet.{Out, fault, one, read_packet}
 use Rattle.framing.specs.Framing.{Whole, trees, waiting, refusal, stopped, single, udp, Frame, wait, read, refused, read_frame, cut_frame}
 use Rattle.framing.specs.Framing.{first}
-use Rattle.framing.specs.Framing.{tcp, tcp2, before, after_frame, frames_at, listed, refuses, stops, tcp_vec, tcp_vec2, rule_of}
+use Rattle.framing.specs.Framing.{tcp, tcp2, before, after_frame, frames_at, refuses, stops, tcp_vec, tcp_vec2, rule_of}
 use Rattle.edition.specs.declared.Framing.{Framing}
 use Rattle.edition.specs.declared.Framing.TheVariants.{Udp, Tcp, TcpVec}
 use Rattle.edition.specs.declared.Edition.TheVariants.{Rosc, Standard}

@@ -1,6 +1,6 @@
 -- An example of document 01, "Proved examples", or of Ticket 1, as data: a call, what it answers and the records that it writes. The table
 -- that is lent has 160 bytes, none of them zero, and so room for 8 records, and the depth limit is 64, where nothing else is said.
-use Rattle.std.specs.Prelude.{◌≡◌, List, [], ◌∷◌, ◌++◌, ℕ, length, drop, replicate}
+use Rattle.std.specs.Prelude.{◌≡◌, List, [], ◌∷◌, ◌++◌, ℕ, length, drop, replicate, Err}
 use Rattle.refusal.specs.Refusal.{number_of, offset_of}
 use Rattle.wire.specs.Number.{bytes}
 use Rattle.node.specs.Records.{capacity}
@@ -9,8 +9,8 @@ use Rattle.answering.specs.Limits.{Decodes}
 use Rattle.edition.specs.declared.Framing.{Framing}
 use Rattle.edition.specs.declared.Framing.TheVariants.{Tcp, TcpVec}
 use Rattle.edition.specs.declared.Edition.TheVariants.{Rosc, Standard}
-use Rattle.results.specs.declared.Decoded.{Decoded}
-use Rattle.results.specs.declared.Decoded.TheVariants as decodes
+use Rattle.results.specs.Results.{DecodeAnswer}
+use Rattle.results.specs.Results as decodes
 
 -- bytes, four to a number, as document 01 writes them
 abbrev pub hex : List ℕ → List ℕ
@@ -26,10 +26,10 @@ pub data Reply : Type 0 where
   stopped : (count left dirty number offset frame : ℕ) → Reply
 
 -- the answer of a decoder, in these words
-abbrev pub reply_of : Decoded → Reply
+abbrev pub reply_of : DecodeAnswer → Reply
 reply_of (decodes.Packets count left dirty) = packets count left dirty
 reply_of decodes.Waiting = waiting
-reply_of (decodes.Refused r) = refused (number_of r) (offset_of r)
+reply_of (Err r) = refused (number_of r) (offset_of r)
 reply_of (decodes.Stopped count left dirty r at) = stopped count left dirty (number_of r) (offset_of r) at
 
 -- a call by its framing, its input, the bytes that the table has and the depth limit, with its answer and the records that it writes
@@ -62,7 +62,7 @@ lent room = replicate room 0xAA
 -- whatever the call answers and leaves is so: the answer, and the whole table, whose bytes after the records are unchanged
 abbrev pub CaseEnds : Case → Type 0
 CaseEnds (call framing msg room limit answer records) =
-    (r : Decoded) (after : List ℕ) → Decodes (rule_of framing limit) msg (lent room) limit r after
+    (r : DecodeAnswer) (after : List ℕ) → Decodes (rule_of framing limit) msg (lent room) limit r after
     → (reply_of r ≡ answer) × (after ≡ records ++ drop (length records) (lent room))
 
 -- all of them end so

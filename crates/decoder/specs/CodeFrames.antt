@@ -1,12 +1,12 @@
 -- Describes code, and no part of the document: what the second reading of a whole input needs and does. It fills a table that has room.
-use Rattle.std.specs.Prelude.{◌≡◌, List, ℕ, ◌≤◌, take, drop}
+use Rattle.std.specs.Prelude.{Err, ◌≡◌, List, ℕ, ◌≤◌, take, drop}
 use Rattle.refusal.specs.declared.Fault.TheVariants.{Empty}
 use Rattle.wire.specs.Limits.{longest}
 use Rattle.node.specs.Forest.{size}
 use Rattle.node.specs.Records.{TableRoom}
 use Rattle.heads.specs.Heads.{length_of}
-use Rattle.heads.specs.declared.Length.{Length}
-use Rattle.heads.specs.declared.Length.TheVariants as cut
+use Rattle.heads.specs.Results.{Length}
+use Rattle.heads.specs.Results as cut
 use Rattle.packet.specs.Packet.{Out, fault, after, read_packet}
 use Rattle.framing.specs.Framing.{Whole, trees, waiting, refusal, stopped, Frame, wait, read, refused}
 use Rattle.answering.specs.Limits.{forest_of}
@@ -21,8 +21,7 @@ frame_packet (refused k) = fault Empty
 abbrev pub packet_cut_by : ℕ → List ℕ → Length → Out
 packet_cut_by base l (cut.Cuts n) = after 4 (read_packet base (take n (drop 4 l)) 4)
 packet_cut_by base l cut.Waiting = fault Empty
-packet_cut_by base l cut.Over = fault Empty
-packet_cut_by base l cut.Odd = fault Empty
+packet_cut_by base l (Err bad) = fault Empty
 
 unfoldable pub packet_cut : ℕ → List ℕ → Out
 packet_cut base l = packet_cut_by base l (length_of l)

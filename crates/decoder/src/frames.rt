@@ -9,8 +9,8 @@ ghost use Rattle.answering.specs.Limits.{forest_of};
 ghost use Rattle.decoder.specs.CodeFrames.{frame_packet, packet_cut, Accepted, Fillable};
 
 use crate::{Edition, Framing};
-use fill::Reread;
-use heads::{Length, Prefix};
+use fill::Element;
+use heads::Prefix;
 use node::record;
 
 // The second reading of a whole input that is accepted within the depth limit, of `count` records.
@@ -36,15 +36,15 @@ pub fn write(framing: Framing, msg: &[u8], table: &mut [u8], depth: usize, count
 }
 
 // The second reading of a frame of edition 1, which stands at `base` of the call's input.
-fn decode_frame(input: &[u8], base: usize, table: &mut [u8], index: usize) -> Reread
+fn decode_frame(input: &[u8], base: usize, table: &mut [u8], index: usize) -> Option<Element>
     requires input_bound { base + length input.now ≤ longest }
     requires table_room { TableRoom (tree_of (frame_packet (read_frame base input.now))) index table.old }
     ensures { Fills (frame_packet (read_frame base input.now)) 0 index table.old result table.new }
 {
     match heads::read_prefix(input) {
         Prefix::Ready => fill::decode_packet(&input[4..], base, 4, table, index),
-        Prefix::Waiting => Reread::Nothing,
-        Prefix::RunsOut => Reread::Nothing,
+        Prefix::Waiting => None,
+        Prefix::RunsOut => None,
     }
 }
 
@@ -58,32 +58,27 @@ fn decode_frames(msg: &[u8], table: &mut [u8])
     let mut at = 0;
     let mut count = 0;
     while at < msg.len() {
-        match decode_frame(
-            &msg[at..],
-            at,
-            &mut table[record::RECORD_SIZE * count..],
-            count,
-        ) {
-            Reread::Wrote { count: n, next } => {
-                count += n;
-                at += next;
+        let later = &mut table[record::RECORD_SIZE * count..];
+        match decode_frame(&msg[at..], at, later, count) {
+            Some(packet) => {
+                count += packet.count;
+                at += packet.next;
             }
-            Reread::Nothing => return,
+            None => return,
         }
     }
 }
 
 // The second reading of a frame of edition 2, which stands at `base` of the call's input. What is left in it was judged before.
-fn decode_cut(input: &[u8], base: usize, table: &mut [u8], index: usize) -> Reread
+fn decode_cut(input: &[u8], base: usize, table: &mut [u8], index: usize) -> Option<Element>
     requires input_bound { base + length input.now ≤ longest }
     requires table_room { TableRoom (tree_of (packet_cut base input.now)) index table.old }
     ensures { Fills (packet_cut base input.now) 0 index table.old result table.new }
 {
     match heads::read_length(input) {
-        Length::Cuts(n) => fill::decode_packet(&input[4..4 + n], base, 4, table, index),
-        Length::Waiting => Reread::Nothing,
-        Length::Over => Reread::Nothing,
-        Length::Odd => Reread::Nothing,
+        Ok(Some(n)) => fill::decode_packet(&input[4..4 + n], base, 4, table, index),
+        Ok(None) => None,
+        Err(_) => None,
     }
 }
 
@@ -97,17 +92,13 @@ fn decode_cuts(msg: &[u8], table: &mut [u8], depth: usize, count: usize)
     let mut from = 0;
     let mut written = 0;
     while written < count {
-        match decode_cut(
-            &msg[from..],
-            from,
-            &mut table[record::RECORD_SIZE * written..],
-            written,
-        ) {
-            Reread::Wrote { count: n, next } => {
-                written += n;
-                from += next;
+        let later = &mut table[record::RECORD_SIZE * written..];
+        match decode_cut(&msg[from..], from, later, written) {
+            Some(packet) => {
+                written += packet.count;
+                from += packet.next;
             }
-            Reread::Nothing => return,
+            None => return,
         }
     }
 }

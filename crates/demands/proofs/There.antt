@@ -10,11 +10,10 @@ use Rattle.node.specs.Forest.{Forest}
 use Rattle.node.specs.declared.record.Item.{Item}
 use Rattle.framing.specs.Framing.{udp}
 use Rattle.answering.specs.Limits.{Decodes}
-use Rattle.results.specs.declared.Decoded.{Decoded}
+use Rattle.results.specs.Results.{DecodeAnswer, Encoded}
+use Rattle.std.specs.Prelude.{Err, Ok}
 use Rattle.writers.specs.Osc.{write_packet}
 use Rattle.encoder.specs.Outcome.{Outcome, Encodes, unframed}
-use Rattle.results.specs.declared.Encoded.{Encoded}
-use Rattle.results.specs.declared.Encoded.TheVariants.{Written, Refused}
 use Rattle.standards.specs.Trip.{Playable}
 use Rattle.demands.specs.There.{Returns}
 use Rattle.standards.proofs.Osc10.Written.{outcome-is, written_all}
@@ -25,20 +24,20 @@ module _ (t : List ℕ) (count : ℕ) (source out : List ℕ) {e : Encoded} {out
   -- with room, the answer is the packet's length
   all-written : {item : Item} {inside : Forest} → Playable t count source item inside
       → length (write_packet source item inside) ≤ length out
-      → e ≡ Written (length (write_packet source item inside))
+      → e ≡ Ok (length (write_packet source item inside))
   all-written {item} {inside} p h =
       ap (λ (o : Outcome). o.answer) (outcome-is unframed p.formed enc)
       ∙ written_all unframed source out item inside p.shallow p.fits h
 
   -- `encode` with room does not refuse a playable table, so what comes back then is not spoken of
-  pub not-refused : {x : Refusal} {r : Decoded} (back back' : List ℕ) → e ≡ Refused x → Returns t count source out back r out' back'
+  pub not-refused : {x : Refusal} {r : DecodeAnswer} (back back' : List ℕ) → e ≡ Err x → Returns t count source out back r out' back'
   not-refused back back' q item inside p h room =
       let w = all-written p h in
       let z : ◌≡◌ {A = ℕ} 0 1 = cc in
       absurd (omega arith)
 
   -- nor does it answer more bytes than the output has
-  pub within-output : {n : ℕ} {r : Decoded} (back back' : List ℕ) → e ≡ Written n → length out' ≡ length out → length out' < n
+  pub within-output : {n : ℕ} {r : DecodeAnswer} (back back' : List ℕ) → e ≡ Ok n → length out' ≡ length out → length out' < n
       → Returns t count source out back r out' back'
   within-output {n} back back' q l g item inside p h room =
       let w = all-written p h in
@@ -46,7 +45,7 @@ module _ (t : List ℕ) (count : ℕ) (source out : List ℕ) {e : Encoded} {out
       absurd (omega arith)
 
   -- what was written comes back as the same count and the same table
-  pub comes_back : {n : ℕ} (r : Decoded) (back back' : List ℕ) → e ≡ Written n → Decodes udp (take n out') back deepest r back'
+  pub comes_back : {n : ℕ} (r : DecodeAnswer) (back back' : List ℕ) → e ≡ Ok n → Decodes udp (take n out') back deepest r back'
       → Returns t count source out back r out' back'
   comes_back {n} r back back' q d item inside p h room =
       let w = all-written p h in

@@ -6,7 +6,8 @@ mod entry_points; // entry_points.rt: each public call meets what the theorems o
 
 ghost use Rattle.demands.specs.There.{Returns};
 
-use results::{Decoded, Encoded};
+use refusal::Refusal;
+use results::Decoded;
 
 // Writes the packet of a table and reads it back from what was written, at depth 64, as playback does.
 //
@@ -20,17 +21,13 @@ fn there_and_back(
     source: &[u8],
     out: &mut [u8],
     back: &mut [u8],
-) -> Decoded
+) -> Result<Decoded, Refusal>
     ensures { Returns table.now count source.now out.old back.old result
         out.new back.new }
 {
-    match encoder::encode(table, count, source, out) {
-        Encoded::Written(n) => {
-            if n <= out.len() {
-                return decoder::decode_udp(&out[0..n], back, wire::DEEPEST);
-            }
-            Decoded::Waiting
-        }
-        Encoded::Refused(refusal) => Decoded::Refused(refusal),
+    let n = encoder::encode(table, count, source, out)?;
+    if n <= out.len() {
+        return decoder::decode_udp(&out[0..n], back, wire::DEEPEST);
     }
+    Ok(Decoded::Waiting)
 }

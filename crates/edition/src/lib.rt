@@ -2,7 +2,7 @@
 #![tactic(auto)]
 
 // How a TCP stream is cut into packets.
-#[derive(Clone, Copy)]
+#[derive(Clone, Copy, Debug, PartialEq, Eq)]
 pub enum Edition {
     // As rosc reads and writes it: a length cuts nothing, and bundles are written without one.
     Rosc,
@@ -11,7 +11,7 @@ pub enum Edition {
 }
 
 // How packets stand in an input.
-#[derive(Clone, Copy)]
+#[derive(Clone, Copy, Debug, PartialEq, Eq)]
 pub enum Framing {
     // One packet is all of the input.
     Udp,

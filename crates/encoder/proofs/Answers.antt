@@ -37,9 +37,8 @@ use Rattle.encoder.specs.CodePrepare.{Unsure, Writable, Prepares}
 use Rattle.encoder.specs.AfterNo.{AfterNo}
 use Rattle.encoder.specs.AfterNo as after_no
 use Rattle.encoder.specs.CodePrepare as prepare
-use Rattle.results.specs.declared.Encoded.TheVariants.{Written}
-use Rattle.encoder.specs.declared.Prepared.{Prepared}
-use Rattle.encoder.specs.declared.Prepared.TheVariants.{Length, Refused}
+use Rattle.encoder.specs.Results.{Prepared}
+use Rattle.std.specs.Prelude.{Err, Ok}
 use Rattle.wire.specs.Limits.{longest, longest_framed, deepest}
 
 -- ---- the limit and the output's length
@@ -57,7 +56,7 @@ module _ (bs out : List ℕ) where
 
   -- bytes that stand over the output are written
   pub bytes-written : {o : List ℕ} {n : ℕ} → length bs ≤ longest → Filled bs out o n
-      → ◌≡◌ {A = Outcome} (record { answer = Written n; out = o }) (bytes_outcome bs out)
+      → ◌≡◌ {A = Outcome} (record { answer = Ok n; out = o }) (bytes_outcome bs out)
   unfolding bytes_outcome
   bytes-written l f = rw (le-leb (length bs) longest l, le-leb (length bs) (length out) f.wrote.room, f.count, f.wrote.left)
 
@@ -103,7 +102,7 @@ module _ {source t : List ℕ} {n : ℕ} (z : Writable source t n) where
 
     -- a packet that stands over the output is written
     pub packet-written : (out : List ℕ) {o : List ℕ} {r : ℕ} → WritesPacket source t 0 out o r
-        → ◌≡◌ {A = Outcome} (record { answer = Written r; out = o }) (bytes_outcome (packet_at source t 0 F) out)
+        → ◌≡◌ {A = Outcome} (record { answer = Ok r; out = o }) (bytes_outcome (packet_at source t 0 F) out)
     packet-written out f = bytes-written (packet_at source t 0 F) out (omega (arith, known, z.short)) (f F s)
 
     -- the same after a length
@@ -123,7 +122,7 @@ module _ {source t : List ℕ} {n : ℕ} (z : Writable source t n) where
     -- length and packet over the output are written
     pub element-written : (out : List ℕ) {o p : List ℕ} {r : ℕ} → n ≤ longest_framed → Wrote (bytes 4 n) out o
         → WritesPacket source t 0 (mid_of 4 (length o - 4) o) p r
-        → ◌≡◌ {A = Outcome} (record { answer = Written (4 + r); out = put_mid 4 (length o - 4) o p })
+        → ◌≡◌ {A = Outcome} (record { answer = Ok (4 + r); out = put_mid 4 (length o - 4) o p })
         (bytes_outcome (write_element (packet_at source t 0 F)) out)
     element-written out {o} {p} {r} l w f =
         let size : Filled (bytes 4 n) out o 4 = record { count = sym (length-bytes 4 n); wrote = w } in
@@ -144,7 +143,7 @@ module _ {t : List ℕ} {count : ℕ} {source : List ℕ} {n : ℕ} (w : Surveys
   survey-some h = omega (arith, (w.exact.sure h).sized)
 
   -- so the table is ready, and the length without them is the packet's
-  pub survey-ready : n ≤ longest_element → Prepares t count source (Length (n - 4))
+  pub survey-ready : n ≤ longest_element → Prepares t count source (Ok (n - 4))
   unfolding Spans Obeys
   survey-ready h =
       let x = w.exact.sure h in
@@ -227,7 +226,7 @@ module _ (frame : ℕ → List ℕ → List ℕ) (k : Keeps frame) (t : List ℕ
   outcome-deep inside h = rw (lt-leb (depth (node (item_at t 0) inside nil)) deepest h)
 
   -- what is refused before a byte is written is refused
-  pub refused : {r : Prepared} {x : Refusal} → Prepares t count source r → r ≡ Refused x → Encodes frame t count source out (refuse x out)
+  pub refused : {r : Prepared} {x : Refusal} → Prepares t count source r → r ≡ Err x → Encodes frame t count source out (refuse x out)
   refused {r} {x} (prepare.no y (after_no.malformed n e) q) p = let z : x ≡ BadTable = cc in malformed n (rw z)
   refused {r} {x} (prepare.no y (after_no.deep inside tree h e) q) p =
       let z : x ≡ TooDeep = cc in formed (item_at t 0) inside tree (rw z (outcome-deep inside h))
@@ -242,7 +241,7 @@ pub record Planned (t : List ℕ) (count : ℕ) (source : List ℕ) (n : ℕ) : 
   pub sized : Writable source t n
 
 -- where a length is known, the packet is to be written
-pub planned : (t : List ℕ) (count : ℕ) (source : List ℕ) {r : Prepared} {n : ℕ} → Prepares t count source r → r ≡ Length n
+pub planned : (t : List ℕ) (count : ℕ) (source : List ℕ) {r : Prepared} {n : ℕ} → Prepares t count source r → r ≡ Ok n
     → Planned t count source n
 planned t count source {r} {n} (prepare.no x a e) q = let y : ◌≡◌ {A = ℕ} 0 1 = cc in absurd (omega arith)
 planned t count source {r} {n} (prepare.ready inside w m e z) q =

@@ -16,7 +16,7 @@ use Rattle.writers.specs.Osc.{write_packet}
 use Rattle.edition.specs.declared.Edition.{Edition}
 use Rattle.encoder.specs.Outcome.{Outcome, refuse, bytes_outcome, unframed, length_before, framed_by, tree_outcome, string_outcome}
 use Rattle.encoder.specs.Outcome.{Encodes, malformed, formed, InFours}
-use Rattle.results.specs.declared.Encoded.TheVariants.{Written}
+use Rattle.std.specs.Prelude.{Ok}
 use Rattle.strings.proofs.Lengths.{string-even}
 use Rattle.writers.proofs.Lengths.{packet-even, element-even}
 use Rattle.wire.specs.Limits.{longest, deepest}
@@ -41,7 +41,7 @@ cond-even false r s p q = q
 write-even : (bs out : List ℕ) → length bs % 4 ≡ 0 → InFours (bytes_outcome bs out)
 unfolding bytes_outcome
 write-even bs out h =
-    let done : Outcome = record { answer = Written (length bs); out = bs ++ drop (length bs) out } in
+    let done : Outcome = record { answer = Ok (length bs); out = bs ++ drop (length bs) out } in
     cond-even (leb (length bs) longest) (cond (leb (length bs) (length out)) done (refuse OutputShort out)) (refuse TooLong out)
     (cond-even (leb (length bs) (length out)) done (refuse OutputShort out) (λ n e. let q : length bs ≡ n = cc in rw (← q) h)
     (refuse-even OutputShort out))

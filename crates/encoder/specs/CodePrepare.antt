@@ -1,5 +1,5 @@
 -- Describes code, and no part of the document: what is known before a byte is written, the refusals 11, 9 and 1 or the packet's length.
-use Rattle.std.specs.Prelude.{◌≡◌, true, List, ℕ, ◌*◌, ◌≤◌, ◌<◌, length}
+use Rattle.std.specs.Prelude.{◌≡◌, true, List, ℕ, ◌*◌, ◌≤◌, ◌<◌, length, Err, Ok}
 use Rattle.refusal.specs.declared.Refusal.{Refusal}
 use Rattle.node.specs.Forest.{Forest}
 use Rattle.node.specs.Records.{record_size, end_at, item_at}
@@ -9,9 +9,8 @@ use Rattle.encoder.specs.Outcome.{Outcome, bytes_outcome}
 use Rattle.encoder.specs.AfterNo.{AfterNo}
 use Rattle.writers.specs.CodeWriters.{SoundIn, packet_at}
 use Rattle.survey.specs.Surveys.{ShallowTree}
-use Rattle.encoder.specs.declared.Prepared.{Prepared}
+use Rattle.encoder.specs.Results.{Prepared}
 use Rattle.wire.specs.Limits.{longest}
-use Rattle.encoder.specs.declared.Prepared.TheVariants.{Length, Refused}
 
 -- the survey is not sure: a packet that the table has is too long
 abbrev pub Unsure : List ℕ → ℕ → List ℕ → Type 0
@@ -33,5 +32,5 @@ Writes frame source t out r = (F : Forest) → Spans t 1 (end_at t 0) F → r �
 
 -- the refusal that the survey's "no" leads to, or the length of a packet that can be written
 pub data Prepares (t : List ℕ) (count : ℕ) (source : List ℕ) (r : Prepared) : Type 0 where
-  no : (x : Refusal) → AfterNo t count source x → r ≡ Refused x → Prepares t count source r
-  ready : (inside : Forest) → ShallowTree t count source inside → (n : ℕ) → r ≡ Length n → Writable source t n → Prepares t count source r
+  no : (x : Refusal) → AfterNo t count source x → r ≡ Err x → Prepares t count source r
+  ready : (inside : Forest) → ShallowTree t count source inside → (n : ℕ) → r ≡ Ok n → Writable source t n → Prepares t count source r

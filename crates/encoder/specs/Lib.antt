@@ -1,3 +1,4 @@
 pub mod Outcome
 pub mod CodePrepare
 pub mod AfterNo
+pub mod Results

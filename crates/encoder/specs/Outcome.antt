@@ -1,6 +1,6 @@
 -- What the encoders answer and leave in the output: document 01, "Refusal numbers" (the encode order) and "How bytes are written"; document
 -- 02, Ticket 1, for edition 2.
-use Rattle.std.specs.Prelude.{◌≡◌, Bool, true, cond, List, [], ◌∷◌, ◌++◌, ℕ, ◌%◌, eqb, leb, length, drop}
+use Rattle.std.specs.Prelude.{◌≡◌, Bool, true, cond, List, [], ◌∷◌, ◌++◌, ℕ, ◌%◌, eqb, leb, length, drop, Err, Ok}
 use Rattle.edition.specs.declared.Edition.{Edition}
 use Rattle.edition.specs.declared.Edition.TheVariants.{Rosc, Standard}
 use Rattle.refusal.specs.declared.Refusal.{Refusal}
@@ -12,11 +12,10 @@ use Rattle.table.specs.Formed.{WellFormed}
 use Rattle.table.specs.Tree.{IsTree}
 use Rattle.strings.specs.Atomic.{osc_string}
 use Rattle.writers.specs.Osc.{write_element, write_packet}
-use Rattle.results.specs.declared.Encoded.{Encoded}
+use Rattle.results.specs.Results.{Encoded}
 use Rattle.node.specs.Tags.{message_kind}
 use Rattle.wire.specs.Limits.{longest, deepest}
 use Rattle.node.specs.declared.record.Item.{Item}
-use Rattle.results.specs.declared.Encoded.TheVariants.{Written, Refused}
 
 -- the refusals of `encode` and `encode_tcp` by their numbers: "Encode order: 11, 9 (limit 64), 1, 12"
 abbrev pub encode_order : List ℕ
@@ -33,13 +32,13 @@ pub record Outcome : Type 0 where
 
 -- a refusal leaves every byte of the output as it was
 abbrev pub refuse : Refusal → List ℕ → Outcome
-refuse r out = record { answer = Refused r; out = out }
+refuse r out = record { answer = Err r; out = out }
 
 -- these bytes over the output's first ones: 1 where they are over 65,535, then 12 where the output is shorter; later bytes are unchanged
 unfoldable pub bytes_outcome : List ℕ → List ℕ → Outcome
 bytes_outcome bs out =
     cond (leb (length bs) longest)
-    (cond (leb (length bs) (length out)) (record { answer = Written (length bs); out = bs ++ drop (length bs) out })
+    (cond (leb (length bs) (length out)) (record { answer = Ok (length bs); out = bs ++ drop (length bs) out })
     (refuse OutputShort out))
     (refuse TooLong out)
 
@@ -83,4 +82,4 @@ EncodesString text out r = r ≡ string_outcome text out
 
 -- demand 2, "encodes to a multiple of four bytes": an outcome that answers a count answers a multiple of four
 abbrev pub InFours : Outcome → Type 0
-InFours r = (n : ℕ) → r.answer ≡ Written n → n % 4 ≡ 0
+InFours r = (n : ℕ) → r.answer ≡ Ok n → n % 4 ≡ 0

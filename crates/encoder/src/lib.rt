@@ -11,7 +11,6 @@ pub use edition::Edition;
 use node::record::kind_at;
 use node::tags::MESSAGE;
 use refusal::{Fault, Refusal};
-pub use results::Encoded;
 use strings::encode_string_into;
 use survey::survey;
 use table::{deeper_than, is_well_formed};
@@ -21,14 +20,6 @@ use writers::{LONGEST_ELEMENT, encode_packet};
 
 // The longest text that is not too long with its 1 to 4 NULs.
 const LONGEST_TEXT: usize = LONGEST - 4;
-
-// What is known of a packet before a byte of it is written.
-#[derive(Clone, Copy)]
-enum Prepared {
-    // Its length, which is at most 65,535.
-    Length(usize),
-    Refused(Refusal),
-}
 
 // Which refusal it is where the survey is not sure: 11, then 9, and otherwise the packet is too long.
 fn after_no(table: &[u8], count: usize, source: &[u8]) -> Refusal
@@ -44,57 +35,56 @@ fn after_no(table: &[u8], count: usize, source: &[u8]) -> Refusal
     Refusal::TooLong
 }
 
-// Checks a table and measures its packet. Where the survey is sure, there is nothing left to check.
-fn prepare(table: &[u8], count: usize, source: &[u8]) -> Prepared
+// Checks a table and measures its packet, before a byte of it is written: its length is at most 65,535. Where the survey is sure, there is
+// nothing left to check.
+fn prepare(table: &[u8], count: usize, source: &[u8]) -> Result<usize, Refusal>
     ensures { Prepares table.now count source.now result }
 {
     let surveyed = survey(table, count, source);
     if surveyed <= LONGEST_ELEMENT {
-        return Prepared::Length(surveyed - 4);
+        return Ok(surveyed - 4);
     }
-    Prepared::Refused(after_no(table, count, source))
+    Err(after_no(table, count, source))
 }
 
 // Writes the packet of a table, which is n bytes long: 12 where the output is shorter.
-fn encode_into(table: &[u8], source: &[u8], n: usize, out: &mut [u8]) -> Encoded
+fn encode_into(table: &[u8], source: &[u8], n: usize, out: &mut [u8]) -> Result<usize, Refusal>
     requires { Writable source.now table.now n }
     ensures { Writes (λ bs. bs) source.now table.now out.old
         (record { answer = result; out = out.new }) }
 {
     if out.len() < n {
-        return Encoded::Refused(Refusal::OutputShort);
+        return Err(Refusal::OutputShort);
     }
-    Encoded::Written(encode_packet(table, 0, source, out))
+    Ok(encode_packet(table, 0, source, out))
 }
 
 // Writes the packet of a table, which is n bytes long, after its length: 1, then 12.
-fn encode_framed(table: &[u8], source: &[u8], n: usize, out: &mut [u8]) -> Encoded
+fn encode_framed(table: &[u8], source: &[u8], n: usize, out: &mut [u8]) -> Result<usize, Refusal>
     requires { Writable source.now table.now n }
     ensures { Writes write_element source.now table.now out.old
         (record { answer = result; out = out.new }) }
 {
     if LONGEST_FRAMED < n {
-        return Encoded::Refused(Refusal::TooLong);
+        return Err(Refusal::TooLong);
     }
     if out.len() < 4 + n {
-        return Encoded::Refused(Refusal::OutputShort);
+        return Err(Refusal::OutputShort);
     }
     put_u32(out, n as u32);
     let written = 4 + encode_packet(table, 0, source, &mut out[4..]);
-    Encoded::Written(written)
+    Ok(written)
 }
 
 // Writes the packet of a table of `count` records over the first bytes of `out`; its ranges are in `source`.
 //
 // Ruled out: an answer that counts bytes of which none is written; 12 where the packet is over 65,535 bytes, whatever the output's length.
-pub fn encode(table: &[u8], count: usize, source: &[u8], out: &mut [u8]) -> Encoded
+pub fn encode(table: &[u8], count: usize, source: &[u8], out: &mut [u8]) -> Result<usize, Refusal>
     ensures { Encodes unframed table.now count source.now out.old
         (record { answer = result; out = out.new }) }
 {
-    match prepare(table, count, source) {
-        Prepared::Refused(refusal) => Encoded::Refused(refusal),
-        Prepared::Length(n) => encode_into(table, source, n, out),
-    }
+    let n = prepare(table, count, source)?;
+    encode_into(table, source, n, out)
 }
 
 // The same for a stream: in edition 1 a length stands before a message and, as in the Rust, none before a bundle; in edition 2 one stands
@@ -107,19 +97,15 @@ pub fn encode_tcp(
     count: usize,
     source: &[u8],
     out: &mut [u8],
-) -> Encoded
+) -> Result<usize, Refusal>
     ensures { Encodes (framed_by edition) table.now count source.now out.old
         (record { answer = result; out = out.new }) }
 {
-    match prepare(table, count, source) {
-        Prepared::Refused(refusal) => Encoded::Refused(refusal),
-        Prepared::Length(n) => {
-            if has_length(edition, kind_at(table, 0)) {
-                encode_framed(table, source, n, out)
-            } else {
-                encode_into(table, source, n, out)
-            }
-        }
+    let n = prepare(table, count, source)?;
+    if has_length(edition, kind_at(table, 0)) {
+        encode_framed(table, source, n, out)
+    } else {
+        encode_into(table, source, n, out)
     }
 }
 
@@ -136,18 +122,18 @@ fn has_length(edition: Edition, kind: u8) -> bool
 // Writes a text with its 1 to 4 NULs over the first bytes of `out`.
 //
 // Ruled out: a text of a multiple of 4 bytes with no NUL after it; 1 for a text that is not UTF-8, however long it is.
-pub fn encode_string(text: &[u8], out: &mut [u8]) -> Encoded
+pub fn encode_string(text: &[u8], out: &mut [u8]) -> Result<usize, Refusal>
     ensures { EncodesString text.now out.old (record { answer = result; out = out.new }) }
 {
     if !is_utf8(text) {
-        return Encoded::Refused(Refusal::Unreadable(Fault::NotUtf8));
+        return Err(Refusal::Unreadable(Fault::NotUtf8));
     }
     let n = text.len();
     if LONGEST_TEXT < n {
-        return Encoded::Refused(Refusal::TooLong);
+        return Err(Refusal::TooLong);
     }
     if out.len() < n + (4 - n % 4) {
-        return Encoded::Refused(Refusal::OutputShort);
+        return Err(Refusal::OutputShort);
     }
-    Encoded::Written(encode_string_into(text, out))
+    Ok(encode_string_into(text, out))
 }

@@ -19,8 +19,10 @@ use Rattle.packet.specs.Packet.{Out, fault, one, Elements, upto, bundle_with, re
 use Rattle.packet.proofs.Bundles.{contents, bundle-short, bundle-long, ended, first-trees, first_rest, Stepped, stepped}
 use Rattle.packet.proofs.Bundles.{Counted, counted_start, counted-on}
 use Rattle.fill.specs.CodeFill.{tree_of, reread, Fills, PacketAccepted, Known}
-use Rattle.fill.specs.declared.Reread.{Reread}
-use Rattle.fill.specs.declared.Reread.TheVariants.{Wrote, Nothing}
+use Rattle.fill.specs.Results.{Reread, Wrote}
+use Rattle.fill.specs.declared.Element.{Element}
+use Rattle.wire.proofs.Payloads.{some-is}
+use Rattle.std.specs.Prelude.{None}
 use Rattle.fill.proofs.Fills.{known-refused}
 
 module _ (base start : ℕ) (l : List ℕ) (p : ℕ) where
@@ -48,7 +50,7 @@ module _ (base start : ℕ) (l : List ℕ) (p : ℕ) where
       → TableRoom (node (bundle_item start l) (trees_in (contents base l p)) nil) i T
   contents-room {i} {T} h w = subst (λ (f : Forest). TableRoom f i T) (bundle-tree h) w
 
-is_none : (p : ℕ) (o : Out) → Nothing ≡ reread p o → tree_of o ≡ nil
+is_none : (p : ℕ) (o : Out) → None ≡ reread p o → tree_of o ≡ nil
 is_none p (fault k) e = refl
 is_none p (one item f u) e = let z : ◌≡◌ {A = ℕ} 0 1 = cc in absurd (omega arith)
 
@@ -74,12 +76,15 @@ tree-step {n} {next} base m q h = by_out (read_element base m q) refl h
   where
     by_out : (o : Out) → read_element base m q ≡ o → Wrote n next ≡ reread (q + 4) o → Stepped base m q n next
     by_out (fault k) e g = let z : ◌≡◌ {A = ℕ} 0 1 = cc in absurd (omega arith)
-    by_out (one item f u) e g = let en : n ≡ 1 + size f = cc in let ee : next ≡ q + 4 + u = cc in rw (en, ee) (stepped base m q e)
+    by_out (one item f u) e g =
+        let en : n ≡ 1 + size f = ap (λ (x : Element). x.count) (some-is g) in
+        let ee : next ≡ q + 4 + u = ap (λ (x : Element). x.next) (some-is g) in
+        rw (en, ee) (stepped base m q e)
 
-no_step : (base : ℕ) (m : List ℕ) (q : ℕ) → Nothing ≡ reread (q + 4) (read_element base m q) → read_elements base m q ≡ upto nil 0
+no_step : (base : ℕ) (m : List ℕ) (q : ℕ) → None ≡ reread (q + 4) (read_element base m q) → read_elements base m q ≡ upto nil 0
 no_step base m q h = by_out (read_element base m q) refl h
   where
-    by_out : (o : Out) → read_element base m q ≡ o → Nothing ≡ reread (q + 4) o → read_elements base m q ≡ upto nil 0
+    by_out : (o : Out) → read_element base m q ≡ o → None ≡ reread (q + 4) o → read_elements base m q ≡ upto nil 0
     by_out (fault k) e g = ended base m q e
     by_out (one item f u) e g = let z : ◌≡◌ {A = ℕ} 0 1 = cc in absurd (omega arith)
 
@@ -187,7 +192,8 @@ module _ {base start p i q c : ℕ} {l T₀ T m : List ℕ} (w : Filling base st
             → Filling base start l p i T₀ (put_mid (record_size * c) (length T - record_size * c) T Y)
             (take (length m - (next - q)) (drop (next - q) m)) next (c + n)
         by_out (fault k) e h = let z : ◌≡◌ {A = ℕ} 0 1 = cc in absurd (omega arith)
-        by_out (one item g u) e h = filling-one e (cc) (cc)
+        by_out (one item g u) e h =
+            filling-one e (ap (λ (x : Element). x.count) (some-is h)) (ap (λ (x : Element). x.next) (some-is h))
 
   filling-count : {count : ℕ} → Known (read_bundle base start l p) count → c + size (trees_in (read_elements base m q)) ≡ count
   filling-count k = omega (arith, w.counted, known-count base start l p k)
@@ -221,7 +227,7 @@ module _ {base start p i q c : ℕ} {l T₀ T m : List ℕ} (w : Filling base st
       rw (bundle-tree base start l p w.long, ← e) (own-record item put none (rw (← all) at v))
 
   -- no element follows: the bundle's own record is written
-  pub filling-done : {x : Reread} {item : Item} {Y Z : List ℕ} → Fills (read_element base m q) (q + 4) (i + c) later x Y → x ≡ Nothing
+  pub filling-done : {x : Reread} {item : Item} {Y Z : List ℕ} → Fills (read_element base m q) (q + 4) (i + c) later x Y → x ≡ None
       → item ≡ bundle_item start l → written.Wrote (record_of item (i + c)) (put_mid (record_size * c) (length T - record_size * c) T Y) Z
       → Fills (read_bundle base start l p) p i T₀ (Wrote c q) Z
   unfolding size

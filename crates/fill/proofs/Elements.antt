@@ -11,19 +11,18 @@ use Rattle.wire.proofs.Choices.{lt-or-le}
 use Rattle.node.specs.Forest.{Forest, size}
 use Rattle.node.specs.Records.{stored, TableRoom}
 use Rattle.heads.specs.Heads.{size_of}
-use Rattle.heads.specs.declared.ElementSize.TheVariants as sized
+use Rattle.fill.specs.Results.{Reread, Wrote}
+use Rattle.std.specs.Prelude.{None, Some}
 use Rattle.heads.proofs.Heads.{part-4, size_in, size-short, size-past, size_holds}
 use Rattle.packet.specs.Packet.{Out, fault, one, filling, read_packet, read_element}
 use Rattle.packet.proofs.Knot.{element-holds, element-runs-out}
 use Rattle.fill.specs.CodeFill.{tree_of, reread, Fills, PacketAccepted, Known, WritesAccepted}
-use Rattle.fill.specs.declared.Reread.{Reread}
-use Rattle.fill.specs.declared.Reread.TheVariants.{Wrote, Nothing}
 use Rattle.fill.proofs.Fills.{known-refused, accepted-not}
 
 -- the element ends at q
 abbrev ends_at : ℕ → Reread → Reread
-ends_at q (Wrote count next) = Wrote count q
-ends_at q Nothing = Nothing
+ends_at q (Some element) = Wrote element.count q
+ends_at q None = None
 
 reread-filling : (p n : ℕ) (o : Out) → ends_at (p + n) (reread p o) ≡ reread p (filling n o)
 reread-filling p n (fault k) = refl
@@ -39,28 +38,28 @@ filling-accepted n (one item f u) w = w
 
 -- an accepted element is all there, and its size is its first 4 bytes
 pub accepted-size : {n : ℕ} (base : ℕ) (l : List ℕ) (p : ℕ) → PacketAccepted (read_element base l p) → n ≡ number 4 l
-    → sized.Holds n ≡ size_of l
+    → Some n ≡ size_of l
 accepted-size {n} base l p w e = by_length (lt-or-le (length l) 4)
   where
-    there : sized.RunsOut ≡ size_of l → ⊥
+    there : None ≡ size_of l → ⊥
     there r = accepted-not w (element-runs-out base l p r)
 
-    by_size : 4 ≤ length l → (length l - 4 < n) ⊎ (n ≤ length l - 4) → sized.Holds n ≡ size_of l
+    by_size : 4 ≤ length l → (length l - 4 < n) ⊎ (n ≤ length l - 4) → Some n ≡ size_of l
     by_size h (inl g) = absurd (there (size-past l h e g))
     by_size h (inr g) = size_holds l h e g
 
-    by_length : (length l < 4) ⊎ (4 ≤ length l) → sized.Holds n ≡ size_of l
+    by_length : (length l < 4) ⊎ (4 ≤ length l) → Some n ≡ size_of l
     by_length (inl h) = absurd (there (size-short l h))
     by_length (inr h) = by_size h (lt-or-le (length l - 4) n)
 
 -- the element l at p has its size and n bytes after it
 pub record ElementIn (base : ℕ) (l : List ℕ) (p n : ℕ) : Type 0 where
-  pub holds : sized.Holds n ≡ size_of l
+  pub holds : Some n ≡ size_of l
   pub inside : 4 + n ≤ length l
   pub low : base + p + length l ≤ longest
   pub part : length (take (4 + n - 4) (drop 4 l)) ≡ n
 
-pub element-in : {base p n : ℕ} {l : List ℕ} → sized.Holds n ≡ size_of l → base + p + length l ≤ longest → ElementIn base l p n
+pub element-in : {base p n : ℕ} {l : List ℕ} → Some n ≡ size_of l → base + p + length l ≤ longest → ElementIn base l p n
 element-in {base} {p} {n} {l} e low =
     let h : 4 + n ≤ length l = size_in l e in
     record { holds = e; inside = h; low = low; part = rw part-4 (omega (arith, length-take n (drop 4 l), length-drop 4 l)) }

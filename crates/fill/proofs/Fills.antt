@@ -16,16 +16,37 @@ use Rattle.heads.specs.Heads.{message_item}
 use Rattle.packet.specs.CodeStart.{StartAccepted}
 use Rattle.packet.specs.FirstText.{start_of}
 use Rattle.packet.specs.Packet.{Out, fault, one, after, read_message, read_packet, read_bundle}
-use Rattle.packet.specs.declared.Start.{Start}
-use Rattle.packet.specs.declared.Start.TheVariants as start
+use Rattle.fill.specs.Results.{Reread, Wrote}
+use Rattle.fill.specs.declared.Element.{Element}
+use Rattle.wire.proofs.Payloads.{some-is}
+use Rattle.packet.specs.Results.{Start}
+use Rattle.std.specs.Prelude.{Err, None, Ok, Result, Some}
+use Rattle.std.specs.Result.{result_ok}
+use Rattle.std.proofs.lemmas.Option.{none-some}
+use Rattle.packet.specs.Results as start
+use Rattle.packet.specs.declared.PacketStart.{PacketStart}
+use Rattle.packet.specs.declared.PacketStart.TheVariants as first
 use Rattle.packet.proofs.FirstText.{message-start-in, bundle-start-in}
 use Rattle.packet.proofs.Knot.{starts-message, starts-bundle, starts-refused}
 use Rattle.fill.specs.CodeFill.{tree_of, reread, Fills, PacketAccepted, Known, WritesAccepted}
-use Rattle.fill.specs.declared.Reread.{Reread}
-use Rattle.fill.specs.declared.Reread.TheVariants.{Wrote, Nothing}
+
+-- a result of which only the value is kept: it holds the value, or it is an error
+pub was-ok : {T E : Type 0} {x : T} {r s : Result T E} → Some x ≡ result_ok r → r ≡ s → Ok x ≡ s
+was-ok {T} {E} {x} {r} e z = by_result r e ∙ z
+  where
+    by_result : (r : Result T E) → Some x ≡ result_ok r → Ok x ≡ r
+    by_result (Ok y) e = ap Ok (some-is e)
+    by_result (Err k) e = absurd (none-some x (sym e))
+
+pub was-err : {T E : Type 0} {r s : Result T E} → None ≡ result_ok r → r ≡ s → (k : E) × (Err k ≡ s)
+was-err {T} {E} {r} {s} e z = by_result r e z
+  where
+    by_result : (r : Result T E) → None ≡ result_ok r → r ≡ s → (k : E) × (Err k ≡ s)
+    by_result (Ok y) e z = absurd (none-some y e)
+    by_result (Err k) e z = (k, z)
 
 -- nothing is written of what is refused
-pub fills-none : {k : Fault} {o : Out} {p i : ℕ} {T : List ℕ} → o ≡ fault k → Fills o p i T Nothing T
+pub fills-none : {k : Fault} {o : Out} {p i : ℕ} {T : List ℕ} → o ≡ fault k → Fills o p i T None T
 fills-none {k} {o} {p} {i} {T} e =
     record { answered = sym (ap (reread p) e); table = sym (ap (λ (x : Out). stored i (tree_of x) T) e ∙ stored-nil i T) }
 
@@ -49,10 +70,10 @@ pub accepted-not : {k : Fault} {o : Out} → PacketAccepted o → o ≡ fault k 
 accepted-not w e = subst PacketAccepted e w
 
 -- of what is accepted something was written
-pub fills-some : {o : Out} {p i : ℕ} {r : Reread} {T T' : List ℕ} → PacketAccepted o → Fills o p i T r T' → r ≡ Nothing → ⊥
+pub fills-some : {o : Out} {p i : ℕ} {r : Reread} {T T' : List ℕ} → PacketAccepted o → Fills o p i T r T' → r ≡ None → ⊥
 fills-some {o} {p} {i} {r} a w z = by_out o a (sym z ∙ w.answered)
   where
-    by_out : (o : Out) → PacketAccepted o → Nothing ≡ reread p o → ⊥
+    by_out : (o : Out) → PacketAccepted o → None ≡ reread p o → ⊥
     by_out (fault k) a e = a
     by_out (one item f u) a e = let z : ◌≡◌ {A = ℕ} 0 1 = cc in omega arith
 
@@ -64,7 +85,9 @@ fills-writes {o} {p} {i} {count} {next} w z = record { known = by_out o (sym z �
   where
     by_out : (o : Out) → Wrote count next ≡ reread p o → Known o count
     by_out (fault k) e = let z : ◌≡◌ {A = ℕ} 0 1 = cc in absurd (omega arith)
-    by_out (one item f u) e = let z : count ≡ 1 + size f = cc in record { some = omega arith; records = omega arith }
+    by_out (one item f u) e =
+        let z : count ≡ 1 + size f = ap (λ (x : Element). x.count) (some-is e) in
+        record { some = omega arith; records = omega arith }
 
 -- ---- what is read after n more bytes
 
@@ -142,7 +165,7 @@ accepted-start base l p w = by-start (start_of l p) refl
     by-start : (s : Start) → s ≡ start_of l p → StartAccepted s
     by-start (start.Message n used) e = tt
     by-start (start.Bundle used) e = tt
-    by-start (start.Refused k) e = accepted-not w (starts-refused base l p e)
+    by-start (Err k) e = accepted-not w (starts-refused base l p e)
 
 -- the packet l at p begins with an address of n bytes, which takes `used`
 pub record MessageIn (base : ℕ) (l : List ℕ) (p n used : ℕ) : Type 0 where
@@ -155,6 +178,11 @@ pub message-in : {base p n used : ℕ} {l : List ℕ} → start.Message n used �
 message-in {base} {p} {n} {used} {l} e low =
     let w = message-start-in l p e in
     record { starts = e; address = w.0; left = rest_in w.1 low }
+
+-- the start that was read is a message's
+pub message-read : {base p n used : ℕ} {l : List ℕ} {x : PacketStart} {r : Start} → Some x ≡ result_ok r → r ≡ start_of l p
+    → x ≡ first.Message n used → base + p + length l ≤ longest → MessageIn base l p n used
+message-read e z m low = message-in (ap Ok (sym m) ∙ was-ok e z) low
 
 -- it is the message that follows
 pub message-past : {base p n used : ℕ} {item : Item} {l : List ℕ} → MessageIn base l p n used → item ≡ message_item (base + p) n
@@ -171,6 +199,11 @@ pub bundle-in : {base p used : ℕ} {l : List ℕ} → start.Bundle used ≡ sta
 bundle-in {base} {p} {used} {l} e low =
     let w = bundle-start-in l p e in
     record { starts = e; some = w.0; left = rest_in w.1 low }
+
+-- the start that was read is a bundle's
+pub bundle-read : {base p used : ℕ} {l : List ℕ} {x : PacketStart} {r : Start} → Some x ≡ result_ok r → r ≡ start_of l p
+    → x ≡ first.Bundle used → base + p + length l ≤ longest → BundleIn base l p used
+bundle-read e z b low = bundle-in (ap Ok (sym b) ∙ was-ok e z) low
 
 -- it is the bundle that follows
 pub bundle-past : {base p used : ℕ} {l : List ℕ} → BundleIn base l p used

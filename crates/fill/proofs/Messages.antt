@@ -1,5 +1,5 @@
 -- A message is its own record and those of its arguments, after the type text.
-use mathlib.Core.Path.{◌≡◌, refl, ap, sym, ◌∙◌, subst}
+use mathlib.Core.Path.{◌≡◌, refl, ap, sym, ◌∙◌}
 use mathlib.Core.List.{List, ◌++◌}
 use Prim.Native.Nat.{ℕ, ◌+◌, ◌-◌, ◌*◌, ◌<◌, ◌≤◌}
 use native.Mathlib.Omega.{arith}
@@ -17,20 +17,24 @@ use Rattle.node.proofs.Recorded.{length-record}
 use Rattle.node.proofs.Stored.{wrote-stored, node-records}
 use Rattle.text.specs.CodeFound.{TextFound}
 use Rattle.text.specs.Text.{read_text}
-use Rattle.text.specs.declared.Text.{Text}
-use Rattle.text.specs.declared.Text.TheVariants.{Found, Lacks}
+use Rattle.fill.specs.Results.{Wrote}
+use Rattle.wire.proofs.Payloads.{ok-is}
+use Rattle.arguments.specs.declared.MeasuredArgs.{MeasuredArgs}
+use Rattle.std.specs.Prelude.{Err, Ok, Some}
+use Rattle.std.specs.Result.{result_ok}
+use Rattle.text.specs.declared.FoundText.{FoundText}
+use Rattle.text.specs.Results.{Found, Text}
+use Rattle.arguments.specs.Results as measure
 use Rattle.text.proofs.Within.{found_in}
 use Rattle.arguments.specs.Arguments.{Args, refused, args, read_args}
 use Rattle.arguments.specs.CodeReadings.{measured, kept_of, ArgsAccepted, ArgsRoom}
-use Rattle.arguments.specs.declared.Measured.TheVariants as measure
 use Rattle.arguments.proofs.Counts.{measured-within}
 use Rattle.heads.specs.Heads.{tags_in}
 use Rattle.heads.proofs.Heads.{types-tags, args_fit}
-use Rattle.packet.specs.Packet.{Out, fault, after, message_with, read_message}
+use Rattle.packet.specs.Packet.{fault, after, message_with, read_message}
 use Rattle.packet.proofs.Within.{types-found, types-lack}
 use Rattle.fill.specs.CodeFill.{tree_of, reread, Fills, PacketAccepted, Known}
-use Rattle.fill.specs.declared.Reread.TheVariants.{Wrote}
-use Rattle.fill.proofs.Fills.{accepted-not, Past, past-accepted, past-fills, RestIn, rest_in}
+use Rattle.fill.proofs.Fills.{was-ok, accepted-not, Past, past-accepted, past-fills, RestIn, rest_in}
 
 -- a message's own record and its arguments', where it is accepted
 module _ {count : ℕ} (item : Item) (o : Args) (k : Known (message_with item o) count) where
@@ -68,8 +72,8 @@ pub accepted-types : (base : ℕ) (item : Item) (l : List ℕ) (p : ℕ) → Pac
 accepted-types base item l p w = by-text (read_text l p) refl
   where
     by-text : (t : Text) → t ≡ read_text l p → TextFound l p
-    by-text (Found m used) e = (m, used, sym e)
-    by-text (Lacks k) e = absurd (accepted-not w (types-lack base item l p e))
+    by-text (Ok text) e = (text.length, text.used, sym e)
+    by-text (Err k) e = absurd (accepted-not w (types-lack base item l p e))
 
 -- the message l at p has a type text of m bytes, which takes `used`
 pub record TypesIn (base : ℕ) (l : List ℕ) (p m used : ℕ) : Type 0 where
@@ -81,6 +85,11 @@ pub types-in : {base p m used : ℕ} {l : List ℕ} → Found m used ≡ read_te
 types-in {base} {p} {m} {used} {l} e low =
     let w = found_in l p e in
     record { found = e; text = w.0; left = rest_in w.1 low }
+
+-- the type text that was read
+pub types-read : {base p : ℕ} {l : List ℕ} {text : FoundText} {r : Text} → Some text ≡ result_ok r → r ≡ read_text l p
+    → base + p + length l ≤ longest → TypesIn base l p text.length text.used
+types-read e z low = types-in (was-ok e z) low
 
 -- once its tags are at hand
 module _ {base p m used : ℕ} {l tags : List ℕ} (item : Item) (w : TypesIn base l p m used) (t : tags ≡ tags_in (take (m - 0) (drop 0 l)))
@@ -94,11 +103,11 @@ module _ {base p m used : ℕ} {l tags : List ℕ} (item : Item) (w : TypesIn ba
     args-past = record { same = types-found base item l p w.found ∙ rw (tail, types-tags l m t) }
 
     -- a message is refused with its arguments
-    pub args-refused : {k : Fault} (dirt : Forest → ℕ) → measure.Refused k ≡ measured dirt following → read_message base item l p ≡ fault k
+    pub args-refused : {k : Fault} (dirt : Forest → ℕ) → Err k ≡ measured dirt following → read_message base item l p ≡ fault k
     unfolding measured
     args-refused {k} dirt g = args-past.same ∙ by_args following g
       where
-        by_args : (o : Args) → measure.Refused k ≡ measured dirt o → after used (message_with item o) ≡ fault k
+        by_args : (o : Args) → Err k ≡ measured dirt o → after used (message_with item o) ≡ fault k
         by_args (refused j) g = let z : k ≡ j = cc in rw z
         by_args (args f u) g = let z : ◌≡◌ {A = ℕ} 0 1 = cc in absurd (omega arith)
 
@@ -128,7 +137,9 @@ module _ {base p m used : ℕ} {l tags : List ℕ} (item : Item) (w : TypesIn ba
         where
           by_args : (o : Args) → measure.Kept count deep taken dirty ≡ measured dirt o → Known (message_with item o) (1 + count)
           by_args (refused j) g = let z : ◌≡◌ {A = ℕ} 0 1 = cc in absurd (omega arith)
-          by_args (args f u) g = let z : count ≡ size f = cc in record { some = omega arith; records = omega arith }
+          by_args (args f u) g =
+              let z : count ≡ size f = ap (λ (x : MeasuredArgs). x.count) (ok-is g) in
+              record { some = omega arith; records = omega arith }
 
       kept-answer : Wrote (1 + count) (p + used + taken) ≡ reread (p + used) (message_with item following)
       unfolding measured
@@ -137,7 +148,10 @@ module _ {base p m used : ℕ} {l tags : List ℕ} (item : Item) (w : TypesIn ba
           by_args : (o : Args) → measure.Kept count deep taken dirty ≡ measured dirt o
               → Wrote (1 + count) (p + used + taken) ≡ reread (p + used) (message_with item o)
           by_args (refused j) g = let z : ◌≡◌ {A = ℕ} 0 1 = cc in absurd (omega arith)
-          by_args (args f u) g = let z : count ≡ size f = cc in let y : taken ≡ u = cc in rw (z, y)
+          by_args (args f u) g =
+              let z : count ≡ size f = ap (λ (x : MeasuredArgs). x.count) (ok-is g) in
+              let y : taken ≡ u = ap (λ (x : MeasuredArgs). x.used) (ok-is g) in
+              rw (z, y)
 
       -- the answer of a message that was written
       pub message-fills : {T' : List ℕ} (i : ℕ) (T : List ℕ) → T' ≡ stored i (tree_of (message_with item following)) T

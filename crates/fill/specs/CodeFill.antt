@@ -1,11 +1,10 @@
 -- Describes code, and no part of the document: what the second reading of a packet answers and leaves in a table that has room.
 -- A position that is answered is the one after the last byte that was read.
-use Rattle.std.specs.Prelude.{◌≡◌, List, ℕ, ◌+◌, ◌≤◌}
+use Rattle.std.specs.Prelude.{◌≡◌, List, ℕ, ◌+◌, ◌≤◌, None}
 use Rattle.node.specs.Forest.{Forest, nil, node, size}
 use Rattle.node.specs.Records.{stored}
 use Rattle.packet.specs.Packet.{Out, fault, one}
-use Rattle.fill.specs.declared.Reread.{Reread}
-use Rattle.fill.specs.declared.Reread.TheVariants.{Wrote, Nothing}
+use Rattle.fill.specs.Results.{Reread, Wrote}
 
 -- the tree that is written: none of a packet that is refused
 abbrev pub tree_of : Out → Forest
@@ -14,7 +13,7 @@ tree_of (one item inside used) = node item inside nil
 
 -- what the second reading of a packet at position p answers
 abbrev pub reread : ℕ → Out → Reread
-reread p (fault k) = Nothing
+reread p (fault k) = None
 reread p (one item inside used) = Wrote (1 + size inside) (p + used)
 
 -- a packet at position p was written to a table, from index i on

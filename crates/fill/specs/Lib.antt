@@ -1,1 +1,2 @@
 pub mod CodeFill
+pub mod Results

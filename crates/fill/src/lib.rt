@@ -1,35 +1,23 @@
 // The second reading of a packet: its records are written to the front of a table that has room for them.
 #![tactic(auto)]
 
-ghost use Rattle.std.specs.Prelude.{◌≡◌, ◌+◌, ◌≤◌, length};
+ghost use Rattle.std.specs.Prelude.{◌≡◌, Some, ◌+◌, ◌≤◌, length};
 ghost use Rattle.wire.specs.Limits.{longest};
 ghost use Rattle.arguments.specs.Arguments.{read_args};
 ghost use Rattle.packet.specs.Packet.{message_with, read_message, read_packet, read_bundle, read_element};
 ghost use Rattle.node.specs.Records.{stored, TableRoom};
 ghost use Rattle.fill.specs.CodeFill.{tree_of, Fills, PacketAccepted, Known, WritesAccepted};
 
-use arguments::Measured;
-use heads::ElementSize;
 use node::record;
 use node::record::Item;
-use packet::Start;
-use text::Text;
+use packet::PacketStart;
 use wire::be_u32;
 
-// What the second reading of a packet answers.
-#[derive(Clone, Copy)]
-pub enum Reread {
-    // So many records; `next` is the position after its last byte.
-    Wrote { count: usize, next: usize },
-    // The packet is refused.
-    Nothing,
-}
-
-// What an element that is known to be accepted gives: so many records; `next` is the position after it.
-#[derive(Clone, Copy)]
-struct Element {
-    count: usize,
-    next: usize,
+// What the second reading of a packet gives: so many records; `next` is the position after its last byte.
+#[derive(Clone, Copy, Debug, PartialEq, Eq)]
+pub struct Element {
+    pub count: usize,
+    pub next: usize,
 }
 
 // A packet at `pos` of its frame, which stands at `base` of the call's input. Its first record has index `index`.
@@ -42,20 +30,19 @@ pub fn decode_packet(
     pos: usize,
     table: &mut [u8],
     index: usize,
-) -> Reread
+) -> Option<Element>
     requires input_bound { base + pos + length input.now ≤ longest }
     requires table_room { TableRoom (tree_of (read_packet base input.now pos)) index table.old }
     ensures { Fills (read_packet base input.now pos) pos index table.old result table.new }
 {
-    match packet::read_start(input, pos) {
-        Start::Message { length, used } => {
+    match packet::read_start(input, pos).ok()? {
+        PacketStart::Message { length, used } => {
             let item = heads::message_item(base + pos, length);
             decode_message(&input[used..], base, pos + used, item, table, index)
         }
-        Start::Bundle { used } => {
+        PacketStart::Bundle { used } => {
             decode_bundle(&input[used..], base, pos + used, base + pos, table, index)
         }
-        Start::Refused(_) => Reread::Nothing,
     }
 }
 
@@ -68,33 +55,22 @@ fn decode_message(
     item: Item,
     table: &mut [u8],
     index: usize,
-) -> Reread
+) -> Option<Element>
     requires input_bound { base + pos + length input.now ≤ longest }
     requires table_room { TableRoom (tree_of (read_message base item input.now pos)) index table.old }
     ensures { Fills (read_message base item input.now pos) pos index table.old result table.new }
 {
-    match text::read_osc_string(input, pos) {
-        Text::Found { length, used } => {
-            let tags = heads::tags_in(&input[0..length]);
-            let rest = &input[used..];
-            match arguments::count_osc_args(tags, rest, pos + used) {
-                Measured::Kept {
-                    count,
-                    depth: _,
-                    used: data,
-                    dirty: _,
-                } => {
-                    put_message(tags, rest, base, pos + used, item, table, index, 1 + count);
-                    Reread::Wrote {
-                        count: 1 + count,
-                        next: pos + used + data,
-                    }
-                }
-                Measured::Refused(_) => Reread::Nothing,
-            }
-        }
-        Text::Lacks(_) => Reread::Nothing,
-    }
+    let types = text::read_osc_string(input, pos).ok()?;
+    let used = types.used;
+    let tags = heads::tags_in(&input[0..types.length]);
+    let rest = &input[used..];
+    let args = arguments::count_osc_args(tags, rest, pos + used).ok()?;
+    let count = 1 + args.count;
+    put_message(tags, rest, base, pos + used, item, table, index, count);
+    Some(Element {
+        count,
+        next: pos + used + args.used,
+    })
 }
 
 // What follows the "#bundle" at offset `start`. The bundle's own record is written last, when its end is known.
@@ -106,38 +82,33 @@ fn decode_bundle(
     start: usize,
     table: &mut [u8],
     index: usize,
-) -> Reread
+) -> Option<Element>
     requires input_bound { base + pos + length input.now ≤ longest }
     requires table_room { TableRoom (tree_of (read_bundle base start input.now pos)) index table.old }
     requires start_le_longest { start ≤ longest }
     ensures { Fills (read_bundle base start input.now pos) pos index table.old result table.new }
 {
     if input.len() < 8 {
-        return Reread::Nothing;
+        return None;
     }
     let mut rest = &input[8..];
     let mut at = pos + 8;
     let mut count = 1;
-    loop {
-        match read_bundle_element(
-            rest,
-            base,
-            at,
-            &mut table[record::RECORD_SIZE * count..],
-            index + count,
-        ) {
-            Reread::Wrote { count: n, next } => {
-                count += n;
-                rest = &rest[next - at..];
-                at = next;
-            }
-            Reread::Nothing => {
-                let end = index + count;
-                record::put_record(table, heads::bundle_item(start, input), end as u32);
-                return Reread::Wrote { count, next: at };
-            }
-        }
+    while let Some(element) = read_bundle_element(
+        rest,
+        base,
+        at,
+        &mut table[record::RECORD_SIZE * count..],
+        index + count,
+    ) {
+        let next = element.next;
+        count += element.count;
+        rest = &rest[next - at..];
+        at = next;
     }
+    let end = index + count;
+    record::put_record(table, heads::bundle_item(start, input), end as u32);
+    Some(Element { count, next: at })
 }
 
 // An element: a size and that many bytes, which hold a packet. Bytes left inside it are dropped.
@@ -148,23 +119,17 @@ fn read_bundle_element(
     pos: usize,
     table: &mut [u8],
     index: usize,
-) -> Reread
+) -> Option<Element>
     requires input_bound { base + pos + length input.now ≤ longest }
     requires table_room { TableRoom (tree_of (read_element base input.now pos)) index table.old }
     ensures { Fills (read_element base input.now pos) (pos + 4) index table.old result table.new }
 {
-    match heads::read_size(input) {
-        ElementSize::Holds(size) => {
-            match decode_packet(&input[4..4 + size], base, pos + 4, table, index) {
-                Reread::Wrote { count, next: _ } => Reread::Wrote {
-                    count,
-                    next: pos + 4 + size,
-                },
-                Reread::Nothing => Reread::Nothing,
-            }
-        }
-        ElementSize::RunsOut => Reread::Nothing,
-    }
+    let size = heads::read_size(input)?;
+    let held = decode_packet(&input[4..4 + size], base, pos + 4, table, index)?;
+    Some(Element {
+        count: held.count,
+        next: pos + 4 + size,
+    })
 }
 
 // A packet that was accepted, of `count` records: nothing is judged again but what a bundle inside it contains, whose end is not known.
@@ -184,15 +149,14 @@ pub fn write_packet(
     ensures { table.new ≡ stored index (tree_of (read_packet base input.now pos)) table.old }
 {
     match packet::find_start(input, pos) {
-        Start::Message { length, used } => {
+        PacketStart::Message { length, used } => {
             let item = heads::message_item(base + pos, length);
             write_message(&input[used..], base, pos + used, item, table, index, count);
         }
-        Start::Bundle { used } => {
+        PacketStart::Bundle { used } => {
             let word = base + pos;
             write_bundle(&input[used..], base, pos + used, word, table, index, count);
         }
-        Start::Refused(_) => {}
     }
 }
 
@@ -260,7 +224,7 @@ fn write_element(input: &[u8], base: usize, pos: usize, table: &mut [u8], index:
     requires table_room { TableRoom (tree_of (read_element base input.now pos)) index table.old }
     requires packet_accepted { PacketAccepted (read_element base input.now pos) }
     ensures { Fills (read_element base input.now pos) (pos + 4) index table.old
-        (Reread.Wrote result.count result.next) table.new }
+        (Some result) table.new }
 {
     let size = be_u32(input, 0) as usize;
     let count = write_held(&input[4..4 + size], base, pos + 4, table, index);
@@ -276,17 +240,16 @@ fn write_held(input: &[u8], base: usize, pos: usize, table: &mut [u8], index: us
     ensures { WritesAccepted (read_packet base input.now pos) index table.old result table.new }
 {
     match packet::find_start(input, pos) {
-        Start::Message { length, used } => {
+        PacketStart::Message { length, used } => {
             let item = heads::message_item(base + pos, length);
             write_held_message(&input[used..], base, pos + used, item, table, index)
         }
-        Start::Bundle { used } => {
+        PacketStart::Bundle { used } => {
             match decode_bundle(&input[used..], base, pos + used, base + pos, table, index) {
-                Reread::Wrote { count, next: _ } => count,
-                Reread::Nothing => 0,
+                Some(bundle) => bundle.count,
+                None => 0,
             }
         }
-        Start::Refused(_) => 0,
     }
 }
 

@@ -14,8 +14,8 @@ use Rattle.wire.specs.Number.{from, number}
 use Rattle.wire.proofs.Choices.{by-test, by-eq, by_le, by_both}
 use Rattle.node.specs.Forest.{nil, node, depth}
 use Rattle.heads.specs.Heads.{length_in, length_of}
-use Rattle.heads.specs.declared.Length.{Length}
-use Rattle.heads.specs.declared.Length.TheVariants as cut
+use Rattle.heads.specs.Results.{Length}
+use Rattle.heads.specs.Results as cut
 use Rattle.heads.proofs.Heads.{length-in, length-known, length-cuts}
 use Rattle.packet.specs.Packet.{Out, fault, one, after, read_packet}
 use Rattle.framing.specs.Framing.{Frame, wait, read, refused, framed, wholly, cut_with, cut_frame}

@@ -10,8 +10,8 @@ use Rattle.node.specs.Forest.{nil, node, depth}
 use Rattle.heads.specs.Heads.{prefix_of, length_of}
 use Rattle.heads.specs.declared.Prefix.{Prefix}
 use Rattle.heads.specs.declared.Prefix.TheVariants as prefix
-use Rattle.heads.specs.declared.Length.{Length}
-use Rattle.heads.specs.declared.Length.TheVariants as cut
+use Rattle.heads.specs.Results.{Length}
+use Rattle.heads.specs.Results as cut
 use Rattle.packet.specs.Packet.{Out, fault, one, after, read_packet}
 use Rattle.packet.proofs.Items.{HasStart, packet-starts}
 use Rattle.framing.specs.Framing.{Frame, wait, read, refused, frame_with, read_frame, wholly, cut_with, cut_frame}

@@ -11,8 +11,8 @@ use Rattle.heads.specs.Heads.{prefix_of, length_of}
 use Rattle.packet.specs.Packet.{Out, fault, one, after, read_packet}
 use Rattle.heads.specs.declared.Prefix.{Prefix}
 use Rattle.heads.specs.declared.Prefix.TheVariants as prefix
-use Rattle.heads.specs.declared.Length.{Length}
-use Rattle.heads.specs.declared.Length.TheVariants as cut
+use Rattle.heads.specs.Results.{Length}
+use Rattle.heads.specs.Results as cut
 use Rattle.edition.specs.declared.Edition.TheVariants.{Rosc, Standard}
 use Rattle.edition.specs.declared.Framing.{Framing}
 use Rattle.edition.specs.declared.Framing.TheVariants.{Udp, Tcp, TcpVec}

@@ -8,7 +8,7 @@ use Rattle.node.specs.declared.record.Item.{Item}
 use Rattle.framing.specs.Framing.{trees, rule_of}
 use Rattle.edition.specs.declared.Framing.{Framing}
 use Rattle.answering.specs.Limits.{forest_of}
-use Rattle.results.specs.declared.Decoded.TheVariants.{Packets}
+use Rattle.results.specs.Results.{Packets}
 use Rattle.table.specs.Formed.{WellFormed}
 use Rattle.table.specs.Tree.{Spans, Obeys}
 use Rattle.calls.specs.Words.{Gives}

@@ -6,7 +6,7 @@ use Prim.Native.Nat.{ℕ, ◌+◌, ◌-◌, ◌%◌, ◌<◌, ◌≤◌}
 use native.Mathlib.Nat.{sub-zero}
 use native.Mathlib.Omega.{arith}
 use borrow.Author.Tests.{le-leb, lt-leb, eq-eqb, ne_eqb}
-use lib.Dec.{eqb, leb}
+use lib.Dec.{leb}
 use lib.ListN.{length, get_or, take, drop, length-drop, length-take}
 use Rattle.wire.specs.Limits.{longest_framed}
 use Rattle.wire.specs.Number.{number}
@@ -18,12 +18,10 @@ use Rattle.utf8.proofs.Chars.{lead-within}
 use Rattle.node.specs.Tags.{bundle_kind}
 use Rattle.node.specs.declared.record.Item.{Item}
 use Rattle.heads.specs.Heads.{tags_in, size_of, prefix_of, length_in, length_of, bundle_item}
-use Rattle.heads.specs.declared.ElementSize.{ElementSize}
-use Rattle.heads.specs.declared.ElementSize.TheVariants.{Holds, RunsOut}
+use Rattle.heads.specs.Results.{Cuts, ElementSize, Length, Odd, Over, Waiting}
+use Rattle.std.specs.Prelude.{None, Some}
 use Rattle.heads.specs.declared.Prefix.{Prefix}
 use Rattle.heads.specs.declared.Prefix.TheVariants as prefix
-use Rattle.heads.specs.declared.Length.{Length}
-use Rattle.heads.specs.declared.Length.TheVariants.{Cuts, Waiting, Over, Odd}
 
 -- a bundle's own numbers are its time tag and its start
 pub time-tag : {a b : ℕ} (start : ℕ) (l : List ℕ) → a ≡ number 4 l → b ≡ number 4 (drop 4 l)
@@ -34,8 +32,8 @@ time-tag start l p q = rw (p, q)
 
 -- the size and its bytes lie in m bytes
 abbrev pub SizeIn : ℕ → ElementSize → Type 0
-SizeIn m (Holds n) = 4 + n ≤ m
-SizeIn m RunsOut = Unit {0}
+SizeIn m (Some n) = 4 + n ≤ m
+SizeIn m None = Unit {0}
 
 -- an element lies in what it is read from
 pub size-within : (l : List ℕ) → SizeIn (length l) (size_of l)
@@ -45,22 +43,22 @@ size-within l =
     (λ h. tt)
 
 -- so many bytes follow the size
-pub size_in : {n : ℕ} (l : List ℕ) → Holds n ≡ size_of l → 4 + n ≤ length l
+pub size_in : {n : ℕ} (l : List ℕ) → Some n ≡ size_of l → 4 + n ≤ length l
 size_in l e = subst (SizeIn (length l)) (sym e) (size-within l)
 
 module _ (l : List ℕ) where
   -- fewer than 4 bytes are no size
-  pub size-short : length l < 4 → RunsOut ≡ size_of l
+  pub size-short : length l < 4 → None ≡ size_of l
   unfolding size_of
   size-short h = rw (size_of, lt-leb 4 (length l) h)
 
   -- a size beyond what follows it
-  pub size-past : {n : ℕ} → 4 ≤ length l → n ≡ number 4 l → length l - 4 < n → RunsOut ≡ size_of l
+  pub size-past : {n : ℕ} → 4 ≤ length l → n ≡ number 4 l → length l - 4 < n → None ≡ size_of l
   unfolding size_of
   size-past {n} h e g = rw (size_of, le-leb 4 (length l) h, ← e, lt-leb n (length l - 4) g)
 
   -- a size within what follows it
-  pub size_holds : {n : ℕ} → 4 ≤ length l → n ≡ number 4 l → n ≤ length l - 4 → Holds n ≡ size_of l
+  pub size_holds : {n : ℕ} → 4 ≤ length l → n ≡ number 4 l → n ≤ length l - 4 → Some n ≡ size_of l
   unfolding size_of
   size_holds {n} h e g = rw (size_of, le-leb 4 (length l) h, ← e, le-leb n (length l - 4) g)
 

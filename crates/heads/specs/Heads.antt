@@ -1,17 +1,14 @@
 -- What stands at the front of a type text, of an element of a bundle, and of a frame of a TCP stream, and the own numbers of a message and
 -- of a bundle: document 01, "How bytes are read", rules 2, 5 and 6, and document 02, Ticket 1. A rule reads at the front of l.
-use Rattle.std.specs.Prelude.{cond, List, [], ◌∷◌, ℕ, ◌-◌, ◌%◌, eqb, leb, length, drop}
+use Rattle.std.specs.Prelude.{cond, List, [], ◌∷◌, ℕ, ◌-◌, ◌%◌, eqb, leb, length, drop, None, Some}
 use Rattle.wire.specs.Limits.{longest_framed}
 use Rattle.wire.specs.Number.{number}
 use Rattle.utf8.specs.Lead.{lead_of}
 use Rattle.node.specs.Tags.{message_kind, bundle_kind}
 use Rattle.node.specs.declared.record.Item.{Item}
-use Rattle.heads.specs.declared.ElementSize.{ElementSize}
-use Rattle.heads.specs.declared.ElementSize.TheVariants.{Holds, RunsOut}
+use Rattle.heads.specs.Results.{Cuts, ElementSize, Length, Odd, Over, Waiting}
 use Rattle.heads.specs.declared.Prefix.{Prefix}
 use Rattle.heads.specs.declared.Prefix.TheVariants as prefix
-use Rattle.heads.specs.declared.Length.{Length}
-use Rattle.heads.specs.declared.Length.TheVariants.{Cuts, Waiting, Over, Odd}
 
 -- the tags of a type text (rule 2): none of an empty one; else its first character is skipped, whatever it is and however many
 -- bytes it has
@@ -21,7 +18,7 @@ tags_in (x ∷ text) = drop (lead_of x) (x ∷ text)
 
 -- the size of an element (rule 5): 4 bytes, and that many bytes follow it
 unfoldable pub size_of : List ℕ → ElementSize
-size_of l = cond (leb 4 (length l)) (cond (leb (number 4 l) (length l - 4)) (Holds (number 4 l)) RunsOut) RunsOut
+size_of l = cond (leb 4 (length l)) (cond (leb (number 4 l) (length l - 4)) (Some (number 4 l)) None) None
 
 -- the prefix of a frame (rule 6): 4 bytes; a length greater than the whole input, prefix included, waits
 unfoldable pub prefix_of : List ℕ → Prefix

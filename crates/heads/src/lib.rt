@@ -10,17 +10,8 @@ use node::record::Item;
 use node::tags::{BUNDLE, MESSAGE};
 use wire::be_u32;
 
-// The size of an element.
-#[derive(Clone, Copy)]
-pub enum ElementSize {
-    // So many bytes follow the size.
-    Holds(usize),
-    // There are fewer.
-    RunsOut,
-}
-
 // The prefix of a frame.
-#[derive(Clone, Copy)]
+#[derive(Clone, Copy, Debug, PartialEq, Eq)]
 pub enum Prefix {
     // The length is at most that of the input, prefix included.
     Ready,
@@ -30,16 +21,12 @@ pub enum Prefix {
     RunsOut,
 }
 
-// The prefix of a frame of edition 2, whose length cuts the packet.
-#[derive(Clone, Copy)]
-pub enum Length {
-    // The frame is all there: so many bytes follow the prefix.
-    Cuts(usize),
-    // There are fewer than 4 bytes, or fewer follow the prefix than its length counts.
-    Waiting,
-    // The length is over 65,531.
+// What is wrong with the length of a frame of edition 2.
+#[derive(Clone, Copy, Debug, PartialEq, Eq)]
+pub enum BadLength {
+    // It is over 65,531.
     Over,
-    // The length is no multiple of 4.
+    // It is no multiple of 4.
     Odd,
 }
 
@@ -60,20 +47,20 @@ pub fn tags_in(types: &[u8]) -> &[u8]
     &types[skipped..]
 }
 
-// The size of an element, where that many bytes follow it.
+// The size of an element, where that many bytes follow it; none where there are fewer.
 //
 // Ruled out: an element refused that ends where its bundle ends; a size that counts its own four bytes.
-pub fn read_size(input: &[u8]) -> ElementSize
+pub fn read_size(input: &[u8]) -> Option<usize>
     ensures { result ≡ size_of input.now }
 {
     if input.len() < 4 {
-        return ElementSize::RunsOut;
+        return None;
     }
     let size = be_u32(input, 0) as usize;
     if input.len() - 4 < size {
-        return ElementSize::RunsOut;
+        return None;
     }
-    ElementSize::Holds(size)
+    Some(size)
 }
 
 // The length of a frame against all of the input, prefix included. It cuts nothing.
@@ -91,26 +78,27 @@ pub fn read_prefix(input: &[u8]) -> Prefix
     Prefix::Ready
 }
 
-// The length of a frame of edition 2: what is wrong with it is told before there are bytes for it.
+// The length of a frame of edition 2, which cuts its packet, where so many bytes follow it; none where the frame is not all there. What is
+// wrong with the length is told before there are bytes for it.
 //
 // Ruled out: Waiting for a length of 65,532, which no stream can hold; a length of 3 refused where there are 3 bytes.
-pub fn read_length(input: &[u8]) -> Length
+pub fn read_length(input: &[u8]) -> Result<Option<usize>, BadLength>
     ensures { result ≡ length_of input.now }
 {
     if input.len() < 4 {
-        return Length::Waiting;
+        return Ok(None);
     }
     let n = be_u32(input, 0) as usize;
     if wire::LONGEST_FRAMED < n {
-        return Length::Over;
+        return Err(BadLength::Over);
     }
     if n % 4 != 0 {
-        return Length::Odd;
+        return Err(BadLength::Odd);
     }
     if input.len() - 4 < n {
-        return Length::Waiting;
+        return Ok(None);
     }
-    Length::Cuts(n)
+    Ok(Some(n))
 }
 
 // The own numbers of a message whose address of `n` bytes stands at `offset`.

@@ -14,7 +14,11 @@ use Rattle.wire.proofs.Parts.{tail}
 use Rattle.node.specs.Forest.{Forest, nil, node, size, depth, level}
 use Rattle.node.specs.declared.record.Item.{Item}
 use Rattle.text.specs.Text.{read_text, non_zero}
-use Rattle.text.specs.declared.Text.TheVariants.{Found}
+use Rattle.arguments.specs.Results.{Measured}
+use Rattle.measure.specs.Results.{Deep, Extent, Tree}
+use Rattle.std.specs.Prelude.{Err, Some, Ok}
+use Rattle.text.specs.Results.{Found}
+use Rattle.packet.specs.Results as start
 use Rattle.text.proofs.Dirt.{dirt-join}
 use Rattle.text.proofs.Within.{found-ends}
 use Rattle.argument.specs.CodeParts.{StandsAt, between, dirt_of}
@@ -24,18 +28,12 @@ use Rattle.argument.proofs.Pads.{dirt-few}
 use Rattle.argument.proofs.Stands.{stands_on, stands-take}
 use Rattle.arguments.specs.Arguments.{Args, refused, args, read_args}
 use Rattle.arguments.specs.CodeReadings.{measured}
-use Rattle.arguments.specs.declared.Measured.{Measured}
-use Rattle.arguments.specs.declared.Measured.TheVariants as measure
 use Rattle.heads.specs.Heads.{tags_in, size_of, message_item, bundle_item}
 use Rattle.packet.specs.FirstText.{start_of}
 use Rattle.packet.specs.Packet.{Out, fault, one, Elements, upto, after, message_with, read_message, bundle_with}
 use Rattle.packet.specs.Packet.{filling}
 use Rattle.packet.specs.Packet.{read_packet, read_elements, read_bundle, read_element, used_by, trees_in}
 use Rattle.measure.specs.CodeMeasure.{fitting, extent, node_dirt, message_dirt, bundle_dirt}
-use Rattle.packet.specs.declared.Start.TheVariants as start
-use Rattle.heads.specs.declared.ElementSize.TheVariants as sized
-use Rattle.measure.specs.declared.Extent.{Extent}
-use Rattle.measure.specs.declared.Extent.TheVariants.{Tree, Deep, Refused}
 use Rattle.packet.proofs.Dirt.{bundle-padding}
 use Rattle.packet.proofs.FirstText.{message-text, bundle-text}
 use Rattle.packet.proofs.Items.{HasItem, message-item, bundle-item}
@@ -45,7 +43,7 @@ use Rattle.packet.proofs.Bundles.{contents, bundle-long, ended, first-trees, fir
 use Rattle.packet.proofs.Bundles.{counted-on}
 
 -- the extent of what is refused
-pub refused-is : {k : Fault} {o : Out} (room p : ℕ) (dirt : Item → Forest → ℕ) → o ≡ fault k → Refused k ≡ extent room p dirt o
+pub refused-is : {k : Fault} {o : Out} (room p : ℕ) (dirt : Item → Forest → ℕ) → o ≡ fault k → Err k ≡ extent room p dirt o
 unfolding extent
 refused-is room p dirt e = sym (ap (extent room p dirt) e)
 
@@ -63,8 +61,8 @@ same-dirt room p dirt dirt' item (one item' f u) w e =
 
 -- the extent of a message by that of its arguments, where what stands before them has so much dirt
 abbrev pub message_extent : ℕ → ℕ → ℕ → Measured → Extent
-message_extent room p dirt (measure.Kept count deep used dirty) = fitting room deep (1 + count) (p + used) (dirt + dirty)
-message_extent room p dirt (measure.Refused k) = Refused k
+message_extent room p dirt (Ok measured) = fitting room measured.depth (1 + measured.count) (p + measured.used) (dirt + measured.dirty)
+message_extent room p dirt (Err k) = Err k
 
 -- n bytes before a packet move its end
 pub extent-after : (room p n : ℕ) (dirt : Item → Forest → ℕ) (o : Out) → extent room (p + n) dirt o ≡ extent room p dirt (after n o)
@@ -148,7 +146,7 @@ module _ (base : ℕ) (msg : List ℕ) (room : ℕ) (l rest : List ℕ) (p : ℕ
 abbrev pub up_to : ℕ → Extent → Extent
 up_to q (Tree count next dirty) = Tree count q dirty
 up_to q (Deep next) = Deep q
-up_to q (Refused k) = Refused k
+up_to q (Err k) = Err k
 
 extent-filling : (room p n : ℕ) (dirt : Item → Forest → ℕ) (o : Out)
     → up_to (p + n) (extent room p dirt o) ≡ extent room p dirt (filling n o)
@@ -164,7 +162,7 @@ stands-in base p n l msg w h s =
     rw s (stands-take msg (base + (p + 4)) (drop 4 l) (stands_after base p l msg w h refl) n)
 
 -- the extent of an element is that of its packet, which ends where the element ends
-pub element-by-packet : {n : ℕ} {r : Extent} (base : ℕ) (msg : List ℕ) (room : ℕ) (l part : List ℕ) (p : ℕ) → sized.Holds n ≡ size_of l
+pub element-by-packet : {n : ℕ} {r : Extent} (base : ℕ) (msg : List ℕ) (room : ℕ) (l part : List ℕ) (p : ℕ) → Some n ≡ size_of l
     → part ≡ take n (drop 4 l) → r ≡ extent room (p + 4) (node_dirt base msg) (read_packet base part (p + 4))
     → up_to (p + 4 + n) r ≡ extent room (p + 4) (node_dirt base msg) (read_element base l p)
 element-by-packet {n} base msg room l part p e s g =
@@ -176,7 +174,7 @@ element-by-packet {n} base msg room l part p e s g =
 abbrev pub ExtentIn : ℕ → ℕ → Extent → Type 0
 ExtentIn p m (Tree count next dirty) = (1 ≤ count) × (p + count ≤ next) × (next ≤ p + m)
 ExtentIn p m (Deep next) = Unit {0}
-ExtentIn p m (Refused k) = Unit {0}
+ExtentIn p m (Err k) = Unit {0}
 
 -- the extent of a packet that lies in m bytes
 pub extent-in : (room p m : ℕ) (dirt : Item → Forest → ℕ) (o : Out) → Within m o → ExtentIn p m (extent room p dirt o)
@@ -305,16 +303,16 @@ module _ (base : ℕ) (msg m : List ℕ) (q room : ℕ) where
           g
 
   -- an element that fails
-  turned-end : {k : Fault} → Refused k ≡ extent room (q + 4) (node_dirt base msg) (read_element base m q)
+  turned-end : {k : Fault} → Err k ≡ extent room (q + 4) (node_dirt base msg) (read_element base m q)
       → read_elements base m q ≡ upto nil 0
   unfolding extent
   turned-end {k} h = by_out (read_element base m q) refl h
     where
-      by_out : (o : Out) → read_element base m q ≡ o → Refused k ≡ extent room (q + 4) (node_dirt base msg) o
+      by_out : (o : Out) → read_element base m q ≡ o → Err k ≡ extent room (q + 4) (node_dirt base msg) o
           → read_elements base m q ≡ upto nil 0
       by_out (fault j) e g = ended base m q e
       by_out (one item f n) e g =
-          by_le (λ (x : Extent). Refused k ≡ x → read_elements base m q ≡ upto nil 0) (level item.kind (depth f)) room
+          by_le (λ (x : Extent). Err k ≡ x → read_elements base m q ≡ upto nil 0) (level item.kind (depth f)) room
           (λ s i. let z : ◌≡◌ {A = ℕ} 0 1 = cc in absurd (omega arith))
           (λ s i. let z : ◌≡◌ {A = ℕ} 0 1 = cc in absurd (omega arith))
           g
@@ -345,7 +343,7 @@ module _ (base : ℕ) (msg l : List ℕ) (p room dirt : ℕ) (m : List ℕ) (q c
 
   -- at an element that fails
   pub going_done : {k : Fault} {e : ℕ} (start : ℕ) → room + 1 ≡ e → 8 ≤ length l
-      → Refused k ≡ extent room (q + 4) (node_dirt base msg) (read_element base m q)
+      → Err k ≡ extent room (q + 4) (node_dirt base msg) (read_element base m q)
       → Tree c q d ≡ extent e p (bundle_dirt base msg dirt) (read_bundle base start l p)
   unfolding size depth
   going_done {k} {e} start o h f =

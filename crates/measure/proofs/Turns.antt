@@ -12,8 +12,8 @@ use Rattle.argument.proofs.Stands.{stands-somewhere}
 use Rattle.packet.specs.Packet.{read_elements, read_bundle, read_element, used_by}
 use Rattle.packet.proofs.Bundles.{counted-in}
 use Rattle.measure.specs.CodeMeasure.{extent, node_dirt, bundle_dirt}
-use Rattle.measure.specs.declared.Extent.{Extent}
-use Rattle.measure.specs.declared.Extent.TheVariants.{Tree, Deep, Refused}
+use Rattle.measure.specs.Results.{Deep, Extent, Tree}
+use Rattle.std.specs.Prelude.{Err}
 use Rattle.measure.proofs.Extents.{Going, going_start, going_on, going-deep, going_done, turned}
 
 -- of a bundle l at p the elements in m, at q, are left; with it c records and d bytes of dirt are counted so far
@@ -98,7 +98,7 @@ module _ (t : Turn) where
         (omega (arith, t.opens)) t.long (sym e ∙ t.finds base msg g.stands) u
 
     -- at an element that fails
-    pub fails-here : {k : Fault} → t.found ≡ Refused k
+    pub fails-here : {k : Fault} → t.found ≡ Err k
         → Tree t.count t.at t.sum
         ≡ extent t.room t.pos (bundle_dirt base msg t.dirt) (read_bundle base start t.input t.pos)
     fails-here e =

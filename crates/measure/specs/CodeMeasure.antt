@@ -1,16 +1,13 @@
 -- Describes code, and no part of the document: what the first reading of a packet answers, from what `read_packet` says. It writes
 -- nothing. A position that is answered is the one after the last byte that was read.
-use Rattle.std.specs.Prelude.{Bool, true, false, cond, List, ℕ, ◌+◌, leb}
+use Rattle.std.specs.Prelude.{Bool, true, false, cond, List, ℕ, ◌+◌, leb, Err, None, Some}
 use Rattle.node.specs.Forest.{Forest, nil, node, size, depth, level}
 use Rattle.node.specs.declared.record.Item.{Item}
 use Rattle.text.specs.Text.{non_zero}
 use Rattle.argument.specs.CodeParts.{dirt_of}
 use Rattle.argument.specs.Dirt.{types_padding}
 use Rattle.packet.specs.Packet.{Out, fault, one}
-use Rattle.measure.specs.declared.Extent.{Extent}
-use Rattle.measure.specs.declared.Extent.TheVariants.{Tree, Deep, Refused}
-use Rattle.measure.specs.declared.Skimmed.{Skimmed}
-use Rattle.measure.specs.declared.Skimmed.TheVariants.{Takes, Fails}
+use Rattle.measure.specs.Results.{Deep, Extent, Skimmed, Tree}
 
 -- a packet that ends at `next`: its records and its dirt; or that it is deeper than the `room` levels that may be opened yet
 abbrev pub fitting : ℕ → ℕ → ℕ → ℕ → ℕ → Extent
@@ -19,7 +16,7 @@ fitting room deep count next dirty = cond (leb deep room) (Tree count next dirty
 -- a packet at position p, where `room` levels of bundles and arrays may be opened yet and a node with such contents has such dirt: its
 -- records, where it ends and its dirt; or that it is too deep, and where it ends
 unfoldable pub extent : ℕ → ℕ → (Item → Forest → ℕ) → Out → Extent
-extent room p dirt (fault k) = Refused k
+extent room p dirt (fault k) = Err k
 extent room p dirt (one item inside used) =
     fitting room (level item.kind (depth inside)) (1 + size inside) (p + used) (dirt item inside)
 
@@ -37,8 +34,8 @@ bundle_dirt base msg dirt item inside = dirt + dirt_of base msg inside
 
 -- whether an element is accepted, and its size then
 abbrev pub skimmed : Out → Skimmed
-skimmed (fault k) = Fails
-skimmed (one item inside used) = Takes used
+skimmed (fault k) = None
+skimmed (one item inside used) = Some used
 
 -- whether a packet is accepted
 abbrev pub accepted : Out → Bool

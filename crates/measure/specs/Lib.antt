@@ -1,1 +1,2 @@
 pub mod CodeMeasure
+pub mod Results

@@ -1,22 +1,21 @@
 // The first reading of a packet: it writes nothing, and goes no deeper than the limit on nested bundles and arrays.
 #![tactic(auto)]
 
-ghost use Rattle.std.specs.Prelude.{◌≡◌, List, ℕ, ◌+◌, ◌≤◌, length};
+ghost use Rattle.std.specs.Prelude.{◌≡◌, Ok, List, ℕ, ◌+◌, ◌≤◌, length};
 ghost use Rattle.wire.specs.Limits.{longest};
 ghost use Rattle.heads.specs.Heads.{message_item};
+ghost use Rattle.packet.specs.FirstText.{start_of};
 ghost use Rattle.packet.specs.Packet.{read_message, read_packet, read_elements, read_bundle, read_element, used_by};
 ghost use Rattle.argument.specs.CodeParts.{StandsAt};
 ghost use Rattle.measure.specs.CodeMeasure.{fitting, extent, node_dirt, message_dirt, bundle_dirt, skimmed, accepted};
 
-use arguments::Measured;
-use heads::ElementSize;
-use packet::Start;
+use packet::PacketStart;
 use refusal::{Fault, Field};
-use text::{Text, dirty_in};
+use text::dirty_in;
 
-// What the first reading of a packet answers; `next` is the position after its last byte.
-#[derive(Clone, Copy)]
-pub enum Extent {
+// What the first reading of a packet finds; `next` is the position after its last byte.
+#[derive(Clone, Copy, Debug, PartialEq, Eq)]
+pub enum MeasuredPacket {
     // Its records, and how many bytes of the padding of all that it keeps are not zero.
     Tree {
         count: usize,
@@ -27,15 +26,6 @@ pub enum Extent {
     Deep {
         next: usize,
     },
-    Refused(Fault),
-}
-
-// What a look at an element answers.
-#[derive(Clone, Copy)]
-pub enum Skimmed {
-    // It is accepted, and has so many bytes.
-    Takes(usize),
-    Fails,
 }
 
 // A packet at `pos`; `room` levels of bundles and arrays may be opened yet.
@@ -43,32 +33,32 @@ pub enum Skimmed {
 // Ruled out: padding counted from the start of an element; a bundle too deep where there is room for one level; the dirt of an address
 // left out.
 #[cycle(measure_bundle_measure_element_measure_packet)]
-pub fn measure_packet(input: &[u8], pos: usize, room: usize) -> Extent
+pub fn measure_packet(input: &[u8], pos: usize, room: usize) -> Result<MeasuredPacket, Fault>
     requires { pos + length input.now ≤ longest }
     ensures { (base : ℕ) (msg : List ℕ) → StandsAt msg (base + pos) input.now
         → result ≡ extent room pos (node_dirt base msg) (read_packet base input.now pos) }
 {
-    match packet::read_start(input, pos) {
-        Start::Message { length, used } => {
+    let start = packet::read_start(input, pos)?;
+    match start {
+        PacketStart::Message { length, used } => {
             let dirt = dirty_in(&input[length + 1..used]);
             measure_message(&input[used..], pos + used, room, dirt)
         }
-        Start::Bundle { used } => {
+        PacketStart::Bundle { used } => {
             let dirt = dirty_in(&input[8..used]);
             measure_bundle(&input[used..], pos + used, room, dirt)
         }
-        Start::Refused(fault) => Extent::Refused(fault),
     }
 }
 
 // A packet that is `depth` levels deep, has `count` records, ends at `next` and is so dirty.
-fn fit(room: usize, depth: usize, count: usize, next: usize, dirty: usize) -> Extent
-    ensures { result ≡ fitting room depth count next dirty }
+fn fit(room: usize, depth: usize, count: usize, next: usize, dirty: usize) -> MeasuredPacket
+    ensures { Ok result ≡ fitting room depth count next dirty }
 {
     if room < depth {
-        return Extent::Deep { next };
+        return MeasuredPacket::Deep { next };
     }
-    Extent::Tree { count, next, dirty }
+    MeasuredPacket::Tree { count, next, dirty }
 }
 
 // What follows the address of a message, whose padding has so much dirt: the type text, then the data. The message is as deep as its
@@ -76,46 +66,51 @@ fn fit(room: usize, depth: usize, count: usize, next: usize, dirty: usize) -> Ex
 //
 // Ruled out: a count without the message's own record; too deep where arrays are nested exactly as deep as there is room; the dirt of
 // the type text left out.
-pub fn measure_message(input: &[u8], pos: usize, room: usize, dirt: usize) -> Extent
+pub fn measure_message(
+    input: &[u8],
+    pos: usize,
+    room: usize,
+    dirt: usize,
+) -> Result<MeasuredPacket, Fault>
     requires { (pos + length input.now ≤ longest) × (dirt ≤ longest) }
     ensures { (base : ℕ) (msg : List ℕ) → StandsAt msg (base + pos) input.now → (offset n : ℕ)
         → result ≡ extent room pos (message_dirt base msg (base + pos) dirt)
         (read_message base (message_item offset n) input.now pos) }
 {
     match text::read_osc_string(input, pos) {
-        Text::Found { length, used } => {
-            let tags = heads::tags_in(&input[0..length]);
-            let types = dirty_in(&input[length + 1..used]);
-            match arguments::measure_osc_args(tags, &input[used..], pos + used) {
-                Measured::Kept {
-                    count,
-                    depth,
-                    used: data,
-                    dirty,
-                } => fit(
-                    room,
-                    depth,
-                    1 + count,
-                    pos + used + data,
-                    dirt + types + dirty,
-                ),
-                Measured::Refused(fault) => Extent::Refused(fault),
-            }
+        Ok(found) => {
+            let used = found.used;
+            let tags = heads::tags_in(&input[0..found.length]);
+            let types = dirty_in(&input[found.length + 1..used]);
+            let args = arguments::measure_osc_args(tags, &input[used..], pos + used)?;
+            let next = pos + used + args.used;
+            Ok(fit(
+                room,
+                args.depth,
+                1 + args.count,
+                next,
+                dirt + types + args.dirty,
+            ))
         }
-        Text::Lacks(lack) => Extent::Refused(text::fault_in(Field::TypeText, pos, lack)),
+        Err(lack) => Err(text::fault_in(Field::TypeText, pos, lack)),
     }
 }
 
 // What follows "#bundle", whose padding has so much dirt. Where the limit is reached, or was passed in an element, no bundle is opened any
 // more: the elements that are left are skimmed, and say where the bundle ends.
 #[cycle(measure_bundle_measure_element_measure_packet)]
-fn measure_bundle(input: &[u8], pos: usize, room: usize, dirt: usize) -> Extent
+fn measure_bundle(
+    input: &[u8],
+    pos: usize,
+    room: usize,
+    dirt: usize,
+) -> Result<MeasuredPacket, Fault>
     requires { (pos + length input.now ≤ longest) × (dirt ≤ longest) }
     ensures { (base : ℕ) (msg : List ℕ) → StandsAt msg (base + pos) input.now → (start : ℕ)
         → result ≡ extent room pos (bundle_dirt base msg dirt) (read_bundle base start input.now pos) }
 {
     if input.len() < 8 {
-        return Extent::Refused(Fault::Short {
+        return Err(Fault::Short {
             field: Field::Head,
             at: pos,
         });
@@ -125,33 +120,35 @@ fn measure_bundle(input: &[u8], pos: usize, room: usize, dirt: usize) -> Extent
     let mut count = 1;
     let mut sum = dirt;
     if room == 0 {
-        return Extent::Deep {
+        return Ok(MeasuredPacket::Deep {
             next: skim_elements(rest, at),
-        };
+        });
     }
     loop {
         match measure_element(rest, at, room - 1) {
-            Extent::Tree {
-                count: n,
-                next,
-                dirty,
-            } => {
+            Ok(
+                MeasuredPacket::Tree {
+                    count: n,
+                    next,
+                    dirty,
+                },
+            ) => {
                 count += n;
                 sum += dirty;
                 rest = &rest[next - at..];
                 at = next;
             }
-            Extent::Deep { next: _ } => {
-                return Extent::Deep {
+            Ok(MeasuredPacket::Deep { .. }) => {
+                return Ok(MeasuredPacket::Deep {
                     next: skim_elements(rest, at),
-                };
+                });
             }
-            Extent::Refused(_) => {
-                return Extent::Tree {
+            Err(_) => {
+                return Ok(MeasuredPacket::Tree {
                     count,
                     next: at,
                     dirty: sum,
-                };
+                });
             }
         }
     }
@@ -159,28 +156,26 @@ fn measure_bundle(input: &[u8], pos: usize, room: usize, dirt: usize) -> Extent
 
 // An element: a size and that many bytes, which hold a packet.
 #[cycle(measure_bundle_measure_element_measure_packet)]
-fn measure_element(input: &[u8], pos: usize, room: usize) -> Extent
+fn measure_element(input: &[u8], pos: usize, room: usize) -> Result<MeasuredPacket, Fault>
     requires { pos + length input.now ≤ longest }
     ensures { (base : ℕ) (msg : List ℕ) → StandsAt msg (base + pos) input.now
         → result ≡ extent room (pos + 4) (node_dirt base msg) (read_element base input.now pos) }
 {
     match heads::read_size(input) {
-        ElementSize::Holds(size) => match measure_packet(&input[4..4 + size], pos + 4, room) {
-            Extent::Tree {
-                count,
-                next: _,
-                dirty,
-            } => Extent::Tree {
-                count,
-                next: pos + 4 + size,
-                dirty,
-            },
-            Extent::Deep { next: _ } => Extent::Deep {
-                next: pos + 4 + size,
-            },
-            Extent::Refused(fault) => Extent::Refused(fault),
-        },
-        ElementSize::RunsOut => Extent::Refused(Fault::Short {
+        Some(size) => {
+            let packet = measure_packet(&input[4..4 + size], pos + 4, room)?;
+            match packet {
+                MeasuredPacket::Tree { count, dirty, .. } => Ok(MeasuredPacket::Tree {
+                    count,
+                    next: pos + 4 + size,
+                    dirty,
+                }),
+                MeasuredPacket::Deep { .. } => Ok(MeasuredPacket::Deep {
+                    next: pos + 4 + size,
+                }),
+            }
+        }
+        None => Err(Fault::Short {
             field: Field::Head,
             at: pos,
         }),
@@ -196,29 +191,25 @@ fn skim_elements(input: &[u8], pos: usize) -> usize
     let mut at = pos;
     loop {
         match skim_element(rest, at) {
-            Skimmed::Takes(size) => {
+            Some(size) => {
                 rest = &rest[4 + size..];
                 at += 4 + size;
             }
-            Skimmed::Fails => return at,
+            None => return at,
         }
     }
 }
 
-// Whether an element is accepted.
-fn skim_element(input: &[u8], pos: usize) -> Skimmed
+// How many bytes an element has, where it is accepted.
+fn skim_element(input: &[u8], pos: usize) -> Option<usize>
     requires { pos + length input.now ≤ longest }
     ensures { (base : ℕ) → result ≡ skimmed (read_element base input.now pos) }
 {
-    match heads::read_size(input) {
-        ElementSize::Holds(size) => {
-            if is_packet(&input[4..4 + size], pos + 4) {
-                return Skimmed::Takes(size);
-            }
-            Skimmed::Fails
-        }
-        ElementSize::RunsOut => Skimmed::Fails,
+    let size = heads::read_size(input)?;
+    if is_packet(&input[4..4 + size], pos + 4) {
+        return Some(size);
     }
+    None
 }
 
 // Whether a packet is accepted: a bundle is, once its time tag is read.
@@ -227,23 +218,21 @@ fn is_packet(input: &[u8], pos: usize) -> bool
     ensures { (base : ℕ) → result ≡ accepted (read_packet base input.now pos) }
 {
     match packet::read_start(input, pos) {
-        Start::Message { length: _, used } => {
-            match measure_message(&input[used..], pos + used, 0, 0) {
-                Extent::Tree {
-                    count: _,
-                    next: _,
-                    dirty: _,
-                } => true,
-                Extent::Deep { next: _ } => true,
-                Extent::Refused(_) => false,
-            }
+        Ok(first) => is_packet_from(first, input, pos),
+        Err(_) => false,
+    }
+}
+
+// Whether a packet that starts so is accepted.
+fn is_packet_from(first: PacketStart, input: &[u8], pos: usize) -> bool
+    requires pos_bound { pos + length input.now ≤ longest }
+    requires started { Ok first ≡ start_of input.now pos }
+    ensures { (base : ℕ) → result ≡ accepted (read_packet base input.now pos) }
+{
+    match first {
+        PacketStart::Message { length: _, used } => {
+            measure_message(&input[used..], pos + used, 0, 0).is_ok()
         }
-        Start::Bundle { used } => {
-            if input.len() - used < 8 {
-                return false;
-            }
-            true
-        }
-        Start::Refused(_) => false,
+        PacketStart::Bundle { used } => 8 <= input.len() - used,
     }
 }

@@ -21,7 +21,7 @@ pub const B: usize = 12;
 pub const START: usize = 16;
 
 // A node's own numbers: all that its record says but its end, which what it contains decides.
-#[derive(Clone, Copy)]
+#[derive(Clone, Copy, Debug, PartialEq, Eq)]
 pub struct Item {
     pub kind: u8,
     pub a: u32,

@@ -12,15 +12,9 @@ pub fn leaf_rules(class: Class, item: Item) -> bool
 {
     match class {
         Class::Four => item.b == 0,
-        Class::Eight => true,
-        Class::Bare => if item.a == 0 { item.b == 0 } else { false },
-        Class::Text => true,
-        Class::Blob => true,
-        Class::Scalar => if item.b == 0 {
-            tags::is_scalar(item.a)
-        } else {
-            false
-        },
+        Class::Bare => item.a == 0 && item.b == 0,
+        Class::Eight | Class::Text | Class::Blob => true,
+        Class::Scalar => item.b == 0 && tags::is_scalar(item.a),
         Class::Unknown => false,
     }
 }
@@ -29,20 +23,14 @@ pub fn leaf_rules(class: Class, item: Item) -> bool
 pub fn is_packet(kind: u8) -> bool
     ensures { result ≡ is_packet kind }
 {
-    match kind {
-        BUNDLE | MESSAGE => true,
-        _ => false,
-    }
+    matches!(kind, BUNDLE | MESSAGE)
 }
 
 // Whether a record's own rules hold: its kind is known, its zero fields are 0, and 'c' is a scalar number.
 pub fn own_rules(item: Item) -> bool
     ensures { result ≡ own_rules item }
 {
-    if is_packet(item.kind) {
-        return true;
-    }
-    arg_rules(tags::sort_of(item.kind), item)
+    is_packet(item.kind) || arg_rules(tags::sort_of(item.kind), item)
 }
 
 // The same for an argument.
@@ -50,7 +38,7 @@ fn arg_rules(sort: Sort, item: Item) -> bool
     ensures { result ≡ arg_rules sort item }
 {
     match sort {
-        Sort::Opens => if item.a == 0 { item.b == 0 } else { false },
+        Sort::Opens => item.a == 0 && item.b == 0,
         Sort::Closes => false,
         Sort::Leaf(class) => leaf_rules(class, item),
     }

@@ -12,7 +12,7 @@ pub const BUNDLE: u8 = b'#';
 pub const ARRAY: u8 = b'[';
 
 // The data of an argument that is no array.
-#[derive(Clone, Copy)]
+#[derive(Clone, Copy, Debug, PartialEq, Eq)]
 pub enum Class {
     // 4 bytes: 'i', 'f', 'r', 'm'.
     Four,
@@ -31,7 +31,7 @@ pub enum Class {
 }
 
 // What a tag does to the arguments.
-#[derive(Clone, Copy)]
+#[derive(Clone, Copy, Debug, PartialEq, Eq)]
 pub enum Sort {
     // '[' opens an array.
     Opens,
@@ -71,11 +71,5 @@ fn class_of(tag: u8) -> Class
 pub fn is_scalar(x: u32) -> bool
     ensures { result ≡ is_scalar x }
 {
-    if x < 0xd800 {
-        return true;
-    }
-    if x < 0xe000 {
-        return false;
-    }
-    x <= 0x10_ffff
+    char::from_u32(x).is_some()
 }

@@ -22,10 +22,7 @@ use clock::Rule;
 use edition::{Edition, Framing};
 use node::record;
 use refusal::Refusal;
-use shifts::Shifted;
 use told::times;
-use values::look::{Looked, Started};
-use wire::Padded;
 
 // A decoder by its framing, told as a number, and what is told beside it.
 fn decode(framing: Framing, msg: &[u8], table: &mut [u8], depth: u64, more: &mut u64) -> u64
@@ -220,8 +217,8 @@ pub extern "C" fn osc_shift_table(table: &mut [u8], count: u64, by: u64) -> u64
         return told::refused(Refusal::BadTable);
     }
     match shifts::shift_table(table, count as usize, by) {
-        Shifted::Tags(n) => told::low(n as u32),
-        Shifted::Refused(refusal) => told::refused(refusal),
+        Ok(n) => told::low(n as u32),
+        Err(refusal) => told::refused(refusal),
     }
 }
 
@@ -233,8 +230,8 @@ pub extern "C" fn osc_pad(pos: u64) -> u64
     ensures { result ≡ padded_number (pad_of pos) }
 {
     match wire::pad(pos) {
-        Padded::At(at) => at,
-        Padded::Refused(refusal) => refusal::number_of(refusal) as u64,
+        Ok(at) => at,
+        Err(refusal) => refusal::number_of(refusal) as u64,
     }
 }
 
@@ -246,8 +243,8 @@ pub extern "C" fn osc_look(table: &[u8], index: u64) -> u64
     ensures { result ≡ answer_of (looked_told (look_at table.now index)) }
 {
     match values::look::look(table, index as usize) {
-        Looked::Value(_) => told::low(record::kind_at(table, index as usize) as u32),
-        Looked::Refused(refusal) => told::refused(refusal),
+        Ok(_) => told::low(record::kind_at(table, index as usize) as u32),
+        Err(refusal) => told::refused(refusal),
     }
 }
 
@@ -259,8 +256,8 @@ pub extern "C" fn osc_start(table: &[u8], index: u64) -> u64
     ensures { result ≡ answer_of (started_told (started_at table.now index)) }
 {
     match values::look::start_of(table, index as usize) {
-        Started::At(start) => told::low(start),
-        Started::Refused(refusal) => told::refused(refusal),
+        Ok(start) => told::low(start),
+        Err(refusal) => told::refused(refusal),
     }
 }
 

@@ -10,7 +10,7 @@ use Rattle.node.specs.Tags.{array_kind, sort_of}
 use Rattle.node.specs.declared.record.Item.{Item}
 use Rattle.argument.specs.Argument.{read_arg}
 use Rattle.arguments.specs.Arguments.{args, later, array_item, Open, waits, read_tags}
-use Rattle.argument.specs.declared.Arg.TheVariants.{Given}
+use Rattle.argument.specs.Results.{Given}
 use Rattle.osc10.specs.Osc10.{Atom, OscArguments, end, atom, array, AtomAllowed, ArgumentsAllowed, tag_of, tags_of, ArgumentsSpell}
 use Rattle.osc10.specs.Osc10.{no_argument, one_atom, one_array, ArgumentsAre, no_node, leaf, branch}
 use Rattle.arguments.proofs.Kept.{later-none, later-later}

@@ -13,9 +13,9 @@ use Rattle.utf8.specs.Derive.{utf8}
 use Rattle.utf8.proofs.Grammar.{octets, same_answer}
 use Rattle.node.specs.declared.record.Item.{Item}
 use Rattle.text.specs.Text.{until_nul, read_text}
-use Rattle.text.specs.declared.Text.TheVariants.{Found}
+use Rattle.argument.specs.Results.{Given}
+use Rattle.text.specs.Results.{Found}
 use Rattle.argument.specs.Argument.{arg_item, read_arg}
-use Rattle.argument.specs.declared.Arg.TheVariants.{Given}
 use Rattle.osc10.specs.Words.{NoNul}
 use Rattle.osc10.specs.Osc10.{Atom, IsText, AtomAllowed, osc_int32, OscString, OscBlob, tag_of, AtomSpells, as_word, as_long, as_bare}
 use Rattle.osc10.specs.Osc10.{as_string, as_blob, as_char, AtomIs}

@@ -8,16 +8,17 @@ use Rattle.wire.proofs.Choices.{by_le}
 use Rattle.node.specs.Forest.{Forest, nil, node}
 use Rattle.node.specs.declared.record.Item.{Item}
 use Rattle.text.specs.Text.{read_text, non_zero}
-use Rattle.text.specs.declared.Text.{Text}
-use Rattle.text.specs.declared.Text.TheVariants.{Found, Lacks}
+use Rattle.heads.specs.Results.{ElementSize}
+use Rattle.packet.specs.Results.{Bundle, Message, Start}
+use Rattle.scan.specs.Results.{Scanned}
+use Rattle.std.specs.Prelude.{Err, None, Some, Ok}
+use Rattle.text.specs.Results.{Found, Text}
 use Rattle.text.proofs.Within.{found_in, found-ends}
 use Rattle.argument.specs.CodeParts.{StandsAt, between, dirt_of}
 use Rattle.argument.specs.Dirt.{types_at, own_padding}
 use Rattle.argument.proofs.Dirt.{text-padding, types-padding, dirt-node, dirt-nil}
 use Rattle.argument.proofs.Stands.{stands_on, stands-take}
 use Rattle.scan.specs.CodeScans.{scan, back, AllClosed}
-use Rattle.scan.specs.declared.Scanned.{Scanned}
-use Rattle.scan.specs.declared.Scanned.TheVariants as scanned
 use Rattle.scan.specs.declared.Back.{Back}
 use Rattle.scan.specs.declared.Back.TheVariants.{Uncut, Cut}
 use Rattle.arguments.specs.Arguments.{Args, refused, args, read_args}
@@ -26,15 +27,11 @@ use Rattle.arguments.proofs.Counts.{scan-refused}
 use Rattle.arguments.proofs.Dirt.{closed-dirt}
 use Rattle.arguments.proofs.Kept.{all_closed, cut-never, cut_at}
 use Rattle.heads.specs.Heads.{tags_in, size_of, message_item, bundle_item}
-use Rattle.heads.specs.declared.ElementSize.{ElementSize}
-use Rattle.heads.specs.declared.ElementSize.TheVariants as sizes
 use Rattle.heads.proofs.Heads.{size_in}
 use Rattle.packet.specs.FirstText.{start_of}
 use Rattle.packet.specs.Packet.{Out, fault, one, Elements, upto, after, message_with, types_then, read_message, bundle_with, bundle_by}
 use Rattle.packet.specs.Packet.{filling, held_by, element_by, joined, go_on, elements_by, started_by, packet_by, packet_at, elements_at}
 use Rattle.packet.specs.Packet.{read_packet, read_elements, trees_in}
-use Rattle.packet.specs.declared.Start.{Start}
-use Rattle.packet.specs.declared.Start.TheVariants.{Message, Bundle, Refused}
 use Rattle.packet.proofs.FirstText.{message-text, bundle-text}
 
 -- ---- what a node has itself
@@ -99,18 +96,18 @@ module _ (base : ℕ) (msg msg' : List ℕ) where
   closed-alike ts l p w c a = by-scan (scan ts l p 0) refl
     where
       by-scan : (s : Scanned) → s ≡ scan ts l p 0 → Alike (kept_of (read_args base ts l p))
-      by-scan (scanned.Used used dirty) e = sym (closed-dirt base msg ts l p w.0 e c) ∙ closed-dirt base msg' ts l p w.1 e c
-      by-scan (scanned.Refused k) e = absurd (scan-refused base ts l p e a)
+      by-scan (Ok scanned') e = sym (closed-dirt base msg ts l p w.0 e c) ∙ closed-dirt base msg' ts l p w.1 e c
+      by-scan (Err k) e = absurd (scan-refused base ts l p e a)
 
   args-alike : (ts l : List ℕ) (p : ℕ) → Both p l → ArgsAccepted (read_args base ts l p) → Alike (kept_of (read_args base ts l p))
   args-alike ts l p w a = by-back (back ts) refl
     where
       by-scan : {n c d : ℕ} → Cut n c d ≡ back ts → (s : Scanned) → s ≡ scan (take n ts) l p 0 → Alike (kept_of (read_args base ts l p))
-      by-scan {n} e (scanned.Used used dirty) s =
+      by-scan {n} e (Ok scanned') s =
           let k = cut_at base ts l p e a s in
-          let both = both_first (length l - used) (drop used l) (p + used) (both-on used l p k.within w) in
-          subst Alike (sym k.kept) (closed-alike (take (length ts - n) (drop n ts)) _ (p + used) both k.closed k.accepted)
-      by-scan e (scanned.Refused k) s = absurd (cut-never base ts l p e a s)
+          let both = both_first (length l - scanned'.used) (drop scanned'.used l) (p + scanned'.used) (both-on scanned'.used l p k.within w) in
+          subst Alike (sym k.kept) (closed-alike (take (length ts - n) (drop n ts)) _ (p + scanned'.used) both k.closed k.accepted)
+      by-scan e (Err k) s = absurd (cut-never base ts l p e a s)
 
       by-back : (k : Back) → k ≡ back ts → Alike (kept_of (read_args base ts l p))
       by-back (Uncut n c d) e = closed-alike ts l p w (all_closed (back ts) e) a
@@ -137,13 +134,13 @@ module _ (base : ℕ) (msg msg' : List ℕ) where
       by_args (args kept used) own h = (own, h tt)
 
       by-text : (t : Text) → t ≡ read_text m q → OutAlike (types_then base item m q t)
-      by-text (Lacks k) f = tt
-      by-text (Found k more) f =
-          let tags = tags_in (take k m) in
-          let o = read_args base tags (drop more m) (q + more) in
-          let both = both-on more m q (found_in m q f).1 (both-on used l p (found_in l p e).1 w) in
+      by-text (Err k) f = tt
+      by-text (Ok text) f =
+          let tags = tags_in (take text.length m) in
+          let o = read_args base tags (drop text.used m) (q + text.used) in
+          let both = both-on text.used m q (found_in m q f).1 (both-on used l p (found_in l p e).1 w) in
           let own = message-padding base p l msg w.0 e f ∙ sym (message-padding base p l msg' w.1 e f) in
-          after-alike more (message_with item o) (by_args o own (args-alike tags (drop more m) (q + more) both))
+          after-alike text.used (message_with item o) (by_args o own (args-alike tags (drop text.used m) (q + text.used) both))
 
   module _ (es : List ℕ → ℕ → Elements) (he : (m : List ℕ) (q : ℕ) → Both q m → ElementsAlike (es m q)) where
     bundle-alike : {used : ℕ} (l : List ℕ) (p : ℕ) → Both p l → Found 7 used ≡ read_text l p
@@ -173,7 +170,7 @@ module _ (base : ℕ) (msg msg' : List ℕ) where
             (message-alike l p w (message-text l p e))
         by-start (Bundle used) e =
             after-alike used (bundle_by (base + p) es (drop used l) (p + used)) (bundle-alike l p w (bundle-text l p e))
-        by-start (Refused k) e = tt
+        by-start (Err k) e = tt
 
     -- ---- elements
 
@@ -192,11 +189,11 @@ module _ (base : ℕ) (msg msg' : List ℕ) where
               by-joined item f n (es (drop (4 + n) l) (p + (4 + n))) g (he (drop (4 + n) l) (p + (4 + n)) (both-on (4 + n) l p h w))
 
           by_size : (s : ElementSize) → s ≡ size_of l → ElementsAlike (go_on es l p (held_by pk l p s))
-          by_size (sizes.Holds n) e =
+          by_size (Some n) e =
               let h = size_in l e in
               by_out n (pk (take n (drop 4 l)) (p + 4)) h
               (hp (take n (drop 4 l)) (p + 4) (both_first n (drop 4 l) (p + 4) (both-on 4 l p (omega arith) w)))
-          by_size sizes.RunsOut e = nil-alike
+          by_size None e = nil-alike
 
   mutual
     unfolding packet_at

@@ -13,8 +13,10 @@ use Rattle.wire.proofs.Choices.{by-test, by_le}
 use Rattle.node.specs.Tags.{message_kind}
 use Rattle.node.specs.declared.record.Item.{Item}
 use Rattle.text.specs.Text.{read_text}
-use Rattle.text.specs.declared.Text.{Text}
-use Rattle.text.specs.declared.Text.TheVariants.{Found, Lacks}
+use Rattle.packet.specs.Results.{Start}
+use Rattle.std.specs.Prelude.{Err, Ok}
+use Rattle.text.specs.Results.{Text}
+use Rattle.packet.specs.Results as start
 use Rattle.text.proofs.Within.{found_in, lacks-low}
 use Rattle.arguments.specs.Arguments.{Args, refused, args, read_args}
 use Rattle.arguments.proofs.Faults.{args_low}
@@ -22,8 +24,6 @@ use Rattle.heads.specs.Heads.{tags_in, message_item}
 use Rattle.packet.specs.FirstText.{bundle_word, start_by, start_of}
 use Rattle.packet.specs.Packet.{Out, fault, one, Elements, upto, after, message_with, types_then, read_message, bundle_with, bundle_by}
 use Rattle.packet.specs.Packet.{started_by, packet_by, read_packet, read_elements}
-use Rattle.packet.specs.declared.Start.{Start}
-use Rattle.packet.specs.declared.Start.TheVariants as start
 use Rattle.packet.proofs.FirstText.{message-start-in, bundle-start-in}
 use Rattle.packet.proofs.Knot.{packet-eq}
 
@@ -46,13 +46,13 @@ unfolding read_message
 message-low base item l p = by-text (read_text l p) refl
   where
     by-text : (t : Text) → t ≡ read_text l p → OutLow (p + length l) (types_then base item l p t)
-    by-text (Lacks lack) e = lacks-low TypeText l p e
-    by-text (Found m used) e =
-        let tags = tags_in (take m l) in
-        let same : p + used + length (drop used l) ≡ p + length l = omega (arith, length-drop used l, found_in l p e) in
-        low-after used (p + length l) (message_with item (read_args base tags (drop used l) (p + used)))
-        (low-with item (p + length l) (read_args base tags (drop used l) (p + used))
-        (λ k g. subst (λ (m : ℕ). fault_offset k ≤ m) same (args_low base tags (drop used l) (p + used) g)))
+    by-text (Err lack) e = lacks-low TypeText l p e
+    by-text (Ok text) e =
+        let tags = tags_in (take text.length l) in
+        let same : p + text.used + length (drop text.used l) ≡ p + length l = omega (arith, length-drop text.used l, found_in l p e) in
+        low-after text.used (p + length l) (message_with item (read_args base tags (drop text.used l) (p + text.used)))
+        (low-with item (p + length l) (read_args base tags (drop text.used l) (p + text.used))
+        (λ k g. subst (λ (n : ℕ). fault_offset k ≤ n) same (args_low base tags (drop text.used l) (p + text.used) g)))
 
 low-elements : (item : Item) (m : ℕ) (k : Elements) → OutLow m (bundle_with item k)
 low-elements item m (upto inside used) = tt
@@ -66,17 +66,17 @@ bundle-low start es l p =
 abbrev StartLow : ℕ → Start → Type 0
 StartLow m (start.Message n used) = Unit {0}
 StartLow m (start.Bundle used) = Unit {0}
-StartLow m (start.Refused k) = fault_offset k ≤ m
+StartLow m (Err k) = fault_offset k ≤ m
 
 start-low : (l : List ℕ) (p : ℕ) → StartLow (p + length l) (start_of l p)
 unfolding start_of
 start-low l p = by-test (StartLow (p + length l)) (eqb (length l) 0) (λ _. omega arith) (λ _. by-text (read_text l p) refl)
   where
     by-text : (t : Text) → t ≡ read_text l p → StartLow (p + length l) (start_by l p t)
-    by-text (Lacks lack) e = lacks-low Address l p e
-    by-text (Found n used) e =
+    by-text (Err lack) e = lacks-low Address l p e
+    by-text (Ok text) e =
         by-test (StartLow (p + length l)) (eqb (get_or l 0 0) message_kind) (λ _. tt)
-        (λ _. by-test (StartLow (p + length l)) (same_bytes (take n l) bundle_word) (λ _. tt) (λ _. omega arith))
+        (λ _. by-test (StartLow (p + length l)) (same_bytes (take text.length l) bundle_word) (λ _. tt) (λ _. omega arith))
 
 -- the fault of a packet begins in it or right after it
 pub packet-low : (base : ℕ) (l : List ℕ) (p : ℕ) → OutLow (p + length l) (read_packet base l p)
@@ -87,7 +87,7 @@ packet-low base l p = subst (OutLow (p + length l)) (sym (packet-eq base l p)) (
     es = λ m q. read_elements base m q
 
     by-start : (s : Start) → s ≡ start_of l p → StartLow (p + length l) s → OutLow (p + length l) (started_by base es l p s)
-    by-start (start.Refused k) e w = w
+    by-start (Err k) e w = w
     by-start (start.Message n used) e w =
         let same : p + used + length (drop used l) ≡ p + length l = omega (arith, length-drop used l, message-start-in l p e) in
         low-after used (p + length l) (read_message base (message_item (base + p) n) (drop used l) (p + used))

@@ -3,36 +3,37 @@ use mathlib.Core.Path.{◌≡◌, refl, ap, sym, ◌∙◌, subst}
 use mathlib.Core.Bool.{Bool, true, false}
 use mathlib.Core.Logic.{⊎_elim}
 use mathlib.Core.List.{List, [], ◌∷◌}
-use Prim.Native.Nat.{ℕ, suc, ◌+◌, ◌-◌, ◌<◌, ◌≤◌}
-use native.Mathlib.Nat.{sub-zero}
-use native.Mathlib.Numerals.{add-one}
+use Prim.Native.Nat.{ℕ, suc, ◌<◌, ◌≤◌}
 use native.Mathlib.Omega.{arith}
 use borrow.Author.Tests.{eq-eqb, ne_eqb}
 use lib.Dec.{eqb}
-use lib.ListN.{length, get_or, take, drop, length-take, drop_of_length-le}
-use lib.Seq.{drop-cons}
+use lib.ListN.{length, get_or, take, length-take}
 use Rattle.refusal.specs.declared.Fault.{Fault}
 use Rattle.refusal.specs.declared.Fault.TheVariants as faults
 use Rattle.refusal.specs.declared.Field.TheVariants.{Address}
+use Rattle.std.proofs.Common.{nat_eq}
+use Rattle.std.proofs.lemmas.Bool.Decides.{Decides-eqb}
+use Rattle.std.proofs.lemmas.Slice.Eq.{slice_eq-Decides}
+use Rattle.std.specs.Cmp.Lexicographic.{pointwise}
 use Rattle.wire.proofs.Choices.{by-test, is-or}
+use Rattle.wire.proofs.Same.{is_same}
 use Rattle.node.specs.Tags.{message_kind}
 use Rattle.text.specs.CodeFound.{TextFound}
 use Rattle.text.specs.Text.{read_text, fault_in}
-use Rattle.text.specs.declared.Text.{Text}
-use Rattle.text.specs.declared.Text.TheVariants.{Found, Lacks}
+use Rattle.packet.specs.Results.{Bundle, Message, Start}
+use Rattle.std.specs.Prelude.{Err, Ok}
+use Rattle.text.specs.Results.{Found, Text}
 use Rattle.text.specs.declared.Lack.{Lack}
 use Rattle.text.proofs.Within.{found_in}
 use Rattle.packet.specs.CodeStart.{StartAccepted}
 use Rattle.packet.specs.FirstText.{bundle_word, start_by, start_of}
 use Rattle.wire.specs.Same.{same_bytes}
-use Rattle.packet.specs.declared.Start.{Start}
-use Rattle.packet.specs.declared.Start.TheVariants.{Message, Bundle, Refused}
 
 -- ---- what a packet starts with
 
 module _ (l : List ℕ) (p : ℕ) where
   -- a packet of no bytes is refused
-  pub start-empty : length l ≡ 0 → Refused faults.Empty ≡ start_of l p
+  pub start-empty : length l ≡ 0 → Err faults.Empty ≡ start_of l p
   unfolding start_of
   start-empty h = rw (eq-eqb (length l) 0 h)
 
@@ -42,7 +43,7 @@ module _ (l : List ℕ) (p : ℕ) where
     start-text = rw (start_of, ne_eqb (length l) 0 h)
 
     -- a first text that is lacking is the packet's refusal
-    pub start-lacks : {k : Lack} → Lacks k ≡ read_text l p → Refused (fault_in Address p k) ≡ start_of l p
+    pub start-lacks : {k : Lack} → Err k ≡ read_text l p → Err (fault_in Address p k) ≡ start_of l p
     start-lacks e = ap (start_by l p) e ∙ start-text
 
     module _ {n used : ℕ} (e : Found n used ≡ read_text l p) where
@@ -55,13 +56,13 @@ module _ (l : List ℕ) (p : ℕ) where
       start-bundle f b = rw (← start-text, ← e, ne_eqb (get_or l 0 0) message_kind f, b)
 
       -- any other text is refused
-      pub start-other : (get_or l 0 0 ≡ message_kind → ⊥) → same_bytes (take n l) bundle_word ≡ false → Refused faults.BadStart ≡ start_of l p
+      pub start-other : (get_or l 0 0 ≡ message_kind → ⊥) → same_bytes (take n l) bundle_word ≡ false → Err faults.BadStart ≡ start_of l p
       start-other f b = rw (← start-text, ← e, ne_eqb (get_or l 0 0) message_kind f, b)
 
   -- ---- the start of a packet that was accepted
 
   module _ (a : StartAccepted (start_of l p)) where
-    not-refused : {k : Fault} → Refused k ≡ start_of l p → ⊥
+    not-refused : {k : Fault} → Err k ≡ start_of l p → ⊥
     not-refused e = subst StartAccepted (sym e) a
 
     -- it has a byte
@@ -73,8 +74,8 @@ module _ (l : List ℕ) (p : ℕ) where
     accepted-text = by-text (read_text l p) refl
       where
         by-text : (t : Text) → t ≡ read_text l p → TextFound l p
-        by-text (Found n used) e = (n, used, sym e)
-        by-text (Lacks k) e = absurd (not-refused (start-lacks accepted-some e))
+        by-text (Ok text) e = (text.length, text.used, sym e)
+        by-text (Err k) e = absurd (not-refused (start-lacks accepted-some e))
 
     -- where no '/' leads it, it is "#bundle"
     pub accepted-bundle : {n used : ℕ} → Found n used ≡ read_text l p → (get_or l 0 0 ≡ message_kind → ⊥) → Bundle used ≡ start_of l p
@@ -88,7 +89,7 @@ module _ (l : List ℕ) (p : ℕ) where
 abbrev pub StartIn : ℕ → Start → Type 0
 StartIn m (Message n used) = (n < used) × (used ≤ m)
 StartIn m (Bundle used) = (0 < used) × (used ≤ m)
-StartIn m (Refused k) = Unit {0}
+StartIn m (Err k) = Unit {0}
 
 -- what a packet starts with lies in it
 pub start-within : (l : List ℕ) (p : ℕ) → StartIn (length l) (start_of l p)
@@ -96,11 +97,11 @@ unfolding start_of
 start-within l p = by-test (StartIn (length l)) (eqb (length l) 0) (λ _. tt) (λ _. by-found (read_text l p) refl)
   where
     by-found : (t : Text) → t ≡ read_text l p → StartIn (length l) (start_by l p t)
-    by-found (Lacks k) e = tt
-    by-found (Found n used) e =
+    by-found (Err k) e = tt
+    by-found (Ok text) e =
         let w = found_in l p e in
         by-test (StartIn (length l)) (eqb (get_or l 0 0) message_kind) (λ _. (w.0, w.1))
-        (λ _. by-test (StartIn (length l)) (same_bytes (take n l) bundle_word) (λ _. (omega arith, w.1)) (λ _. tt))
+        (λ _. by-test (StartIn (length l)) (same_bytes (take text.length l) bundle_word) (λ _. (omega arith, w.1)) (λ _. tt))
 
 -- an address lies in its packet
 pub message-start-in : {n used : ℕ} (l : List ℕ) (p : ℕ) → Message n used ≡ start_of l p → (n < used) × (used ≤ length l)
@@ -114,7 +115,7 @@ bundle-start-in l p e = subst (StartIn (length l)) (sym e) (start-within l p)
 abbrev StartText : List ℕ → ℕ → Start → Type 0
 StartText l p (Message n used) = Found n used ≡ read_text l p
 StartText l p (Bundle used) = Found 7 used ≡ read_text l p
-StartText l p (Refused k) = Unit {0}
+StartText l p (Err k) = Unit {0}
 
 -- ---- two lists that are the same
 
@@ -139,12 +140,12 @@ unfolding start_of
 all-texts l p = by-test (StartText l p) (eqb (length l) 0) (λ _. tt) (λ _. by-found (read_text l p) refl)
   where
     by-found : (t : Text) → t ≡ read_text l p → StartText l p (start_by l p t)
-    by-found (Lacks k) e = tt
-    by-found (Found n used) e =
+    by-found (Err k) e = tt
+    by-found (Ok text) e =
         by-test (StartText l p) (eqb (get_or l 0 0) message_kind) (λ _. e)
-        (λ _. by-test (StartText l p) (same_bytes (take n l) bundle_word)
+        (λ _. by-test (StartText l p) (same_bytes (take text.length l) bundle_word)
         (λ b. let w = found_in l p e in
-        let m : n ≡ 7 = omega (arith, same_long (take n l) bundle_word b, length-take n l) in rw m at e)
+        let m : text.length ≡ 7 = omega (arith, same_long (take text.length l) bundle_word b, length-take text.length l) in rw m at e)
         (λ _. tt))
 
 -- the address of a message is a text that was found
@@ -155,19 +156,6 @@ message-text l p e = subst (StartText l p) (sym e) (all-texts l p)
 pub bundle-text : {used : ℕ} (l : List ℕ) (p : ℕ) → Bundle used ≡ start_of l p → Found 7 used ≡ read_text l p
 bundle-text l p e = subst (StartText l p) (sym e) (all-texts l p)
 
-module _ (a b : List ℕ) (i : ℕ) (h : i < length a) (k : i < length b) where
-  -- one byte more that is the same
-  pub same-on : get_or a i 0 ≡ get_or b i 0 → same_bytes (drop i a) (drop i b) ≡ same_bytes (drop (i + 1) a) (drop (i + 1) b)
-  same-on e = rw (drop-cons a i 0, drop-cons b i 0, eq-eqb (get_or a i 0) (get_or b i 0) e, add-one)
-
-  -- a byte that differs
-  pub same_not : (get_or a i 0 ≡ get_or b i 0 → ⊥) → same_bytes (drop i a) (drop i b) ≡ false
-  same_not e = rw (drop-cons a i 0, drop-cons b i 0, ne_eqb (get_or a i 0) (get_or b i 0) e)
-
--- nothing is left of both
-pub same_end : (a b : List ℕ) (i : ℕ) → length a ≤ i → length b ≤ i → same_bytes (drop i a) (drop i b) ≡ true
-same_end a b i h k = rw (drop_of_length-le a h, drop_of_length-le b k)
-
--- `&l[0..n]` is "#bundle"
-pub is_word : {r : Bool} (l : List ℕ) (n : ℕ) → r ≡ same_bytes (take (n - 0) (drop 0 l)) bundle_word → same_bytes (take n l) bundle_word ≡ r
-is_word l n e = rw sub-zero at (sym e)
+-- what `==` of a first text and "#bundle" answers
+pub is_word : {r : Bool} (l w : List ℕ) → w ≡ bundle_word → r ≡ pointwise nat_eq l w → same_bytes l bundle_word ≡ r
+is_word {r} l w e d = rw (← e) (sym (is_same r l w (slice_eq-Decides Decides-eqb l w r d)))

@@ -1,5 +1,5 @@
 -- The own numbers of a packet: a message's and a bundle's, and where it begins.
-use mathlib.Core.Path.{◌≡◌, refl, ap, sym, ◌∙◌, subst}
+use mathlib.Core.Path.{◌≡◌, refl, ap, sym, subst}
 use mathlib.Core.List.{List}
 use Prim.Native.Nat.{ℕ, ◌+◌}
 use lib.ListN.{length, take, drop}
@@ -7,15 +7,15 @@ use Rattle.wire.proofs.Choices.{by_le}
 use Rattle.node.specs.Forest.{Forest}
 use Rattle.node.specs.declared.record.Item.{Item}
 use Rattle.text.specs.Text.{read_text}
-use Rattle.text.specs.declared.Text.{Text}
-use Rattle.text.specs.declared.Text.TheVariants.{Found, Lacks}
+use Rattle.packet.specs.Results.{Start}
+use Rattle.std.specs.Prelude.{Err, Ok}
+use Rattle.text.specs.Results.{Text}
+use Rattle.packet.specs.Results as start
 use Rattle.arguments.specs.Arguments.{Args, refused, args, read_args}
 use Rattle.heads.specs.Heads.{tags_in, message_item, bundle_item}
 use Rattle.packet.specs.FirstText.{start_of}
 use Rattle.packet.specs.Packet.{Out, fault, one, Elements, upto, after, message_with, types_then, read_message, bundle_with, bundle_by}
 use Rattle.packet.specs.Packet.{started_by, packet_by, read_packet, read_elements, read_bundle}
-use Rattle.packet.specs.declared.Start.{Start}
-use Rattle.packet.specs.declared.Start.TheVariants as start
 use Rattle.packet.proofs.Knot.{packet-eq}
 
 -- a packet that is accepted has these own numbers
@@ -37,10 +37,10 @@ unfolding read_message
 message-item base item l p = by-text (read_text l p)
   where
     by-text : (t : Text) → HasItem item (types_then base item l p t)
-    by-text (Lacks k) = tt
-    by-text (Found m used) =
-        let o = read_args base (tags_in (take m l)) (drop used l) (p + used) in
-        item-after item used (message_with item o) (item-with item o)
+    by-text (Err k) = tt
+    by-text (Ok text) =
+        let o = read_args base (tags_in (take text.length l)) (drop text.used l) (p + text.used) in
+        item-after item text.used (message_with item o) (item-with item o)
 
 item-elements : (item : Item) (k : Elements) → HasItem item (bundle_with item k)
 item-elements item (upto f u) = refl
@@ -71,7 +71,7 @@ unfolding packet_by read_bundle
 packet-starts base l p = subst (HasStart (base + p)) (sym (packet-eq base l p)) (by-start (start_of l p))
   where
     by-start : (s : Start) → HasStart (base + p) (started_by base (λ m q. read_elements base m q) l p s)
-    by-start (start.Refused k) = tt
+    by-start (Err k) = tt
     by-start (start.Message n used) =
         let item = message_item (base + p) n in
         start-after (base + p) used (read_message base item (drop used l) (p + used))

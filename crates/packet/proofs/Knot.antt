@@ -16,10 +16,9 @@ use Rattle.packet.specs.Packet.{Out, fault, one, Elements, after, read_message, 
 use Rattle.packet.specs.Packet.{filling, held_by, element_by}
 use Rattle.packet.specs.Packet.{joined, go_on, elements_by, started_by, packet_by, packet_at, elements_at, read_packet, read_elements}
 use Rattle.packet.specs.Packet.{read_bundle, read_element}
-use Rattle.packet.specs.declared.Start.{Start}
-use Rattle.packet.specs.declared.Start.TheVariants.{Message, Bundle, Refused}
-use Rattle.heads.specs.declared.ElementSize.{ElementSize}
-use Rattle.heads.specs.declared.ElementSize.TheVariants as size
+use Rattle.heads.specs.Results.{ElementSize}
+use Rattle.packet.specs.Results.{Bundle, Message, Start}
+use Rattle.std.specs.Prelude.{Err, None, Some}
 
 -- two rules agree on what is shorter than l
 abbrev Agree : {A : Type 0} → (List ℕ → ℕ → A) → (List ℕ → ℕ → A) → List ℕ → Type 0
@@ -34,8 +33,8 @@ bundle-cong start es es' l p e =
     ap (λ (k : Elements). cond (leb 8 (length l)) (bundle_with (bundle_item start l) k) (fault (Short Head p))) e
 
 held-cong : (pk pk' : List ℕ → ℕ → Out) (l : List ℕ) (p : ℕ) (s : ElementSize) → Agree pk pk' l → held_by pk l p s ≡ held_by pk' l p s
-held-cong pk pk' l p (size.Holds n) h = ap (filling n) (h _ _ (omega (arith, length-take n (drop 4 l), length-drop 4 l)))
-held-cong pk pk' l p size.RunsOut h = refl
+held-cong pk pk' l p (Some n) h = ap (filling n) (h _ _ (omega (arith, length-take n (drop 4 l), length-drop 4 l)))
+held-cong pk pk' l p None h = refl
 
 on-cong : (es es' : List ℕ → ℕ → Elements) (l : List ℕ) (p : ℕ) (o : Out) → Agree es es' l → go_on es l p o ≡ go_on es' l p o
 on-cong es es' l p (fault k) h = refl
@@ -54,7 +53,7 @@ module _ (base : ℕ) where
   start-cong es es' l p (Bundle used) h =
       ap (after used)
       (bundle-cong (base + p) es es' (drop used l) (p + used) (h _ _ (omega (arith, length-drop 8 (drop used l), length-drop used l))))
-  start-cong es es' l p (Refused k) h = refl
+  start-cong es es' l p (Err k) h = refl
 
   packet-cong : (es es' : List ℕ → ℕ → Elements) (l : List ℕ) (p : ℕ) → Agree es es' l → packet_by base es l p ≡ packet_by base es' l p
   unfolding packet_by
@@ -130,17 +129,17 @@ module _ (base : ℕ) where
     starts-bundle e = started e
 
     -- a packet that is refused by what it starts with
-    pub starts-refused : {k : Fault} → Refused k ≡ start_of l p → read_packet base l p ≡ fault k
+    pub starts-refused : {k : Fault} → Err k ≡ start_of l p → read_packet base l p ≡ fault k
     starts-refused e = started e
 
     -- ---- an element by its size
 
     -- an element holds one packet
-    pub element-holds : {n : ℕ} → size.Holds n ≡ size_of l → read_element base l p ≡ filling n (read_packet base (take n (drop 4 l)) (p + 4))
+    pub element-holds : {n : ℕ} → Some n ≡ size_of l → read_element base l p ≡ filling n (read_packet base (take n (drop 4 l)) (p + 4))
     unfolding read_element element_by
     element-holds e = ap (held_by (λ m q. read_packet base m q) l p) (sym e)
 
     -- an element that is not all there
-    pub element-runs-out : size.RunsOut ≡ size_of l → read_element base l p ≡ fault (Short Head p)
+    pub element-runs-out : None ≡ size_of l → read_element base l p ≡ fault (Short Head p)
     unfolding read_element element_by
     element-runs-out e = ap (held_by (λ m q. read_packet base m q) l p) (sym e)

@@ -9,8 +9,10 @@ use Rattle.refusal.specs.declared.Field.TheVariants.{TypeText}
 use Rattle.node.specs.Forest.{Forest, size}
 use Rattle.node.specs.declared.record.Item.{Item}
 use Rattle.text.specs.Text.{read_text, fault_in}
-use Rattle.text.specs.declared.Text.{Text}
-use Rattle.text.specs.declared.Text.TheVariants.{Found, Lacks}
+use Rattle.heads.specs.Results.{ElementSize}
+use Rattle.packet.specs.Results.{Bundle, Message, Start}
+use Rattle.std.specs.Prelude.{Err, None, Some, Ok}
+use Rattle.text.specs.Results.{Found, Text}
 use Rattle.text.specs.declared.Lack.{Lack}
 use Rattle.text.proofs.Within.{found_in}
 use Rattle.arguments.specs.Arguments.{Args, refused, args, read_args}
@@ -22,10 +24,6 @@ use Rattle.packet.specs.Packet.{Out, fault, one, Elements, upto, after, message_
 use Rattle.packet.specs.Packet.{bundle_with, bundle_by}
 use Rattle.packet.specs.Packet.{filling, held_by, element_by, joined, go_on, elements_by, started_by, packet_by, packet_at, elements_at}
 use Rattle.packet.specs.Packet.{read_packet, read_elements, read_element, used_by, trees_in}
-use Rattle.packet.specs.declared.Start.{Start}
-use Rattle.packet.specs.declared.Start.TheVariants.{Message, Bundle, Refused}
-use Rattle.heads.specs.declared.ElementSize.{ElementSize}
-use Rattle.heads.specs.declared.ElementSize.TheVariants as sizes
 use Rattle.heads.proofs.Heads.{SizeIn, size-within, tags-few}
 use Rattle.packet.proofs.FirstText.{StartIn, start-within}
 
@@ -60,7 +58,7 @@ module _ (base : ℕ) (item : Item) (l : List ℕ) (p : ℕ) where
   types-found e = sym (ap (types_then base item l p) e)
 
   -- a message whose type text is lacking
-  pub types-lack : {k : Lack} → Lacks k ≡ read_text l p → read_message base item l p ≡ fault (fault_in TypeText p k)
+  pub types-lack : {k : Lack} → Err k ≡ read_text l p → read_message base item l p ≡ fault (fault_in TypeText p k)
   unfolding read_message
   types-lack e = sym (ap (types_then base item l p) e)
 
@@ -68,15 +66,15 @@ module _ (base : ℕ) (item : Item) (l : List ℕ) (p : ℕ) where
   message-in = by-text (read_text l p) refl
     where
       by-text : (t : Text) → t ≡ read_text l p → Within (length l) (read_message base item l p)
-      by-text (Lacks k) e = rw (types-lack e) tt
-      by-text (Found m used) e =
+      by-text (Err k) e = rw (types-lack e) tt
+      by-text (Ok text') e =
           let w = found_in l p e in
-          let text = take m l in
+          let text = take text'.length l in
           let tags = tags_in text in
           rw (types-found e)
-          (arguments-in item (length tags) used (length (drop used l)) (length l) (read_args base tags (drop used l) (p + used))
-          (omega (arith, tags-few text, length-take m l)) (omega (arith, length-drop used l))
-          (kept-few base tags (drop used l) (p + used)) (λ f v e. args-within base tags (drop used l) (p + used) e))
+          (arguments-in item (length tags) text'.used (length (drop text'.used l)) (length l) (read_args base tags (drop text'.used l) (p + text'.used))
+          (omega (arith, tags-few text, length-take text'.length l)) (omega (arith, length-drop text'.used l))
+          (kept-few base tags (drop text'.used l) (p + text'.used)) (λ f v e. args-within base tags (drop text'.used l) (p + text'.used) e))
 
 bundle-with-in : (item : Item) (k : Elements) (m : ℕ) → 8 ≤ m → ElementsIn (m - 8) k → Within m (bundle_with item k)
 bundle-with-in item (upto f u) m h w = omega arith
@@ -96,7 +94,7 @@ module _ (base : ℕ) where
   started-in es l p (Bundle used) h w =
       after-in used (length l) (bundle_by (base + p) es (drop used l) (p + used)) w.1
       (rw length-drop at (bundle-by-in (base + p) es (drop used l) (p + used) (h _ _)))
-  started-in es l p (Refused k) h w = tt
+  started-in es l p (Err k) h w = tt
 
   packet-by-in : (es : List ℕ → ℕ → Elements) (l : List ℕ) (p : ℕ) → ((m : List ℕ) (q : ℕ) → ElementsIn (length m) (es m q))
       → Within (length l) (packet_by base es l p)
@@ -111,9 +109,9 @@ filling-in n j m (one item f u) h g w = omega arith
 
 held_in : (pk : List ℕ → ℕ → Out) (l : List ℕ) (p : ℕ) (s : ElementSize) → ((m : List ℕ) (q : ℕ) → Within (length m) (pk m q))
     → SizeIn (length l) s → Within (length l - 4) (held_by pk l p s)
-held_in pk l p (sizes.Holds n) h w =
+held_in pk l p (Some n) h w =
     filling-in n _ (length l - 4) (pk (take n (drop 4 l)) (p + 4)) (omega (arith, length-take n (drop 4 l))) (omega arith) (h _ _)
-held_in pk l p sizes.RunsOut h w = tt
+held_in pk l p None h w = tt
 
 element-by-in : (pk : List ℕ → ℕ → Out) (l : List ℕ) (p : ℕ) → ((m : List ℕ) (q : ℕ) → Within (length m) (pk m q))
     → Within (length l - 4) (element_by pk l p)

@@ -1,3 +1,4 @@
 pub mod CodeStart
 pub mod FirstText
 pub mod Packet
+pub mod Results

@@ -1,22 +1,20 @@
 -- Packets, messages, bundles and elements: document 01, "How bytes are read", rules 2 and 5. What a packet starts with: FirstText.antt.
 -- A rule reads at the front of l, which stands at position p of its frame; `base` is added to a position to give an offset.
 -- A rule that reads contained packets is given the rule for them; the knot is tied once, at the end, by the number of bytes.
-use Rattle.std.specs.Prelude.{cond, List, ℕ, zero, suc, ◌+◌, leb, length, take, drop}
+use Rattle.std.specs.Prelude.{cond, List, ℕ, zero, suc, ◌+◌, leb, length, take, drop, Err, None, Some, Ok}
 use Rattle.refusal.specs.declared.Fault.{Fault}
 use Rattle.refusal.specs.declared.Fault.TheVariants.{Empty, Short}
 use Rattle.refusal.specs.declared.Field.TheVariants.{TypeText, Head}
 use Rattle.node.specs.Forest.{Forest, nil, node}
 use Rattle.node.specs.declared.record.Item.{Item}
 use Rattle.text.specs.Text.{read_text, fault_in}
-use Rattle.text.specs.declared.Text.{Text}
-use Rattle.text.specs.declared.Text.TheVariants.{Found, Lacks}
+use Rattle.heads.specs.Results.{ElementSize}
+use Rattle.packet.specs.Results.{Start}
+use Rattle.text.specs.Results.{Text}
+use Rattle.packet.specs.Results as start
 use Rattle.arguments.specs.Arguments.{Args, refused, args, read_args}
 use Rattle.heads.specs.Heads.{tags_in, size_of, message_item, bundle_item}
 use Rattle.packet.specs.FirstText.{start_of}
-use Rattle.packet.specs.declared.Start.{Start}
-use Rattle.packet.specs.declared.Start.TheVariants as start
-use Rattle.heads.specs.declared.ElementSize.{ElementSize}
-use Rattle.heads.specs.declared.ElementSize.TheVariants as size
 
 -- what a packet is read as: one node and how many bytes it took; or the fault
 pub data Out : Type 0 where
@@ -41,8 +39,8 @@ message_with item (args kept used) = one item kept used
 
 -- the type text, then the data
 abbrev pub types_then : ℕ → Item → List ℕ → ℕ → Text → Out
-types_then base item l p (Lacks lack) = fault (fault_in TypeText p lack)
-types_then base item l p (Found m used) = after used (message_with item (read_args base (tags_in (take m l)) (drop used l) (p + used)))
+types_then base item l p (Err lack) = fault (fault_in TypeText p lack)
+types_then base item l p (Ok text) = after text.used (message_with item (read_args base (tags_in (take text.length l)) (drop text.used l) (p + text.used)))
 
 -- what follows the address of the message with these own numbers
 unfoldable pub read_message : ℕ → Item → List ℕ → ℕ → Out
@@ -65,8 +63,8 @@ filling n (one item inside used) = one item inside n
 
 -- the bytes of an element hold one packet
 abbrev pub held_by : (List ℕ → ℕ → Out) → List ℕ → ℕ → ElementSize → Out
-held_by packet l p (size.Holds n) = filling n (packet (take n (drop 4 l)) (p + 4))
-held_by packet l p size.RunsOut = fault (Short Head p)
+held_by packet l p (Some n) = filling n (packet (take n (drop 4 l)) (p + 4))
+held_by packet l p None = fault (Short Head p)
 
 -- an element: a size and that many bytes; `used` is the size
 unfoldable pub element_by : (List ℕ → ℕ → Out) → List ℕ → ℕ → Out
@@ -91,7 +89,7 @@ elements_by packet elements l p = go_on elements l p (element_by packet l p)
 abbrev pub started_by : ℕ → (List ℕ → ℕ → Elements) → List ℕ → ℕ → Start → Out
 started_by base elements l p (start.Message n used) = after used (read_message base (message_item (base + p) n) (drop used l) (p + used))
 started_by base elements l p (start.Bundle used) = after used (bundle_by (base + p) elements (drop used l) (p + used))
-started_by base elements l p (start.Refused k) = fault k
+started_by base elements l p (Err k) = fault k
 
 -- a packet
 unfoldable pub packet_by : ℕ → (List ℕ → ℕ → Elements) → List ℕ → ℕ → Out

@@ -12,39 +12,33 @@ pub use results::Portion;
 // `table`.
 //
 // Ruled out: a frame that is not all there dropped; the bytes of a frame that was read kept, so that it is read again.
-pub fn read_portion(bytes: &[u8], table: &mut [u8], depth: usize) -> Portion
+pub fn read_portion(bytes: &[u8], table: &mut [u8], depth: usize) -> Result<Portion, Refusal>
     ensures { Steps bytes.now table.old depth result table.new }
 {
     let length = bytes.len();
-    match decoder::decode_tcp_vec(Edition::Standard, bytes, table, depth) {
-        Decoded::Packets { count, left, dirty } => {
-            Portion::Read {
-                count,
-                used: length - left,
-                dirty,
-            }
-        }
-        Decoded::Waiting => {
-            Portion::Read {
-                count: 0,
-                used: 0,
-                dirty: 0,
-            }
-        }
-        Decoded::Refused(refusal) => Portion::Refused(refusal),
+    let decoded = decoder::decode_tcp_vec(Edition::Standard, bytes, table, depth)?;
+    match decoded {
+        Decoded::Packets { count, left, dirty } => Ok(Portion::Read {
+            count,
+            used: length - left,
+            dirty,
+        }),
+        Decoded::Waiting => Ok(Portion::Read {
+            count: 0,
+            used: 0,
+            dirty: 0,
+        }),
         Decoded::Stopped {
             count,
             left: _,
             dirty,
             refusal,
             frame,
-        } => {
-            Portion::Ended {
-                count,
-                used: frame,
-                dirty,
-                refusal,
-            }
-        }
+        } => Ok(Portion::Ended {
+            count,
+            used: frame,
+            dirty,
+            refusal,
+        }),
     }
 }

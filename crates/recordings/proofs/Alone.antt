@@ -1,11 +1,13 @@
 -- A cue is the same cue without the bytes after it, and `decode_tcp` gives it.
-use mathlib.Core.Path.{◌≡◌, refl, ap, subst, ◌∙◌}
+use mathlib.Core.Path.{◌≡◌, ap, subst, ◌∙◌}
 use mathlib.Core.List.{List}
 use Prim.Native.Nat.{ℕ, ◌+◌, ◌-◌, ◌≤◌}
 use native.Mathlib.Omega.{arith}
 use borrow.Author.Tests.{le-leb}
 use lib.ListN.{length, take}
 use lib.Seq.{length-take-le}
+use Rattle.wire.proofs.Payloads.{ok-is, some-is}
+use Rattle.cues.specs.declared.cue.JudgedFrame.{JudgedFrame}
 use Rattle.wire.specs.Limits.{longest, deepest}
 use Rattle.wire.proofs.Choices.{by_le}
 use Rattle.node.specs.Forest.{Forest, nil, node, size}
@@ -18,9 +20,9 @@ use Rattle.folding.proofs.Settled.{GivenAlone, given-alone}
 use Rattle.rosc_inputs.proofs.Totals.{one-tree, one_size}
 use Rattle.standard_inputs.proofs.Cuts.{Shallow, cut-shallow}
 use Rattle.answering.specs.Limits.{decoded}
-use Rattle.results.specs.declared.Decoded.TheVariants.{Packets}
+use Rattle.results.specs.Results.{Packets}
+use Rattle.cues.specs.Results as cue
 use Rattle.cues.specs.Cues.{most_in_a_cue, judged_cue, cue_of}
-use Rattle.cues.specs.declared.cue.Cue.TheVariants as cue
 use Rattle.cues.proofs.Cues.{cue_by}
 
 -- `decode_tcp` gives the packet of a frame that is given from all of its bytes, with room for its records
@@ -59,8 +61,9 @@ module _ (l : List ℕ) (u c : ℕ) (h : u ≤ length l) where
   by-frame (read (fault k)) a q = let z : ◌≡◌ {A = ℕ} 0 1 = cc in absurd (omega arith)
   by-frame (read (one item f v)) a q =
       by_le (λ (y : Verdict ℕ). judged_cue y ≡ cue.Given u c → CueAlone l u c) (1 + size f) most_in_a_cue
-      (λ few p. let same : v ≡ u = cc in
-      let count : 1 + size f ≡ c = cc in
+      (λ few p. let judged : ◌≡◌ {A = JudgedFrame} _ _ = some-is (ok-is p) in
+      let same : v ≡ u = ap (λ (x : JudgedFrame). x.size) judged in
+      let count : 1 + size f ≡ c = ap (λ (x : JudgedFrame). x.records) judged in
       rw (← same, ← count) (tree-alone l item f v (omega arith) a few))
       (λ few p. let z : ◌≡◌ {A = ℕ} 0 1 = cc in absurd (omega arith)) q
   by-frame (refused k) a q = let z : ◌≡◌ {A = ℕ} 0 1 = cc in absurd (omega arith)

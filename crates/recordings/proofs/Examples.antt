@@ -28,11 +28,10 @@ use Rattle.cues.specs.Cues.{indexing, Index, index, index_of, index_answer, Inde
 use Rattle.cues.proofs.Cues.{Judges, answer_judges}
 use Rattle.cues.proofs.Steps.{stepped}
 use Rattle.cues.specs.Checks.{compared_at, compared, checked_as}
-use Rattle.results.specs.declared.Checked.TheVariants.{Fits}
-use Rattle.results.specs.declared.CueAt.TheVariants as found
-use Rattle.results.specs.declared.Decoded.TheVariants.{Packets}
+use Rattle.results.specs.Results.{Packets, Written}
+use Rattle.std.specs.Prelude.{Ok}
+use Rattle.results.specs.Results as found
 use Rattle.results.specs.declared.End.TheVariants as end
-use Rattle.results.specs.declared.Indexed.TheVariants.{Written}
 use Rattle.recordings.specs.Recordings.{WritingStep, EndToEnd, CueThere, checked_in_parts, CueFound}
 use Rattle.recordings.proofs.AnyBuffers.{any_buffers}
 use Rattle.recordings.proofs.Walks.{every_walk, walk_checks}
@@ -131,7 +130,7 @@ three-walk-checks : checked_in_parts three-parts (entry 0 ++ entry 16) ≡ check
 three-walk-checks = walk_checks three-portions three-parts _ (entry 0 ++ entry 16) three-walk
 
 -- the second cue, looked up after a check
-three-checked : checked_as three (entry 0 ++ (entry 16 ++ entry 32)) ≡ Fits 3
+three-checked : checked_as three (entry 0 ++ (entry 16 ++ entry 32)) ≡ Ok 3
 unfolding compared_at
 three-checked = rw three-index refl
 

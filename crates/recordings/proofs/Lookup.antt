@@ -13,7 +13,7 @@ use Rattle.framing.specs.Framing.{tcp2}
 use Rattle.answering.specs.Limits.{decoded}
 use Rattle.cues.specs.Cues.{longest_recording, cue_of, entry_size, entry_of, indexing, Index, index, index_of, written_of}
 use Rattle.cues.specs.Cues.{cue_offset, cue_size, cue_records, cue_in}
-use Rattle.cues.specs.declared.cue.Cue.TheVariants as cue
+use Rattle.cues.specs.Results as cue
 use Rattle.results.specs.declared.End.{End}
 use Rattle.recordings.specs.Recordings.{EndToEnd, WhereCuesLie, CueThere, EveryCue, CueFound, CheckedCue}
 use Rattle.cues.proofs.Shortest.{shortest_frame}

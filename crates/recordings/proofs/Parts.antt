@@ -1,8 +1,8 @@
 -- Ticket 5, of a program that checks an index part by part: it says what the check of all says.
-use mathlib.Core.Path.{◌≡◌, refl, ap, ap₂, sym, ◌∙◌}
+use mathlib.Core.Path.{◌≡◌, refl, ap, sym, ◌∙◌}
 use mathlib.Core.Logic.{⊎_elim}
 use mathlib.Core.List.{List, [], ◌∷◌, ◌++◌}
-use Prim.Native.Nat.{ℕ, ◌+◌, ◌*◌, ◌/◌, ◌%◌, ◌<◌, ◌≤◌}
+use Prim.Native.Nat.{ℕ, ◌/◌, ◌%◌, ◌<◌, ◌≤◌}
 use native.Mathlib.Omega.{arith}
 use lib.ListN.{length, take, drop, take-append-drop}
 use lib.Seq.{take_all, length-take-le}
@@ -10,9 +10,9 @@ use Rattle.wire.proofs.Choices.{lt-or-le}
 use Rattle.folding.specs.Folding.{joined_bytes}
 use Rattle.cues.specs.Cues.{entry_size}
 use Rattle.cues.specs.Checks.{compared, followed_by}
-use Rattle.results.specs.declared.Checked.{Checked}
+use Rattle.results.specs.Results.{Checked}
 use Rattle.cues.proofs.Checks.{check_in_parts, ends-within}
-use Rattle.recordings.specs.Recordings.{WholeRecords, checked_in_parts, EveryCheck}
+use Rattle.recordings.specs.Recordings.{checked_in_parts, EveryCheck}
 
 module _ (part : List ℕ) (whole : length part % entry_size ≡ 0) (more given : List ℕ) where
   -- the given index has as many bytes

@@ -1,6 +1,6 @@
 -- Ticket 5 of a recording of any length: its index through buffers, where the cues lie, and a cue looked up. Over the contract of the step
 -- that writes an index (crates/cues).
-use Rattle.std.specs.Prelude.{◌≡◌, List, [], ◌∷◌, ◌++◌, ℕ, suc, ◌+◌, ◌*◌, ◌/◌, ◌%◌, ◌<◌, ◌≤◌, length, take, drop}
+use Rattle.std.specs.Prelude.{◌≡◌, List, [], ◌∷◌, ◌++◌, ℕ, suc, ◌+◌, ◌*◌, ◌/◌, ◌%◌, ◌<◌, ◌≤◌, length, take, drop, Err, Ok}
 use Rattle.refusal.specs.declared.Refusal.TheVariants.{BadTable}
 use Rattle.wire.specs.Limits.{longest, deepest}
 use Rattle.framing.specs.Framing.{tcp2}
@@ -8,17 +8,12 @@ use Rattle.folding.specs.Folding.{CutAnywhere, ReadIsWhole, joined_bytes}
 use Rattle.folding.specs.Walks as walks
 use Rattle.folding.specs.Walks.{Stepping, Walk, AnyWalk}
 use Rattle.answering.specs.Limits.{decoded}
-use Rattle.results.specs.declared.Decoded.TheVariants.{Packets}
+use Rattle.results.specs.Results.{Checked, CueAnswer, Packets, Written}
+use Rattle.cues.specs.Results as cue
 use Rattle.cues.specs.Cues.{most_in_a_cue, cue_of, entry_size, longest_recording, indexing, Index, index, index_of, Indexes, IndexStep}
 use Rattle.cues.specs.Cues.{cue_offset, cue_size, cue_records, cue_in}
 use Rattle.cues.specs.Checks.{compared, checked_as, followed_by}
-use Rattle.cues.specs.declared.cue.Cue.TheVariants as cue
-use Rattle.results.specs.declared.Checked.{Checked}
-use Rattle.results.specs.declared.Checked.TheVariants.{Fits}
-use Rattle.results.specs.declared.CueAt.{CueAt}
-use Rattle.results.specs.declared.CueAt.TheVariants as found
 use Rattle.results.specs.declared.End.{End}
-use Rattle.results.specs.declared.Indexed.TheVariants.{Written}
 
 -- ---- a cut
 
@@ -112,12 +107,12 @@ EveryCue =
     → (k : ℕ) → k < length w / entry_size → CueThere l (cue_offset w k) (cue_size w k) (cue_records w k)
 
 -- what a lookup of cue k gives, in an index of n records that was checked against the recording l: a cue that is there, or 11
-abbrev pub CueFound : List ℕ → ℕ → ℕ → CueAt → Type 0
-CueFound l n k (found.At offset size records) = (k < n) × CueThere l offset size records
-CueFound l n k (found.Refused r) = (n ≤ k) × (r ≡ BadTable)
+abbrev pub CueFound : List ℕ → ℕ → ℕ → CueAnswer → Type 0
+CueFound l n k (Ok cue) = (k < n) × CueThere l cue.offset cue.size cue.records
+CueFound l n k (Err r) = (n ≤ k) × (r ≡ BadTable)
 
 -- "an index that was checked": every lookup in it gives such a cue
 abbrev pub CheckedCue : Type 0
 CheckedCue =
-    (recording given : List ℕ) (n k : ℕ) → length recording ≤ longest_recording → checked_as recording given ≡ Fits n
+    (recording given : List ℕ) (n k : ℕ) → length recording ≤ longest_recording → checked_as recording given ≡ Ok n
     → CueFound recording n k (cue_in given k)

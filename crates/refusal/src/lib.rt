@@ -3,10 +3,11 @@
 #![tactic(auto)]
 
 ghost use Rattle.std.specs.Prelude.{◌≡◌, ◌+◌, ◌^◌, ◌<◌};
+ghost use Rattle.refusal.specs.declared.Refusal.TheVariants.{Unreadable};
 ghost use Rattle.refusal.specs.Refusal.{number_of, fault_number, field_number, offset_of, fault_offset, moved_by, moved_refusal};
 
 // What was short.
-#[derive(Clone, Copy)]
+#[derive(Clone, Copy, Debug, PartialEq, Eq)]
 pub enum Field {
     // The address of a message, or a first text that is not known yet to be "#bundle".
     Address,
@@ -21,7 +22,7 @@ pub enum Field {
 }
 
 // Why bytes are not a packet. Reading gives no other refusal.
-#[derive(Clone, Copy)]
+#[derive(Clone, Copy, Debug, PartialEq, Eq)]
 pub enum Fault {
     // A packet of no bytes.
     Empty,
@@ -40,7 +41,7 @@ pub enum Fault {
 }
 
 // Why a call gives no answer.
-#[derive(Clone, Copy)]
+#[derive(Clone, Copy, Debug, PartialEq, Eq)]
 pub enum Refusal {
     // The decode input or the encoded result is over 65,535 bytes.
     TooLong,
@@ -62,6 +63,15 @@ pub enum Refusal {
     BytesLeft,
     // The length of a frame of edition 2 is no multiple of 4.
     OddLength,
+}
+
+// Bytes that are not a packet refuse the call by their fault.
+impl From<Fault> for Refusal {
+    ghost from_gives = { λ fault refusal. refusal ≡ Unreadable fault };
+
+    fn from(fault: Fault) -> Refusal {
+        Refusal::Unreadable(fault)
+    }
 }
 
 // The number of a refusal in document 01.
@@ -119,16 +129,8 @@ pub fn offset_of(refusal: Refusal) -> usize
     ensures { result ≡ offset_of refusal }
 {
     match refusal {
-        Refusal::TooLong => 0,
         Refusal::Unreadable(fault) => fault_offset(fault),
-        Refusal::TooDeep => 0,
-        Refusal::TableFull => 0,
-        Refusal::BadTable => 0,
-        Refusal::OutputShort => 0,
-        Refusal::DepthLimit => 0,
-        Refusal::PadOverflow => 0,
-        Refusal::BytesLeft => 0,
-        Refusal::OddLength => 0,
+        _ => 0,
     }
 }
 
@@ -137,13 +139,8 @@ fn fault_offset(fault: Fault) -> usize
     ensures { result ≡ fault_offset fault }
 {
     match fault {
-        Fault::Empty => 0,
-        Fault::Short { field: _, at } => at,
-        Fault::NotUtf8 => 0,
-        Fault::BadStart => 0,
-        Fault::NotOpen => 0,
-        Fault::UnknownTag => 0,
-        Fault::NotScalar => 0,
+        Fault::Short { at, .. } => at,
+        _ => 0,
     }
 }
 
@@ -155,13 +152,8 @@ pub fn moved(by: usize, fault: Fault) -> Fault
     ensures { result ≡ moved_by by fault }
 {
     match fault {
-        Fault::Empty => Fault::Empty,
         Fault::Short { field, at } => Fault::Short { field, at: by + at },
-        Fault::NotUtf8 => Fault::NotUtf8,
-        Fault::BadStart => Fault::BadStart,
-        Fault::NotOpen => Fault::NotOpen,
-        Fault::UnknownTag => Fault::UnknownTag,
-        Fault::NotScalar => Fault::NotScalar,
+        _ => fault,
     }
 }
 
@@ -173,15 +165,7 @@ pub fn moved_refusal(by: usize, refusal: Refusal) -> Refusal
     ensures { result ≡ moved_refusal by refusal }
 {
     match refusal {
-        Refusal::TooLong => Refusal::TooLong,
         Refusal::Unreadable(fault) => Refusal::Unreadable(moved(by, fault)),
-        Refusal::TooDeep => Refusal::TooDeep,
-        Refusal::TableFull => Refusal::TableFull,
-        Refusal::BadTable => Refusal::BadTable,
-        Refusal::OutputShort => Refusal::OutputShort,
-        Refusal::DepthLimit => Refusal::DepthLimit,
-        Refusal::PadOverflow => Refusal::PadOverflow,
-        Refusal::BytesLeft => Refusal::BytesLeft,
-        Refusal::OddLength => Refusal::OddLength,
+        _ => refusal,
     }
 }

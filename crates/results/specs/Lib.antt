@@ -1,2 +1,3 @@
 pub mod Differs
 pub mod Ends
+pub mod Results

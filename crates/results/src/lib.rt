@@ -3,8 +3,8 @@
 
 use refusal::Refusal;
 
-// What a decoder answers.
-#[derive(Clone, Copy)]
+// What a decoder answers, where the call is not refused.
+#[derive(Clone, Copy, Debug, PartialEq, Eq)]
 pub enum Decoded {
     // Of one packet or of a list of packets: records written, input bytes left over, and how many bytes of the padding of all that is kept
     // are not zero.
@@ -15,7 +15,6 @@ pub enum Decoded {
     },
     // The first frame is not all there: nothing was read.
     Waiting,
-    Refused(Refusal),
     // Of an edition 2 list: the records of the packets before a refused frame, which are written, the bytes from its prefix on, their dirty
     // padding, why the frame is refused, and the offset of its prefix.
     Stopped {
@@ -27,8 +26,8 @@ pub enum Decoded {
     },
 }
 
-// What a step over the bytes of a stream answers.
-#[derive(Clone, Copy)]
+// What a step over the bytes of a stream answers, where the call is not refused.
+#[derive(Clone, Copy, Debug, PartialEq, Eq)]
 pub enum Portion {
     // The packets of every whole frame: records written, the bytes that those frames take, and their dirty padding. The bytes from `used`
     // on are to be kept: what comes next stands after them.
@@ -44,11 +43,10 @@ pub enum Portion {
         dirty: usize,
         refusal: Refusal,
     },
-    Refused(Refusal),
 }
 
 // Why an index goes no further.
-#[derive(Clone, Copy)]
+#[derive(Clone, Copy, Debug, PartialEq, Eq)]
 pub enum End {
     // The recording has no byte more.
     Whole,
@@ -58,46 +56,28 @@ pub enum End {
     Refused(Refusal),
 }
 
-// What a step over the bytes of a recording answers.
-#[derive(Clone, Copy)]
-pub enum Indexed {
-    // So many records were written, for the first `used` bytes, and why no more.
-    Written {
-        records: usize,
-        used: usize,
-        end: End,
-    },
-    Refused(Refusal),
+// What a step over the bytes of a recording has written: so many records for the first `used` bytes, and why no more.
+#[derive(Clone, Copy, Debug, PartialEq, Eq)]
+pub struct Indexed {
+    pub records: usize,
+    pub used: usize,
+    pub end: End,
+}
+
+// An index differs from the one that is written afresh: in the record `at`, from 0, which is another, is missing or is one too many. A part
+// of a record counts as one.
+#[derive(Clone, Copy, Debug, PartialEq, Eq)]
+pub struct IndexDiffers {
+    pub at: usize,
 }
 
 // The number of the refusal of an index that differs; which record differs stands beside it.
 pub const INDEX_DIFFERS: u8 = 25;
 
-// What a check answers.
-#[derive(Clone, Copy)]
-pub enum Checked {
-    // The index is the one written afresh: so many records.
-    Fits(usize),
-    // The first record that differs, is missing or is one too many, from 0; a part counts as one.
-    Differs(usize),
-}
-
-// What a record of an index says.
-#[derive(Clone, Copy)]
-pub enum CueAt {
-    // Where the frame's prefix stands, its length without the prefix, and the records of its table.
-    At {
-        offset: u64,
-        size: u32,
-        records: u32,
-    },
-    Refused(Refusal),
-}
-
-// What an encoder answers.
-#[derive(Clone, Copy)]
-pub enum Encoded {
-    // The number of bytes written.
-    Written(usize),
-    Refused(Refusal),
+// What a record of an index says: where the frame's prefix stands, its length without the prefix, and the records of its table.
+#[derive(Clone, Copy, Debug, PartialEq, Eq)]
+pub struct CueAt {
+    pub offset: u64,
+    pub size: u32,
+    pub records: u32,
 }

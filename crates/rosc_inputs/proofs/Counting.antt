@@ -24,8 +24,8 @@ use Rattle.framing.proofs.FrameKnot.{FrameIn}
 use Rattle.framing.proofs.FrameStarts.{FrameStarts}
 use Rattle.framing.proofs.Lists as lists
 use Rattle.rosc_inputs.specs.CodeTotals.{total_of, added}
-use Rattle.rosc_inputs.specs.declared.Total.{Total}
-use Rattle.rosc_inputs.specs.declared.Total.TheVariants as total
+use Rattle.rosc_inputs.specs.Results.{Total}
+use Rattle.rosc_inputs.specs.Results as total
 use Rattle.rosc_inputs.proofs.FrameExtents.{total-before, added_none, added_more, added-deep, no-trees, dirt-before}
 
 -- ---- the next frame

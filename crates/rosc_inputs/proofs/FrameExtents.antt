@@ -19,36 +19,35 @@ use Rattle.heads.specs.declared.Prefix.TheVariants as prefix
 use Rattle.argument.specs.Dirt.{packets_padding, dirty_in}
 use Rattle.argument.proofs.Pads.{packets-join}
 use Rattle.measure.specs.CodeMeasure.{extent, node_dirt}
-use Rattle.measure.specs.declared.Extent.{Extent}
-use Rattle.measure.specs.declared.Extent.TheVariants.{Deep, Refused}
+use Rattle.measure.specs.Results.{Extent}
+use Rattle.rosc_inputs.specs.Results.{Total}
+use Rattle.std.specs.Prelude.{Err, None, Some}
+use Rattle.rosc_inputs.specs.Results as total
 use Rattle.measure.proofs.Extents.{extent-after, max-low}
 use Rattle.framing.specs.Framing.{Whole, trees, waiting, refusal, stopped, frame_with, read_frame}
 use Rattle.framing.specs.Framing.{before}
 use Rattle.rosc_inputs.specs.CodeTotals.{frame_extent, total_of, added}
-use Rattle.rosc_inputs.specs.declared.FrameExtent.TheVariants.{Waiting, Packet}
-use Rattle.rosc_inputs.specs.declared.Total.{Total}
-use Rattle.rosc_inputs.specs.declared.Total.TheVariants as total
 
 -- ---- one frame
 
 module _ (base : ℕ) (l : List ℕ) where
   -- a frame that is ready has the extent of its packet, which stands at 4
   pub frame-ready : {r : Extent} (limit : ℕ) (dirt : Item → Forest → ℕ) (rest : List ℕ) → prefix.Ready ≡ prefix_of l → rest ≡ drop 4 l
-      → r ≡ extent limit 4 dirt (read_packet base rest 4) → Packet r ≡ frame_extent limit dirt (read_frame base l)
+      → r ≡ extent limit 4 dirt (read_packet base rest 4) → Some r ≡ frame_extent limit dirt (read_frame base l)
   unfolding read_frame
   frame-ready {r} limit dirt rest e s g =
       let is : r ≡ extent limit 4 dirt (read_packet base (drop 4 l) 4) = rw s at g in
-      ap Packet (is ∙ extent-after limit 0 4 dirt (read_packet base (drop 4 l) 4)) ∙ ap (λ x. frame_extent limit dirt (frame_with base l x)) e
+      ap Some (is ∙ extent-after limit 0 4 dirt (read_packet base (drop 4 l) 4)) ∙ ap (λ x. frame_extent limit dirt (frame_with base l x)) e
 
   -- a frame that is not all there waits
   pub frame_waits : (limit : ℕ) (dirt : Item → Forest → ℕ) → prefix.Waiting ≡ prefix_of l
-      → Waiting ≡ frame_extent limit dirt (read_frame base l)
+      → None ≡ frame_extent limit dirt (read_frame base l)
   unfolding read_frame
   frame_waits limit dirt e = ap (λ x. frame_extent limit dirt (frame_with base l x)) e
 
   -- a prefix that is not all there is refused
   pub frame-runs-out : (limit : ℕ) (dirt : Item → Forest → ℕ) → prefix.RunsOut ≡ prefix_of l
-      → Packet (Refused (Short Head 0)) ≡ frame_extent limit dirt (read_frame base l)
+      → Some (Err (Short Head 0)) ≡ frame_extent limit dirt (read_frame base l)
   unfolding read_frame extent
   frame-runs-out limit dirt e = ap (λ x. frame_extent limit dirt (frame_with base l x)) e
 
@@ -64,7 +63,7 @@ unfolding size depth
 total-before limit dirt item f d e waiting =
     by-test (λ (x : Total). total.Waiting ≡ x) (leb (level item.kind (depth f)) limit) (λ _. refl) (λ _. refl)
 total-before limit dirt item f d e (refusal j) =
-    by-test (λ (x : Total). total.Refused j ≡ x) (leb (level item.kind (depth f)) limit) (λ _. refl) (λ _. refl)
+    by-test (λ (x : Total). Err j ≡ x) (leb (level item.kind (depth f)) limit) (λ _. refl) (λ _. refl)
 total-before limit dirt item f d e (trees g left) =
     by_le (λ (x : Total). total_of limit dirt (trees (node item f g) left) ≡ x) (level item.kind (depth f)) limit
     (λ h. rw (max-low (level item.kind (depth f)) (depth g) limit h, e g)
@@ -83,7 +82,7 @@ pub added_none : (x : Total) → added 0 0 false x ≡ x
 added_none (total.Trees n left dirty) = rw (zero-add n, zero-add dirty)
 added_none total.Deep = refl
 added_none total.Waiting = refl
-added_none (total.Refused k) = refl
+added_none (Err k) = refl
 added_none (total.Stopped n left dirty k at) = rw (zero-add n, zero-add dirty)
 
 -- frames before frames before others
@@ -94,8 +93,8 @@ added_more c d n e true total.Deep = refl
 added_more c d n e false total.Deep = refl
 added_more c d n e true total.Waiting = refl
 added_more c d n e false total.Waiting = refl
-added_more c d n e true (total.Refused k) = refl
-added_more c d n e false (total.Refused k) = refl
+added_more c d n e true (Err k) = refl
+added_more c d n e false (Err k) = refl
 added_more c d n e true (total.Stopped m left dirty k at) = refl
 added_more c d n e false (total.Stopped m left dirty k at) = rw (add_assoc c n m, add_assoc d e dirty)
 
@@ -107,8 +106,8 @@ added-deep c d n e true total.Deep = refl
 added-deep c d n e false total.Deep = refl
 added-deep c d n e true total.Waiting = refl
 added-deep c d n e false total.Waiting = refl
-added-deep c d n e true (total.Refused k) = refl
-added-deep c d n e false (total.Refused k) = refl
+added-deep c d n e true (Err k) = refl
+added-deep c d n e false (Err k) = refl
 added-deep c d n e true (total.Stopped m left dirty k at) = refl
 added-deep c d n e false (total.Stopped m left dirty k at) = refl
 

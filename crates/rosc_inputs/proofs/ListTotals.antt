@@ -19,28 +19,26 @@ use Rattle.packet.specs.Packet.{fault, one}
 use Rattle.argument.specs.Dirt.{dirty_in}
 use Rattle.argument.proofs.Pads.{dirt-few}
 use Rattle.measure.specs.CodeMeasure.{extent, node_dirt}
-use Rattle.measure.specs.declared.Extent.{Extent}
-use Rattle.measure.specs.declared.Extent.TheVariants.{Tree, Deep, Refused}
+use Rattle.measure.specs.Results.{Deep, Extent, Tree}
+use Rattle.rosc_inputs.specs.Results.{FrameExtent, Total}
+use Rattle.std.specs.Prelude.{Err, None, Some}
+use Rattle.rosc_inputs.specs.Results as total
 use Rattle.framing.specs.Framing.{Whole, Frame, wait, read, refused, read_frame, frames_at, refuses, tcp_vec}
 use Rattle.framing.proofs.FrameKnot.{FrameIn, frame-in}
 use Rattle.framing.proofs.FrameStarts.{frame-starts, Unrefused, frame-unrefused}
 use Rattle.framing.proofs.Lists as lists
 use Rattle.rosc_inputs.specs.CodeTotals.{frame_extent, total_of, added}
-use Rattle.rosc_inputs.specs.declared.FrameExtent.{FrameExtent}
-use Rattle.rosc_inputs.specs.declared.FrameExtent.TheVariants.{Waiting, Packet}
-use Rattle.rosc_inputs.specs.declared.Total.{Total}
-use Rattle.rosc_inputs.specs.declared.Total.TheVariants as total
 use Rattle.rosc_inputs.proofs.Counting as counting
 
 -- a frame that was measured lies within its input, and its dirt is small
 abbrev PacketIn : ℕ → Extent → Type 0
 PacketIn m (Tree n next x) = (n + 4 ≤ next) × (next ≤ m) × (x ≤ 6 * n)
 PacketIn m (Deep next) = (4 ≤ next) × (next ≤ m)
-PacketIn m (Refused k) = fault_offset k ≤ m
+PacketIn m (Err k) = fault_offset k ≤ m
 
 abbrev FrameExtentIn : ℕ → FrameExtent → Type 0
-FrameExtentIn m Waiting = Unit {0}
-FrameExtentIn m (Packet x) = PacketIn m x
+FrameExtentIn m None = Unit {0}
+FrameExtentIn m (Some x) = PacketIn m x
 
 frame-extent-in : (limit m base : ℕ) (msg : List ℕ) (x : Frame) → FrameIn m x → FrameExtentIn m (frame_extent limit (node_dirt base msg) x)
 unfolding extent size
@@ -69,7 +67,7 @@ Turn = counting.Turn rosc_frame refuses rosc_list frame_extent
 
 -- an empty input is refused
 pub empty-list : (limit : ℕ) (msg : List ℕ) → length msg ≡ 0
-    → total.Refused (Unreadable (Short Head 0)) ≡ total_of limit (dirty_in msg) (tcp_vec msg)
+    → Err (Unreadable (Short Head 0)) ≡ total_of limit (dirty_in msg) (tcp_vec msg)
 unfolding tcp_vec frames_at read_frame prefix_of
 empty-list limit [] h = refl
 empty-list limit (x ∷ msg) h = absurd (omega arith)
@@ -94,11 +92,11 @@ module _ (t : Turn) where
   onward_packet (Deep next) =
       added t.count t.dirt true (total_of t.limit (dirty_in t.msg)
       (lists.following (rosc_frame t.limit) refuses t.at (drop t.at t.msg) next))
-  onward_packet (Refused k) = total.Refused (Unreadable (moved_by t.at k))
+  onward_packet (Err k) = Err (Unreadable (moved_by t.at k))
 
   abbrev onward : FrameExtent → Total
-  onward Waiting = added t.count t.dirt t.deep (total.Trees 0 (length (drop t.at t.msg)) 0)
-  onward (Packet x) = onward_packet x
+  onward None = added t.count t.dirt t.deep (total.Trees 0 (length (drop t.at t.msg)) 0)
+  onward (Some x) = onward_packet x
 
   by-found : (x : Frame) → Unrefused x
       → counting.onward (rosc_frame t.limit) refuses t.limit t.at t.msg (drop t.at t.msg) t.count t.dirt t.deep x
@@ -108,8 +106,8 @@ module _ (t : Turn) where
   by-found (refused k) u = absurd u
   by-found (read (fault k)) u = added-refused t.deep
     where
-      added-refused : (b : Bool) → added t.count t.dirt b (total.Refused (Unreadable (moved_by t.at k)))
-          ≡ total.Refused (Unreadable (moved_by t.at k))
+      added-refused : (b : Bool) → added t.count t.dirt b (Err (Unreadable (moved_by t.at k)))
+          ≡ Err (Unreadable (moved_by t.at k))
       added-refused true = refl
       added-refused false = refl
   by-found (read (one item f u)) v =
@@ -122,7 +120,7 @@ module _ (t : Turn) where
       ∙ by-found (read_frame t.at l) (frame-unrefused t.at l)
       ∙ ap onward (sym (counting.found-is rosc_frame refuses rosc_list t) ∙ e)
 
-  found_in : {x : Extent} → t.found ≡ Packet x → PacketIn (length (drop t.at t.msg)) x
+  found_in : {x : Extent} → t.found ≡ Some x → PacketIn (length (drop t.at t.msg)) x
   found_in e =
       let l = drop t.at t.msg in
       subst (FrameExtentIn (length l)) (sym (counting.found-is rosc_frame refuses rosc_list t) ∙ e)
@@ -132,7 +130,7 @@ module _ (t : Turn) where
   abbrev pub TreePassed : (n used y : ℕ) → Type 0
   TreePassed n used y = counting.Passed rosc_frame refuses rosc_list t used (t.count + n) (t.dirt + y) t.deep
 
-  pub tree-passed : {n used y : ℕ} → t.found ≡ Packet (Tree n used y) → TreePassed n used y
+  pub tree-passed : {n used y : ℕ} → t.found ≡ Some (Tree n used y) → TreePassed n used y
   tree-passed {n} {used} {y} e =
       let v = found_in e in
       counting.passed rosc_frame refuses rosc_list t (omega arith) v.1 (omega (arith, t.so_far.few)) (omega (arith, v, t.so_far.clean))
@@ -142,23 +140,23 @@ module _ (t : Turn) where
   abbrev pub DeepPassed : (used : ℕ) → Type 0
   DeepPassed used = counting.Passed rosc_frame refuses rosc_list t used t.count t.dirt true
 
-  pub deep-passed : {used : ℕ} → t.found ≡ Packet (Deep used) → DeepPassed used
+  pub deep-passed : {used : ℕ} → t.found ≡ Some (Deep used) → DeepPassed used
   deep-passed e =
       let v = found_in e in
       counting.passed rosc_frame refuses rosc_list t v.0 v.1 (omega (arith, t.so_far.few)) (omega (arith, t.so_far.clean))
       (by_next e)
 
   -- at a frame that waits
-  pub waits-here : {r : Total} → t.found ≡ Waiting
+  pub waits-here : {r : Total} → t.found ≡ None
       → r ≡ added t.count t.dirt t.deep (total.Trees 0 (length t.msg - t.at) 0)
       → r ≡ total_of t.limit (dirty_in t.msg) (tcp_vec t.msg)
   waits-here e g = g ∙ sym (by_next e ∙ rw (length-drop t.at t.msg))
 
   -- the fault of a frame begins in the input or right after it
-  pub fault-low : {k : Fault} → t.found ≡ Packet (Refused k) → t.at + fault_offset k ≤ length t.msg
+  pub fault-low : {k : Fault} → t.found ≡ Some (Err k) → t.at + fault_offset k ≤ length t.msg
   fault-low e = omega (arith, found_in e, t.so_far.here, length-drop t.at t.msg)
 
   -- at a frame that is refused: its offset is added to its fault's place
-  pub refused-here : {k j : Fault} → t.found ≡ Packet (Refused k) → j ≡ moved_by t.at k
-      → total.Refused (Unreadable j) ≡ total_of t.limit (dirty_in t.msg) (tcp_vec t.msg)
+  pub refused-here : {k j : Fault} → t.found ≡ Some (Err k) → j ≡ moved_by t.at k
+      → Err (Unreadable j) ≡ total_of t.limit (dirty_in t.msg) (tcp_vec t.msg)
   refused-here e m = rw m (sym (by_next e))

@@ -14,14 +14,12 @@ use Rattle.packet.proofs.Within.{Within, packet-in}
 use Rattle.argument.specs.Dirt.{dirty_in}
 use Rattle.argument.proofs.Pads.{one-packet}
 use Rattle.measure.specs.CodeMeasure.{extent, node_dirt}
-use Rattle.measure.specs.declared.Extent.{Extent}
-use Rattle.measure.specs.declared.Extent.TheVariants.{Tree}
+use Rattle.measure.specs.Results.{Extent, Tree}
+use Rattle.rosc_inputs.specs.Results.{FrameExtent, Total}
+use Rattle.std.specs.Prelude.{None, Some}
+use Rattle.rosc_inputs.specs.Results as total
 use Rattle.framing.specs.Framing.{single, udp, Frame, wait, read, refused, read_frame, first, tcp}
 use Rattle.rosc_inputs.specs.CodeTotals.{frame_extent, total_of, EndsIn, total_of_one}
-use Rattle.rosc_inputs.specs.declared.FrameExtent.{FrameExtent}
-use Rattle.rosc_inputs.specs.declared.FrameExtent.TheVariants as frame
-use Rattle.rosc_inputs.specs.declared.Total.{Total}
-use Rattle.rosc_inputs.specs.declared.Total.TheVariants as total
 use Rattle.framing.proofs.FrameKnot.{FrameIn, frame-in}
 use Rattle.framing.proofs.FrameStarts.{StartsSo, packet-starts-so, FrameStarts, frame-starts, Unrefused, frame-unrefused}
 
@@ -57,8 +55,8 @@ udp-total limit msg e =
 
 -- the total of one frame of n bytes of input
 abbrev total_of_frame : ℕ → FrameExtent → Total
-total_of_frame n frame.Waiting = total.Waiting
-total_of_frame n (frame.Packet x) = total_of_one n x
+total_of_frame n None = total.Waiting
+total_of_frame n (Some x) = total_of_one n x
 
 total_first : (n limit base : ℕ) (msg : List ℕ) (x : Frame) → FrameStarts base x → Unrefused x
     → total_of_frame n (frame_extent limit (node_dirt base msg) x) ≡ total_of limit (dirty_in msg) (first n x)
@@ -84,8 +82,8 @@ udp-ends limit msg e = rw e (ends-in limit (length msg) (node_dirt 0 msg) (read_
 
 -- a frame ends in its input
 abbrev FrameEnds : ℕ → FrameExtent → Type 0
-FrameEnds n frame.Waiting = Unit {0}
-FrameEnds n (frame.Packet x) = EndsIn n x
+FrameEnds n None = Unit {0}
+FrameEnds n (Some x) = EndsIn n x
 
 frame_ends : (limit n : ℕ) (dirt : Item → Forest → ℕ) (x : Frame) → FrameIn n x → FrameEnds n (frame_extent limit dirt x)
 unfolding extent
@@ -99,7 +97,7 @@ pub ends-tree : {x : Extent} {count next dirty : ℕ} (n : ℕ) → x ≡ Tree c
 ends-tree n e w = subst (EndsIn n) e w
 
 -- the packet of a frame ends in its input
-pub tcp-ends : {x : Extent} (limit : ℕ) (msg : List ℕ) → frame.Packet x ≡ frame_extent limit (node_dirt 0 msg) (read_frame 0 msg)
+pub tcp-ends : {x : Extent} (limit : ℕ) (msg : List ℕ) → Some x ≡ frame_extent limit (node_dirt 0 msg) (read_frame 0 msg)
     → EndsIn (length msg) x
 tcp-ends limit msg e =
     subst (FrameEnds (length msg)) (sym e) (frame_ends limit (length msg) (node_dirt 0 msg) (read_frame 0 msg) (frame-in 0 msg))

@@ -1,1 +1,2 @@
 pub mod CodeTotals
+pub mod Results

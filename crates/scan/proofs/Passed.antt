@@ -10,6 +10,7 @@ use types.Run.{OneOf, miss}
 use denote.Enum.Declared.{tag_of}
 use Rattle.refusal.specs.declared.Fault.{Fault}
 use Rattle.refusal.specs.declared.Fault.TheVariants.{NotScalar}
+use Rattle.wire.proofs.Payloads.{ok-is}
 use Rattle.wire.specs.Number.{number}
 use Rattle.node.specs.Tags.{is_scalar}
 use Rattle.node.specs.declared.record.Item.{Item}
@@ -18,16 +19,15 @@ use Rattle.node.specs.declared.tags.Class.{Class}
 use Rattle.node.specs.declared.tags.Class.TheVariants.{Four, Eight, Bare, Text as String, Blob, Scalar, Unknown}
 use Rattle.text.specs.Text.{reach, read_text, non_zero}
 use Rattle.text.proofs.Dirt.{dirt-le}
-use Rattle.text.specs.declared.Text.{Text}
-use Rattle.text.specs.declared.Text.TheVariants.{Found, Lacks}
+use Rattle.argument.specs.Results.{Arg, Given}
+use Rattle.scan.specs.Results.{Scanned, Used}
+use Rattle.scan.specs.declared.ScannedArgs.{ScannedArgs}
+use Rattle.std.specs.Prelude.{Err, Ok}
+use Rattle.text.specs.Results.{Text}
 use Rattle.argument.specs.Argument.{read_arg, having, text_arg, arg_item}
 use Rattle.argument.specs.CodeClasses.{Checked}
 use Rattle.argument.specs.CodeParts.{between, padding_from}
 use Rattle.scan.specs.CodeScans.{used_of}
-use Rattle.argument.specs.declared.Arg.{Arg}
-use Rattle.argument.specs.declared.Arg.TheVariants.{Given, Refused}
-use Rattle.scan.specs.declared.Scanned.{Scanned}
-use Rattle.scan.specs.declared.Scanned.TheVariants.{Used}
 use Rattle.argument.proofs.Within.{Holds, arg-within}
 
 -- of an argument that is chosen by a test
@@ -39,12 +39,12 @@ used-chosen class l false x y z e = refl
 -- of an argument that is read only if n bytes are there
 used-there : (class : Class) (n : ℕ) (l : List ℕ) (k : Fault) (x y : Arg) → used_of class l x ≡ used_of class l y
     → used_of class l (having n l k x) ≡ used_of class l (having n l k y)
-used-there class n l k x y e = used-chosen class l (leb n (length l)) x y (Refused k) e
+used-there class n l k x y e = used-chosen class l (leb n (length l)) x y (Err k) e
 
 -- of a text
 used-text : (l : List ℕ) (tag o o' p : ℕ) (t : Text) → used_of String l (text_arg tag o p t) ≡ used_of String l (text_arg tag o' p t)
-used-text l tag o o' p (Found n used) = refl
-used-text l tag o o' p (Lacks k) = refl
+used-text l tag o o' p (Ok text) = refl
+used-text l tag o o' p (Err k) = refl
 
 -- how far an argument is read, its dirt and its fault are the same for any two bases
 pub any-base : (tag : ℕ) (class : Class) (base base' : ℕ) (l : List ℕ) (p : ℕ)
@@ -59,18 +59,22 @@ any-base tag Blob base base' l p =
 any-base tag Scalar base base' l p =
     used-there Scalar 4 l _ _ _
     (used-chosen Scalar l (is_scalar (number 4 l))
-    (Given (arg_item tag (base + p) (number 4 l) 0) 4) (Given (arg_item tag (base' + p) (number 4 l) 0) 4) (Refused NotScalar) refl)
+    (Given (arg_item tag (base + p) (number 4 l) 0) 4) (Given (arg_item tag (base' + p) (number 4 l) 0) 4) (Err NotScalar) refl)
 any-base tag Unknown base base' l p = refl
+
+-- two scans that are the same take and count the same
+pub args-are : {used dirty used' dirty' : ℕ} → Used used dirty ≡ Used used' dirty' → (used ≡ used') × (dirty ≡ dirty')
+args-are e = (ap (λ (x : ScannedArgs). x.used) (ok-is e), ap (λ (x : ScannedArgs). x.dirty) (ok-is e))
 
 -- how much is used of an argument that lies in its part, and how much of that is dirt
 used-from : {used dirty : ℕ} (class : Class) (l : List ℕ) (x : Arg) → Holds (λ item u. u ≤ length l) x → Used used dirty ≡ used_of class l x
     → (used ≤ length l) × (dirty ≤ used)
-used-from {used} {dirty} class l (Given item u) h e =
-    let f : used ≡ u = cc in
-    let n = padding_from class item u in
-    let d : dirty ≡ non_zero (between n u l) = cc in
-    (omega arith, omega (arith, dirt-le (between n u l), length-take (u - n) (drop n l)))
-used-from class l (Refused k) h e = let z : ◌≡◌ {A = ℕ} 0 1 = cc in absurd (omega arith)
+used-from {used} {dirty} class l (Ok given) h e =
+    let w = args-are e in
+    let n = padding_from class given.item given.used in
+    let d : dirty ≡ non_zero (between n given.used l) = w.1 in
+    (omega (arith, h, w.0), omega (arith, dirt-le (between n given.used l), length-take (given.used - n) (drop n l)))
+used-from class l (Err k) h e = let z : ◌≡◌ {A = ℕ} 0 1 = cc in absurd (omega arith)
 
 -- an argument that is passed over lies in its part, and no more of it is dirt than it takes
 pub used-within : {used dirty : ℕ} (tag : ℕ) (class : Class) (base : ℕ) (l : List ℕ) (p : ℕ)

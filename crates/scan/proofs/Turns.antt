@@ -5,7 +5,7 @@ use mathlib.Core.List.{List, [], ◌∷◌}
 use native.Mathlib.Nat.{zero-add}
 use native.Mathlib.Omega.{arith}
 use native.Mathlib.Numerals.{add-one}
-use lib.ListN.{length, get_or, take, drop, length-drop}
+use lib.ListN.{length, get_or, take, drop, length-drop, drop_of_length-le}
 use lib.Seq.{drop-cons, drop-length}
 use Rattle.refusal.specs.declared.Fault.{Fault}
 use Rattle.refusal.specs.declared.Fault.TheVariants.{NotOpen}
@@ -17,153 +17,146 @@ use Rattle.node.specs.declared.tags.Sort.TheVariants.{Opens, Closes, Leaf}
 use Rattle.argument.specs.Argument.{read_arg}
 use Rattle.scan.proofs.Passed.{used-within}
 use Rattle.scan.specs.CodeScans.{used_of, more_used, turn, scan, tag_before, back}
-use Rattle.scan.specs.declared.Scanned.{Scanned}
-use Rattle.scan.specs.declared.Scanned.TheVariants.{Used, Refused}
+use Rattle.scan.specs.Results.{Scanned, Used}
+use Rattle.std.specs.Prelude.{Err, Ok}
 use Rattle.scan.specs.declared.Back.TheVariants.{Uncut, Cut}
 
 more-more : (m d n e : ℕ) (s : Scanned) → more_used m d (more_used n e s) ≡ more_used (m + n) (d + e) s
-more-more m d n e (Used used dirty) = ap₂ (λ (i j : ℕ). Used i j) (omega arith) (omega arith)
-more-more m d n e (Refused fault) = refl
+more-more m d n e (Ok scanned) = ap₂ (λ (i j : ℕ). Used i j) (omega arith) (omega arith)
+more-more m d n e (Err fault) = refl
 
 more-none : (s : Scanned) → more_used 0 0 s ≡ s
-more-none (Used used dirty) = ap₂ (λ (i j : ℕ). Used i j) (omega arith) (omega arith)
-more-none (Refused fault) = refl
+more-none (Ok scanned) = ap₂ (λ (i j : ℕ). Used i j) (omega arith) (omega arith)
+more-none (Err fault) = refl
 
 -- ---- forward
 
-module _ (ts m : List ℕ) (q n : ℕ) (h : 0 < length ts) where
-  scan-turn : {s : Sort} → s ≡ sort_of (get_or ts 0 0) → scan ts m q n ≡ turn s (λ m q k. scan (drop 1 ts) m q k) (get_or ts 0 0) m q n
+module _ (tags m : List ℕ) (k q n : ℕ) (h : k < length tags) where
+  scan-turn : {s : Sort} → s ≡ sort_of (get_or tags k 0)
+      → scan (drop k tags) m q n ≡ turn s (λ m q j. scan (drop (k + 1) tags) m q j) (get_or tags k 0) m q n
   unfolding scan
-  scan-turn {s} e = by-list ts h ∙ rw (← e)
-    where
-      by-list : (ts : List ℕ) → 0 < length ts
-          → scan ts m q n ≡ turn (sort_of (get_or ts 0 0)) (λ m q k. scan (drop 1 ts) m q k) (get_or ts 0 0) m q n
-      by-list [] h = absurd (omega arith)
-      by-list (t ∷ ts) h = refl
+  scan-turn {s} e = rw (drop-cons tags k 0, add-one, ← e)
 
-  scan-opens : Opens ≡ sort_of (get_or ts 0 0) → scan ts m q n ≡ scan (drop 1 ts) m q (n + 1)
-  scan-opens e = scan-turn e ∙ rw add-one
+  scan-opens : Opens ≡ sort_of (get_or tags k 0) → scan (drop k tags) m q n ≡ scan (drop (k + 1) tags) m q (n + 1)
+  scan-opens e = scan-turn e ∙ rw (add-one n)
 
-  scan-none : Closes ≡ sort_of (get_or ts 0 0) → n ≡ 0 → scan ts m q n ≡ Refused NotOpen
+  scan-none : Closes ≡ sort_of (get_or tags k 0) → n ≡ 0 → scan (drop k tags) m q n ≡ Err NotOpen
   scan-none e z = scan-turn e ∙ rw z
 
-  scan-closes : Closes ≡ sort_of (get_or ts 0 0) → (n ≡ 0 → ⊥) → scan ts m q n ≡ scan (drop 1 ts) m q (n - 1)
+  scan-closes : Closes ≡ sort_of (get_or tags k 0) → (n ≡ 0 → ⊥) → scan (drop k tags) m q n ≡ scan (drop (k + 1) tags) m q (n - 1)
   scan-closes e z =
       let some : n ≡ suc (n - 1) = omega arith in
-      scan-turn e ∙ ap (turn Closes (λ m q k. scan (drop 1 ts) m q k) (get_or ts 0 0) m q) some
+      scan-turn e ∙ ap (turn Closes (λ m q j. scan (drop (k + 1) tags) m q j) (get_or tags k 0) m q) some
 
-  scan-given : {class : Class} {used dirty : ℕ} → Leaf class ≡ sort_of (get_or ts 0 0)
-      → Used used dirty ≡ used_of class m (read_arg (get_or ts 0 0) class 0 m q)
-      → scan ts m q n ≡ more_used used dirty (scan (drop 1 ts) (drop used m) (q + used) n)
+  scan-given : {class : Class} {used dirty : ℕ} → Leaf class ≡ sort_of (get_or tags k 0)
+      → Used used dirty ≡ used_of class m (read_arg (get_or tags k 0) class 0 m q)
+      → scan (drop k tags) m q n ≡ more_used used dirty (scan (drop (k + 1) tags) (drop used m) (q + used) n)
   scan-given e g = scan-turn e ∙ rw (← g)
 
-  scan-refused : {class : Class} {fault : Fault} → Leaf class ≡ sort_of (get_or ts 0 0)
-      → Refused fault ≡ used_of class m (read_arg (get_or ts 0 0) class 0 m q)
-      → scan ts m q n ≡ Refused fault
+  scan-refused : {class : Class} {fault : Fault} → Leaf class ≡ sort_of (get_or tags k 0)
+      → Err fault ≡ used_of class m (read_arg (get_or tags k 0) class 0 m q)
+      → scan (drop k tags) m q n ≡ Err fault
   scan-refused e g = scan-turn e ∙ rw (← g)
 
-scan-end : (ts m : List ℕ) (q n : ℕ) → length ts ≤ 0 → scan ts m q n ≡ Used 0 0
+scan-end : (tags m : List ℕ) (k q n : ℕ) → length tags ≤ k → scan (drop k tags) m q n ≡ Used 0 0
 unfolding scan
-scan-end [] m q n h = refl
-scan-end (t ∷ ts) m q n h = absurd (omega arith)
+scan-end tags m k q n h = rw (drop_of_length-le tags h)
 
--- of the tags and of the data l from pos on, ts and m at `at` are left, n arrays are open, and so much dirt was met
-pub record Scanning (tags l : List ℕ) (pos : ℕ) (ts m : List ℕ) (at n dirt : ℕ) : Type 0 where
-  pub whole : scan tags l pos 0 ≡ more_used (at - pos) dirt (scan ts m at n)
+-- of the tags k were read, and of the data l from pos on m is left, at `at`; n arrays are open, and so much dirt was met
+pub record Scanning (tags l : List ℕ) (pos k : ℕ) (m : List ℕ) (at n dirt : ℕ) : Type 0 where
+  pub whole : scan tags l pos 0 ≡ more_used (at - pos) dirt (scan (drop k tags) m at n)
   pub ends : at + length m ≡ pos + length l
   pub past : pos ≤ at
-  pub few : n + length ts ≤ length tags
+  pub few : n ≤ k
   pub clean : dirt ≤ at - pos
 
 -- at the start all is left
-pub scanning-start : (tags l : List ℕ) (pos : ℕ) → Scanning tags l pos tags l pos 0 0
+pub scanning-start : (tags l : List ℕ) (pos : ℕ) → Scanning tags l pos 0 l pos 0 0
 scanning-start tags l pos =
     let z : pos - pos ≡ 0 = omega arith in
     record { whole = rw z (sym (more-none (scan tags l pos 0))); ends = refl; past = omega arith; few = omega arith; clean = omega arith }
 
 -- where no tag is left, what was read is all
-pub scanning-end : {tags l : List ℕ} {pos : ℕ} {ts m : List ℕ} {at n dirt : ℕ} → Scanning tags l pos ts m at n dirt → length ts ≤ 0
+pub scanning-end : {tags l : List ℕ} {pos k : ℕ} {m : List ℕ} {at n dirt : ℕ} → Scanning tags l pos k m at n dirt → length tags ≤ k
     → Used (at - pos) dirt ≡ scan tags l pos 0
-scanning-end {tags} {l} {pos} {ts} {m} {at} {n} {dirt} w h =
+scanning-end {tags} {l} {pos} {k} {m} {at} {n} {dirt} w h =
     let z : at - pos + 0 ≡ at - pos = omega arith in
     let y : dirt + 0 ≡ dirt = omega arith in
-    sym (w.whole ∙ ap (more_used (at - pos) dirt) (scan-end ts m at n h) ∙ rw (z, y))
+    sym (w.whole ∙ ap (more_used (at - pos) dirt) (scan-end tags m k at n h) ∙ rw (z, y))
 
 -- a turn: a tag is left, and its sort is found
 pub record Forward : Type 0 where
   pub tags : List ℕ
   pub input : List ℕ
   pub pos : ℕ
-  pub left : List ℕ
+  pub index : ℕ
   pub rest : List ℕ
   pub at : ℕ
   pub waiting : ℕ
   pub dirt : ℕ
-  pub so_far : Scanning tags input pos left rest at waiting dirt
-  pub more : 0 < length left
+  pub so_far : Scanning tags input pos index rest at waiting dirt
+  pub more : index < length tags
   pub sort : Sort
-  pub sort-found : sort ≡ sort_of (get_or left 0 0)
+  pub sort-found : sort ≡ sort_of (get_or tags index 0)
 
 module _ (t : Forward) where
-  open t use {tags, input as l, pos, left as ts, rest as m, at, waiting as n, dirt, so_far as w, more as h, sort}
+  open t use {tags, input as l, pos, index as k, rest as m, at, waiting as n, dirt, so_far as w, more as h, sort}
 
-  sort-is : {x : Sort} → sort ≡ x → x ≡ sort_of (get_or ts 0 0)
+  sort-is : {x : Sort} → sort ≡ x → x ≡ sort_of (get_or tags k 0)
   sort-is e = sym e ∙ t.sort-found
 
   -- one tag less is left, and n' arrays are open
-  next : (n' : ℕ) → n' ≤ n + 1 → scan ts m at n ≡ scan (drop 1 ts) m at n'
-      → Scanning tags l pos (take (length ts - 1) (drop 1 ts)) m at n' dirt
-  next n' k e =
-      rw (tail ts 1)
-      (record {
+  next : (n' : ℕ) → n' ≤ n + 1 → scan (drop k tags) m at n ≡ scan (drop (k + 1) tags) m at n' → Scanning tags l pos (k + 1) m at n' dirt
+  next n' j e =
+      record {
         whole = w.whole ∙ ap (more_used (at - pos) dirt) e;
         ends = w.ends;
         past = w.past;
-        few = omega (arith, length-drop 1 ts, w.few);
+        few = omega (arith, w.few);
         clean = w.clean;
-      })
+      }
 
   -- a tag that opens: one array more is open
-  pub scanning-opens : sort ≡ Opens → Scanning tags l pos (take (length ts - 1) (drop 1 ts)) m at (n + 1) dirt
-  scanning-opens e = next (n + 1) (omega arith) (scan-opens ts m at n h (sort-is e))
+  pub scanning-opens : sort ≡ Opens → Scanning tags l pos (k + 1) m at (n + 1) dirt
+  scanning-opens e = next (n + 1) (omega arith) (scan-opens tags m k at n h (sort-is e))
 
   -- a tag that closes: one array fewer is open
-  pub scanning-closes : sort ≡ Closes → (n ≡ 0 → ⊥) → Scanning tags l pos (take (length ts - 1) (drop 1 ts)) m at (n - 1) dirt
-  scanning-closes e z = next (n - 1) (omega arith) (scan-closes ts m at n h (sort-is e) z)
+  pub scanning-closes : sort ≡ Closes → (n ≡ 0 → ⊥) → Scanning tags l pos (k + 1) m at (n - 1) dirt
+  scanning-closes e z = next (n - 1) (omega arith) (scan-closes tags m k at n h (sort-is e) z)
 
   -- a tag that closes where no array is open is refused
-  pub scanning-none : sort ≡ Closes → n ≡ 0 → Refused NotOpen ≡ scan tags l pos 0
-  scanning-none e z = sym (w.whole ∙ ap (more_used (at - pos) dirt) (scan-none ts m at n h (sort-is e) z))
+  pub scanning-none : sort ≡ Closes → n ≡ 0 → Err NotOpen ≡ scan tags l pos 0
+  scanning-none e z = sym (w.whole ∙ ap (more_used (at - pos) dirt) (scan-none tags m k at n h (sort-is e) z))
 
   -- a tag with an argument, of which x is passed
-  module _ (class : Class) {x : Scanned} (g : x ≡ used_of class m (read_arg (get_or ts 0 0) class 0 m at)) where
+  module _ (class : Class) {x : Scanned} (g : x ≡ used_of class m (read_arg (get_or tags k 0) class 0 m at)) where
     -- what it takes, and its dirt, are no more than there is
     pub data-within : {used dirty : ℕ} → x ≡ Used used dirty
         → (used ≤ length m) × (dirty ≤ used) × (at + used ≤ pos + length l) × (dirt + dirty ≤ length l)
     data-within {used} {dirty} u =
-        let v = used-within (get_or ts 0 0) class 0 m at (sym u ∙ g) in
+        let v = used-within (get_or tags k 0) class 0 m at (sym u ∙ g) in
         (v.0, v.1, omega (arith, w.ends), omega (arith, w.ends, w.past, w.clean))
 
     -- its bytes are read too
     pub scanning-given : {used dirty : ℕ} → sort ≡ Leaf class → x ≡ Used used dirty
-        → Scanning tags l pos (take (length ts - 1) (drop 1 ts)) (take (length m - used) (drop used m)) (at + used) n (dirt + dirty)
+        → Scanning tags l pos (k + 1) (take (length m - used) (drop used m)) (at + used) n (dirt + dirty)
     scanning-given {used} {dirty} e u =
         let sum : at - pos + used ≡ at + used - pos = omega (arith, w.past) in
         let within = data-within u in
-        rw (tail ts 1, tail m used)
+        rw (tail m used)
         (record {
           whole =
-              w.whole ∙ ap (more_used (at - pos) dirt) (scan-given ts m at n h (sort-is e) (sym u ∙ g))
-              ∙ more-more (at - pos) dirt used dirty (scan (drop 1 ts) (drop used m) (at + used) n) ∙ rw sum;
+              w.whole ∙ ap (more_used (at - pos) dirt) (scan-given tags m k at n h (sort-is e) (sym u ∙ g))
+              ∙ more-more (at - pos) dirt used dirty (scan (drop (k + 1) tags) (drop used m) (at + used) n) ∙ rw sum;
           ends = omega (arith, within, length-drop used m, w.ends);
           past = omega (arith, w.past);
-          few = omega (arith, length-drop 1 ts, w.few);
+          few = omega (arith, w.few);
           clean = omega (arith, within, w.past, w.clean);
         })
 
     -- it is refused
-    pub scanning-refused : {fault : Fault} → sort ≡ Leaf class → x ≡ Refused fault → Refused fault ≡ scan tags l pos 0
-    scanning-refused e u = sym (w.whole ∙ ap (more_used (at - pos) dirt) (scan-refused ts m at n h (sort-is e) (sym u ∙ g)))
+    pub scanning-refused : {fault : Fault} → sort ≡ Leaf class → x ≡ Err fault → Err fault ≡ scan tags l pos 0
+    scanning-refused e u = sym (w.whole ∙ ap (more_used (at - pos) dirt) (scan-refused tags m k at n h (sort-is e) (sym u ∙ g)))
 
 -- ---- backward
 

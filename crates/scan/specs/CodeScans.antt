@@ -1,6 +1,6 @@
 -- Describes code, and no part of the document: the scans of the first reading, which build no tree. Nobody need believe them: the laws
 -- `measured-kept`, `measured-refused` and `cut_at` of the crate `arguments` show that they answer as `read_args` does.
-use Rattle.std.specs.Prelude.{Bool, false, ◌||◌, List, [], ◌∷◌, ℕ, zero, suc, ◌+◌, max, drop}
+use Rattle.std.specs.Prelude.{Bool, false, ◌||◌, List, [], ◌∷◌, ℕ, zero, suc, ◌+◌, max, drop, Err, Ok}
 use Rattle.refusal.specs.declared.Fault.TheVariants.{NotOpen}
 use Rattle.node.specs.Tags.{array_kind, among, sort_of}
 use Rattle.node.specs.declared.tags.Class.{Class}
@@ -9,10 +9,8 @@ use Rattle.node.specs.declared.tags.Sort.TheVariants.{Opens, Closes, Leaf}
 use Rattle.text.specs.Text.{non_zero}
 use Rattle.argument.specs.Argument.{read_arg}
 use Rattle.argument.specs.CodeParts.{between, padding_from}
-use Rattle.argument.specs.declared.Arg.{Arg}
-use Rattle.argument.specs.declared.Arg.TheVariants as arg
-use Rattle.scan.specs.declared.Scanned.{Scanned}
-use Rattle.scan.specs.declared.Scanned.TheVariants.{Used, Refused}
+use Rattle.argument.specs.Results.{Arg}
+use Rattle.scan.specs.Results.{Scanned, Used}
 use Rattle.scan.specs.declared.Back.{Back}
 use Rattle.scan.specs.declared.Back.TheVariants.{Uncut, Cut}
 
@@ -20,23 +18,23 @@ use Rattle.scan.specs.declared.Back.TheVariants.{Uncut, Cut}
 
 -- one argument of this class at the front of l without its own numbers: what it takes, and how many bytes of its padding are not zero
 abbrev pub used_of : Class → List ℕ → Arg → Scanned
-used_of class l (arg.Given item used) = Used used (non_zero (between (padding_from class item used) used l))
-used_of class l (arg.Refused fault) = Refused fault
+used_of class l (Ok given) = Used given.used (non_zero (between (padding_from class given.item given.used) given.used l))
+used_of class l (Err fault) = Err fault
 
 -- n more bytes were read before, with so much dirt
 abbrev pub more_used : ℕ → ℕ → Scanned → Scanned
-more_used n dirt (Used used dirty) = Used (n + used) (dirt + dirty)
-more_used n dirt (Refused fault) = Refused fault
+more_used n dirt (Ok scanned) = Used (n + scanned.used) (dirt + scanned.dirty)
+more_used n dirt (Err fault) = Err fault
 
 -- one argument is passed over; `go` reads the later tags' data
 abbrev pub arg_passed : (List ℕ → ℕ → Scanned) → List ℕ → ℕ → Scanned → Scanned
-arg_passed go l p (Used used dirty) = more_used used dirty (go (drop used l) (p + used))
-arg_passed go l p (Refused fault) = Refused fault
+arg_passed go l p (Ok scanned) = more_used scanned.used scanned.dirty (go (drop scanned.used l) (p + scanned.used))
+arg_passed go l p (Err fault) = Err fault
 
 -- what one tag does while n arrays are open; the offset base does not matter, and is 0
 abbrev pub turn : Sort → (List ℕ → ℕ → ℕ → Scanned) → ℕ → List ℕ → ℕ → ℕ → Scanned
 turn Opens go tag l p n = go l p (suc n)
-turn Closes go tag l p zero = Refused NotOpen
+turn Closes go tag l p zero = Err NotOpen
 turn Closes go tag l p (suc n) = go l p n
 turn (Leaf class) go tag l p n = arg_passed (λ m q. go m q n) l p (used_of class l (read_arg tag class 0 l p))
 

@@ -1,1 +1,2 @@
 pub mod CodeScans
+pub mod Results

@@ -1,16 +1,15 @@
 -- What the encoders answer for a table and for the same table shifted.
-use mathlib.Core.Path.{◌≡◌, refl, ap, sym, ◌∙◌}
-use mathlib.Core.Bool.{Bool, true, false, cond}
+use mathlib.Core.Path.{◌≡◌, refl, ◌∙◌}
 use mathlib.Core.List.{List, ◌++◌}
 use Prim.Native.Nat.{ℕ, ◌<◌}
 use native.Mathlib.Omega.{arith}
 use lib.Dec.{leb}
-use lib.ListN.{length, take, drop, get_or}
+use lib.ListN.{length, drop, get_or}
 use lib.Seq.{take_at}
 use Rattle.edition.specs.declared.Edition.{Edition}
 use Rattle.refusal.specs.declared.Refusal.{Refusal}
 use Rattle.refusal.specs.declared.Refusal.TheVariants.{TooLong, TooDeep, BadTable, OutputShort}
-use Rattle.results.specs.declared.Encoded.TheVariants.{Written, Refused}
+use Rattle.std.specs.Prelude.{Ok}
 use Rattle.wire.specs.Limits.{longest, deepest}
 use Rattle.wire.proofs.Choices.{by_both}
 use Rattle.node.specs.Forest.{Forest, nil, node, depth}
@@ -18,8 +17,7 @@ use Rattle.node.specs.declared.record.Item.{Item}
 use Rattle.table.specs.Tree.{IsTree}
 use Rattle.table.proofs.Spanned.{spans_unique}
 use Rattle.table.proofs.Theorem.{tree_formed}
-use Rattle.writers.specs.Osc.{write_element, write_packet}
-use Rattle.encoder.specs.Outcome.{Outcome, refuse, bytes_outcome, unframed, length_before, framed_by, tree_outcome, Encodes, malformed, formed}
+use Rattle.encoder.specs.Outcome.{Outcome, refuse, bytes_outcome, unframed, length_before, framed_by, tree_outcome, malformed, formed}
 use Rattle.shifts.specs.Shifts.{shifted_table, time_tags}
 use Rattle.shifts.proofs.Items.{shifted_item, kind-kept}
 use Rattle.shifted_packets.specs.Packets.{Retagged, EncodedAlike, EncodesAlike}
@@ -34,7 +32,7 @@ refused-alike by tags x out = record { answer = refl; written = λ n e. let z : 
 
 module _ (by : ℕ) {tags bs cs : List ℕ} (w : Retagged by tags bs cs) (out : List ℕ) where
   abbrev left : List ℕ → Outcome
-  left x = record { answer = Written (length bs); out = x ++ drop (length bs) out }
+  left x = record { answer = Ok (length bs); out = x ++ drop (length bs) out }
 
   written-alike : EncodedAlike by tags (left bs) (left cs)
   written-alike =

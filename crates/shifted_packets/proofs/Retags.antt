@@ -1,5 +1,5 @@
 -- Bytes that differ in tags alone: rows of them one after another, and their lengths.
-use mathlib.Core.Path.{◌≡◌, refl, ap, ◌∙◌}
+use mathlib.Core.Path.{◌≡◌, refl, ap}
 use mathlib.Core.List.{List, [], ◌∷◌, ◌++◌, append_assoc, append-nil}
 use Prim.Native.Nat.{ℕ, suc}
 use lib.ListN.{length, length-append}

@@ -5,14 +5,13 @@ use mathlib.Core.Logic.{⊎_elim}
 use mathlib.Core.List.{List, [], ◌∷◌, ◌++◌, append_assoc}
 use Prim.Native.Nat.{ℕ, zero, suc, ◌+◌, ◌-◌, ◌*◌, ◌%◌, ◌^◌, ◌≤◌, ◌<◌}
 use native.Mathlib.Nat.{zero-add}
-use native.Mathlib.Numerals.{add-one}
 use native.Mathlib.Omega.{arith}
 use lib.ListN.{length, take, drop, get_or}
 use lib.Seq.{drop-drop}
 use Rattle.wire.proofs.Numbers.{number_small}
 use Rattle.wire.proofs.Parts.{drop-small}
 use Rattle.node.specs.Forest.{Forest, nil, node, size, depth}
-use Rattle.node.specs.Records.{record_size, field_at, kind_at, end_at, item_at}
+use Rattle.node.specs.Records.{record_size, field_at, end_at}
 use Rattle.node.specs.declared.record.Item.{Item}
 use Rattle.table.specs.Formed.{range_ok, allowed, WellFormed}
 use Rattle.table.specs.Tree.{Spans, Obeys, IsTree, FieldsFit}

@@ -1,6 +1,6 @@
 -- What a shifted tree is written as: the same bytes, but for its tags.
 use mathlib.Core.Path.{◌≡◌, refl, ap, sym, ◌∙◌}
-use mathlib.Core.Bool.{Bool, true, false, cond, not, false≢true, true≢false}
+use mathlib.Core.Bool.{Bool, true, false, cond, false≢true, true≢false}
 use mathlib.Core.Logic.{◌⊎◌, inl, inr, ⊎_elim}
 use mathlib.Core.List.{List, [], ◌∷◌, ◌++◌, append_assoc, append-nil}
 use Prim.Native.Nat.{ℕ, ◌+◌, ◌*◌, ◌/◌, ◌%◌, ◌^◌, ◌<◌}
@@ -22,12 +22,12 @@ use Rattle.node.specs.declared.tags.Sort.TheVariants.{Opens, Closes, Leaf}
 use Rattle.table.specs.Formed.{allowed}
 use Rattle.table.specs.Tree.{Obeys, FieldsFit}
 use Rattle.strings.specs.Atomic.{int32, osc_string, write_argument}
-use Rattle.writers.specs.Osc.{data_by, write_data, tags_by, write_tags, write_message, write_bundle, write_element, packet_with, write_elements}
+use Rattle.writers.specs.Osc.{data_by, write_data, write_tags, write_message, write_bundle, write_element, packet_with, write_elements}
 use Rattle.writers.specs.Osc.{write_packet}
 use Rattle.writers.proofs.Classed.{opens, opens-only}
 use Rattle.clock.specs.Shift.{shifted}
 use Rattle.shifts.specs.Shifts.{is_timed}
-use Rattle.shifts.proofs.Items.{item_tag, with_tag, shifted_item, item-timed, item-other, timed-kinds, kind-kept}
+use Rattle.shifts.proofs.Items.{item_tag, shifted_item, item-timed, item-other, timed-kinds, kind-kept}
 use Rattle.shifted_packets.specs.Packets.{Retagged}
 use Rattle.shifted_packets.proofs.Retags.{retag-none, retag-one, retag-both, retag-length, retag-after}
 use Rattle.shifted_packets.proofs.Trees.{shifted_forest, node_tag, forest_tags}

@@ -1,9 +1,8 @@
 -- What a shifted table is and encodes to: document 02, Ticket 13, "Designers slide whole acts and slide them back".
-use Rattle.std.specs.Prelude.{◌≡◌, List, [], ◌∷◌, ◌++◌, ℕ, ◌*◌, ◌≤◌, ◌<◌, length, take, get_or}
+use Rattle.std.specs.Prelude.{◌≡◌, List, [], ◌∷◌, ◌++◌, ℕ, ◌*◌, ◌≤◌, ◌<◌, length, take, get_or, Ok}
 use Rattle.wire.specs.Number.{bytes}
 use Rattle.node.specs.Records.{record_size}
 use Rattle.table.specs.Formed.{WellFormed}
-use Rattle.results.specs.declared.Encoded.TheVariants.{Written}
 use Rattle.encoder.specs.Outcome.{Outcome, Encodes}
 use Rattle.clock.specs.Shift.{shifted}
 use Rattle.shifts.specs.Shifts.{shifted_table, time_tags}
@@ -22,7 +21,7 @@ pub data Retagged (by : ℕ) : List ℕ → List ℕ → List ℕ → Type 0 whe
 -- the outcomes of an encoder for a table and for the same table shifted: the same answer, and bytes that differ in the table's tags alone
 pub record EncodedAlike (by : ℕ) (tags : List ℕ) (r s : Outcome) : Type 0 where
   pub answer : s.answer ≡ r.answer
-  pub written : (n : ℕ) → r.answer ≡ Written n → Retagged by tags (take n r.out) (take n s.out)
+  pub written : (n : ℕ) → r.answer ≡ Ok n → Retagged by tags (take n r.out) (take n s.out)
 
 -- a table whose records exist and the same table shifted encode so, by an encoder's frame; where one is not well formed, neither is
 abbrev pub EncodesAlike : (ℕ → List ℕ → List ℕ) → Type 0

@@ -6,8 +6,8 @@ use Rattle.contract.proofs.OneEnding.{WellEnded, one-ending}
 use Rattle.wire.proofs.Choices.{by-test}
 use Rattle.shifts.specs.Shifts.{time_tags, lookable, shift_answer, shift_leaves, Shifts}
 use Rattle.shifts.specs.Call.{shifting, most_shifted, ShiftsTold}
-use Rattle.shifts.specs.declared.Shifted.{Shifted}
-use Rattle.shifts.specs.declared.Shifted.TheVariants.{Tags, Refused}
+use Rattle.shifts.specs.Results.{Shifted}
+use Rattle.std.specs.Prelude.{Err, Ok}
 use Rattle.shifts.proofs.Loop.{few-tags}
 
 module _ (t : List ℕ) (count by : ℕ) where
@@ -34,7 +34,7 @@ module _ (t : List ℕ) (count by : ℕ) where
       (e, v.leaves ∙ ap (λ (x : Shifted). shift_leaves x t count by) e ∙ sym w.leaves)
 
   -- what holds of its answer, by the answers that there are
-  pub by-told : (P : Shifted → Type 0) → ((n : ℕ) → n < most_shifted → P (Tags n)) → P (Refused BadTable)
+  pub by-told : (P : Shifted → Type 0) → ((n : ℕ) → n < most_shifted → P (Ok n)) → P (Err BadTable)
       → {r : Shifted} {l : List ℕ} → ShiftsTold t count by r l → P r
   by-told P f g w =
       rw w.answers
@@ -45,7 +45,7 @@ module _ (t : List ℕ) (count by : ℕ) where
       (λ _. g))
 
   -- 11 of a count whose tags have no room
-  pub told_over : most_shifted ≤ count → ShiftsTold t count by (Refused BadTable) t
+  pub told_over : most_shifted ≤ count → ShiftsTold t count by (Err BadTable) t
   told_over h = record { answers = rw (le-ltb count most_shifted h); leaves = refl }
 
   -- what the call does, of any other
@@ -53,9 +53,9 @@ module _ (t : List ℕ) (count by : ℕ) where
   told-call h w = record { answers = w.answers ∙ rw (lt-ltb count most_shifted h); leaves = w.leaves }
 
   -- the tags of an answer have their bits
-  pub tags-low : count < most_shifted → {r : Shifted} {l : List ℕ} {n : ℕ} → Shifts t count by r l → r ≡ Tags n → n < most_shifted
+  pub tags-low : count < most_shifted → {r : Shifted} {l : List ℕ} {n : ℕ} → Shifts t count by r l → r ≡ Ok n → n < most_shifted
   tags-low h {r} {l} {n} w e =
-      by-told (λ (x : Shifted). x ≡ Tags n → n < most_shifted)
+      by-told (λ (x : Shifted). x ≡ Ok n → n < most_shifted)
       (λ m k d. let same : m ≡ n = cc in omega arith)
       (λ d. let z : ◌≡◌ {A = ℕ} 0 1 = cc in absurd (omega arith))
       (told-call h w) e

@@ -1,18 +1,17 @@
 -- What each record of a shifted table says: of a # or a t the tag is shifted, and every other number is as before.
-use Rattle.std.proofs.Common.{◌≡◌, ℕ, zero, suc, ◌+◌, ◌-◌, ◌*◌, ◌/◌, ◌%◌, ◌^◌, ◌<◌, ◌≤◌, Bool, true, false, cond, ◌⊎◌, List, [], ◌∷◌, ◌++◌, length, get_or, take, drop, sym, refl, ap, ◌∙◌, inl, inr, ⊎_elim, append_assoc, arith, length-append, length-drop, take-append-drop, length-take, length-take-le, get_or-drop, get_or-take, drop-drop, take_at, drop_at, ne_eqb}
+use Rattle.std.proofs.Common.{◌≡◌, ℕ, ◌+◌, ◌*◌, ◌/◌, ◌%◌, ◌^◌, ◌≤◌, Bool, true, false, cond, ◌⊎◌, List, ◌++◌, length, get_or, take, drop, sym, refl, ap, ◌∙◌, inl, inr, ⊎_elim, append_assoc, arith, take-append-drop, length-take-le, get_or-take, drop-drop, take_at, drop_at, ne_eqb}
 use mathlib.Core.Bool.{false≢true}
 use lib.ListN.{get_or-append}
 use Rattle.wire.specs.Number.{number, bytes}
 use Rattle.wire.proofs.Choices.{is-or, by-test}
 use Rattle.wire.proofs.Numbers.{length-bytes, eight-bytes, read-written, number-parts}
 use Rattle.node.specs.Tags.{sort_of, class_of}
-use Rattle.node.specs.Records.{record_size, record_start, kind_at, zeros_at, field_at, end_at, item_at}
+use Rattle.node.specs.Records.{record_size}
 use Rattle.node.specs.Rules.{own_rules}
 use Rattle.node.specs.declared.record.Item.{Item}
-use Rattle.node.proofs.Recorded.{item-read}
 use Rattle.clock.specs.Shift.{shifted}
-use Rattle.shifts.specs.Shifts.{is_timed, time_tag, shifted_record, shifted_table}
-use Rattle.shifts.proofs.Records.{shifted-timed, shifted-other, number-inside, number-front, length-shifted}
+use Rattle.shifts.specs.Shifts.{is_timed, time_tag, shifted_record}
+use Rattle.shifts.proofs.Records.{shifted-timed, shifted-other, number-inside}
 
 -- ---- a node's own numbers
 

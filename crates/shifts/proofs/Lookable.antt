@@ -1,11 +1,14 @@
 -- The first records of a table, of which `look` gives values.
-use Rattle.std.proofs.Common.{◌≡◌, ℕ, zero, suc, ◌+◌, ◌*◌, ◌<◌, ◌≤◌, Bool, true, false, ◌&&◌, eqb, ltb, List, length, sym, refl, ap, ◌∙◌, ⊎_elim, eq-or-lt_of_le, add-one, arith, ltb-true}
+use Rattle.std.proofs.Common.{◌≡◌, ℕ, zero, suc, ◌+◌, ◌*◌, ◌<◌, ◌≤◌, Bool, true, false, ◌&&◌, ltb, List, length}
+use Rattle.std.proofs.Common.{sym, refl, ap, ⊎_elim, eq-or-lt_of_le, add-one, arith, ltb-true}
 use mathlib.Core.Bool.{false≢true}
+use Rattle.std.proofs.Common.{MatchBool, get_or, subst}
+use Rattle.std.specs.List.{range_with_len, AllWithin, HoldsAt}
+use Rattle.std.proofs.lemmas.List.FromFn.{length-range_with_len, get_or-range_with_len}
 use Rattle.wire.proofs.Choices.{by-test}
-use Rattle.node.specs.Records.{record_size, zeros_at, item_at, capacity}
-use Rattle.node.specs.Rules.{own_rules}
+use Rattle.node.specs.Records.{record_size, capacity}
 use Rattle.values.specs.Look.{look_at}
-use Rattle.values.specs.declared.look.Looked.{Looked}
+use Rattle.values.specs.Results.{Looked}
 use Rattle.shifts.specs.Shifts.{is_value, lookable}
 
 -- a record of which there is a value exists
@@ -52,6 +55,28 @@ lookable-each t (suc n) i e h =
     (λ q. rw q (both-second (lookable t n) _ e))
     (λ l. lookable-each t n i (both_first (lookable t n) _ e) l)
     (eq-or-lt_of_le {n = i} {m = n} (omega arith))
+
+-- where each of the first n records has a value, the table is lookable so far
+each-lookable : (t : List ℕ) (n : ℕ) → ((i : ℕ) → i < n → is_value (look_at t i) ≡ true) → lookable t n ≡ true
+unfolding lookable
+each-lookable t zero h = refl
+each-lookable t (suc n) h = rw (each-lookable t n (λ i g. h i (omega arith))) (h n (omega arith))
+
+-- number i of the numbers from 0 on is i
+number-is : (n i : ℕ) → i < n → get_or (range_with_len 0 n) i 0 ≡ i
+number-is n i g = omega (arith, get_or-range_with_len 0 n i 0 g)
+
+-- what `all` answers over the numbers below n: whether each of these records has a value
+pub all_lookable : (t : List ℕ) (n : ℕ) (r : Bool)
+    → MatchBool r (AllWithin (λ i. is_value (look_at t i) ≡ true) (range_with_len 0 n) 0 (length (range_with_len 0 n)))
+    ((k : ℕ) × (k < length (range_with_len 0 n)) × HoldsAt (λ i. is_value (look_at t i) ≡ false) (range_with_len 0 n) k)
+    → r ≡ lookable t n
+all_lookable t n true h =
+    sym (each-lookable t n (λ i g.
+    subst (λ (k : ℕ). is_value (look_at t k) ≡ true) (number-is n i g) (h i 0 (omega arith) (omega (arith, length-range_with_len 0 n)))))
+all_lookable t n false h =
+    let within : h.0 < n = omega (arith, h.1, length-range_with_len 0 n) in
+    sym (not-lookable t h.0 n (subst (λ (k : ℕ). is_value (look_at t k) ≡ false) (number-is n h.0 within) (h.2 0)) within)
 
 -- all of them are in the table
 pub lookable-fits : (t : List ℕ) (n : ℕ) → lookable t n ≡ true → record_size * n ≤ length t

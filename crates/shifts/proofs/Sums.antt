@@ -1,16 +1,16 @@
 -- Shifts of a table add up: by x then y is by x + y modulo 2^64, by zero nothing changes, and by x and then its opposite all is as before.
-use Rattle.std.proofs.Common.{◌≡◌, ℕ, zero, suc, ◌+◌, ◌*◌, ◌%◌, ◌^◌, ◌<◌, ◌≤◌, Bool, true, false, List, [], ◌∷◌, ◌++◌, map, length, get_or, take, drop, sym, refl, ap, ◌∙◌, arith, length-drop, take-append-drop, length-take-le, drop-drop, take_at, drop_at}
+use Rattle.std.proofs.Common.{◌≡◌, ℕ, zero, suc, ◌*◌, ◌^◌, ◌<◌, ◌≤◌, Bool, true, false, List, [], ◌∷◌, ◌++◌, map, length, get_or, take, drop, sym, refl, ap, ◌∙◌, arith, length-drop, take-append-drop, length-take-le, drop-drop, take_at, drop_at}
 use mathlib.Core.List.{map-append}
 use Rattle.refusal.specs.declared.Refusal.TheVariants.{BadTable}
-use Rattle.wire.specs.Number.{number, bytes}
+use Rattle.wire.specs.Number.{bytes}
 use Rattle.wire.proofs.Numbers.{number_small, bytes_read}
 use Rattle.wire.proofs.Parts.{take-small, drop-small}
 use Rattle.node.specs.Records.{record_size}
 use Rattle.clock.specs.Shift.{shifted}
 use Rattle.shifts.specs.Shifts.{is_timed, time_tag, shifted_record, own_tag, shifted_table, time_tags, lookable, Shifts}
 use Rattle.shifts.specs.Sums.{TagsShifted, TableByZero, TableByTwo, CallsAndBack}
-use Rattle.shifts.specs.declared.Shifted.{Shifted}
-use Rattle.shifts.specs.declared.Shifted.TheVariants.{Tags, Refused}
+use Rattle.shifts.specs.Results.{Shifted}
+use Rattle.std.specs.Prelude.{Err, Ok}
 use Rattle.shifts.proofs.Lookable.{lookable-fits}
 use Rattle.shifts.proofs.Records.{shifted-timed, shifted-other, tag-timed, tag-other, length-shifted}
 use Rattle.shifts.proofs.Items.{kind-is, tag-moved, tail-kept, front_kept}
@@ -124,10 +124,10 @@ tags_shifted n t small h by = table-tags by n t h
 -- what a call leaves, by its check
 left-moved : {t after : List ℕ} {count by : ℕ} {r : Shifted} → lookable t count ≡ true → Shifts t count by r after
     → after ≡ shifted_table by count t
-left-moved {t} {after} {count} {by} {r} h w = let e : r ≡ Tags (length (time_tags count t)) = w.answers ∙ rw h in rw e at w.leaves
+left-moved {t} {after} {count} {by} {r} h w = let e : r ≡ Ok (length (time_tags count t)) = w.answers ∙ rw h in rw e at w.leaves
 
 left_alone : {t after : List ℕ} {count by : ℕ} {r : Shifted} → lookable t count ≡ false → Shifts t count by r after → after ≡ t
-left_alone {t} {after} {count} {by} {r} h w = let e : r ≡ Refused BadTable = w.answers ∙ rw h in rw e at w.leaves
+left_alone {t} {after} {count} {by} {r} h w = let e : r ≡ Err BadTable = w.answers ∙ rw h in rw e at w.leaves
 
 -- a call by zero leaves the table
 pub call-zero : {t after : List ℕ} {count : ℕ} {r : Shifted} → ((i : ℕ) → get_or t i 0 < 256) → Shifts t count 0 r after → after ≡ t

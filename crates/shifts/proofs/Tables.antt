@@ -1,18 +1,17 @@
 -- A shifted table, record by record.
-use Rattle.std.proofs.Common.{◌≡◌, ℕ, zero, suc, ◌+◌, ◌-◌, ◌*◌, ◌/◌, ◌<◌, ◌≤◌, Bool, true, false, cond, ◌&&◌, eqb, ltb, List, [], ◌∷◌, ◌++◌, length, get_or, take, drop, sym, refl, ap, ◌∙◌, add-zero, arith, length-append, length-drop, take-append-drop, length-take, length-take-le, get_or-drop, get_or-take, drop-drop, drop_at}
+use Rattle.std.proofs.Common.{◌≡◌, ℕ, zero, suc, ◌+◌, ◌-◌, ◌*◌, ◌<◌, ◌≤◌, Bool, true, false, cond, ◌&&◌, eqb, ltb, List, [], ◌∷◌, ◌++◌, length, get_or, take, drop, sym, refl, ap, ◌∙◌, add-zero, arith, length-append, length-drop, length-take-le, get_or-drop, get_or-take, drop-drop, drop_at}
 use lib.ListN.{get_or-append}
 use Rattle.wire.specs.Number.{number}
-use Rattle.node.specs.Records.{record_size, record_start, kind_at, zeros_at, field_at, end_at, item_at, capacity}
+use Rattle.node.specs.Records.{record_size, kind_at, zeros_at, field_at, end_at, item_at, capacity}
 use Rattle.node.specs.Rules.{own_rules}
-use Rattle.node.specs.declared.record.Item.{Item}
 use Rattle.values.specs.Look.{look_at}
 use Rattle.values.specs.Value.{value_of}
 use Rattle.values.specs.declared.value.OscType.{OscType}
-use Rattle.values.specs.declared.look.Looked.TheVariants as looked
+use Rattle.std.specs.Prelude.{Err, Ok}
 use Rattle.refusal.specs.declared.Refusal.TheVariants.{BadTable}
 use Rattle.shifts.specs.Shifts.{is_timed, shifted_record, own_tag, shifted_table, is_value, lookable}
 use Rattle.shifts.proofs.Records.{number-inside, number-front, length-shifted}
-use Rattle.shifts.proofs.Items.{item_tag, shifted_item, rules-kept, tag-halves, head-same, kind-is, item-shifted}
+use Rattle.shifts.proofs.Items.{item_tag, shifted_item, rules-kept, tag-halves, head-same, item-shifted}
 
 -- a shifted table is as long as before
 pub length-table : (by n : ℕ) (t : List ℕ) → record_size * n ≤ length t → length (shifted_table by n t) ≡ length t
@@ -117,7 +116,7 @@ module _ (by n i : ℕ) (t : List ℕ) (h : i < n) (f : record_size * n ≤ leng
 -- ---- what `look` says of a shifted table
 
 value-tests : (a b : Bool) (v : OscType)
-    → is_value (cond a (cond b (looked.Value v) (looked.Refused BadTable)) (looked.Refused BadTable)) ≡ (a && b)
+    → is_value (cond a (cond b (Ok v) (Err BadTable)) (Err BadTable)) ≡ (a && b)
 value-tests true true v = refl
 value-tests true false v = refl
 value-tests false b v = refl

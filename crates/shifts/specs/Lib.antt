@@ -1,3 +1,4 @@
 pub mod Shifts
 pub mod Call
 pub mod Sums
+pub mod Results

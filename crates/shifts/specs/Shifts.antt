@@ -1,15 +1,13 @@
 -- Shifting the time tags of a table: document 02, Ticket 13, and the reading of it: the first `count` records alone are looked at.
-use Rattle.std.specs.Prelude.{◌≡◌, ℕ, zero, suc, Bool, true, false, cond, ◌&&◌, List, [], ◌∷◌, ◌++◌, length, take, drop, slice_index}
+use Rattle.std.specs.Prelude.{◌≡◌, ℕ, zero, suc, Bool, true, false, cond, ◌&&◌, List, [], ◌∷◌, ◌++◌, length, take, drop, slice_index, Err, Ok}
 use Rattle.refusal.specs.declared.Refusal.TheVariants.{BadTable}
 use Rattle.wire.specs.Number.{number, bytes}
 use Rattle.node.specs.Tags.{bundle_kind, among}
 use Rattle.node.specs.Records.{record_size}
 use Rattle.values.specs.Look.{look_at}
-use Rattle.values.specs.declared.look.Looked.{Looked}
-use Rattle.values.specs.declared.look.Looked.TheVariants as looked
+use Rattle.shifts.specs.Results.{Shifted}
+use Rattle.values.specs.Results.{Looked}
 use Rattle.clock.specs.Shift.{shifted}
-use Rattle.shifts.specs.declared.Shifted.{Shifted}
-use Rattle.shifts.specs.declared.Shifted.TheVariants.{Tags, Refused}
 
 -- ---- one record, as its 20 bytes
 
@@ -43,8 +41,8 @@ time_tags (suc n) t = own_tag (take record_size t) ++ time_tags n (drop record_s
 
 -- `look` gives a value: the record exists and obeys its own rules
 abbrev pub is_value : Looked → Bool
-is_value (looked.Value v) = true
-is_value (looked.Refused r) = false
+is_value (Ok v) = true
+is_value (Err r) = false
 
 -- the first n records exist and obey their own rules, as `look` tests them
 unfoldable pub lookable : List ℕ → ℕ → Bool
@@ -55,12 +53,12 @@ lookable t (suc n) = lookable t n && is_value (look_at t n)
 
 -- the answer: how many tags were moved, or 11
 abbrev pub shift_answer : List ℕ → ℕ → Shifted
-shift_answer t count = cond (lookable t count) (Tags (length (time_tags count t))) (Refused BadTable)
+shift_answer t count = cond (lookable t count) (Ok (length (time_tags count t))) (Err BadTable)
 
 -- the table after an answer: a refusal changes no byte
 abbrev pub shift_leaves : Shifted → List ℕ → ℕ → ℕ → List ℕ
-shift_leaves (Tags n) t count by = shifted_table by count t
-shift_leaves (Refused r) t count by = t
+shift_leaves (Ok n) t count by = shifted_table by count t
+shift_leaves (Err r) t count by = t
 
 -- the contract of `shift_table`
 pub record Shifts (t : List ℕ) (count by : ℕ) (r : Shifted) (after : List ℕ) : Type 0 where

@@ -3,7 +3,7 @@ use Rattle.std.specs.Prelude.{◌≡◌, ℕ, ◌*◌, ◌<◌, ◌≤◌, List,
 use Rattle.node.specs.Records.{record_size}
 use Rattle.clock.specs.Shift.{shifted}
 use Rattle.shifts.specs.Shifts.{shifted_table, time_tags, Shifts}
-use Rattle.shifts.specs.declared.Shifted.{Shifted}
+use Rattle.shifts.specs.Results.{Shifted}
 
 -- a statement of each such table
 abbrev pub EachTable : (ℕ → List ℕ → Type 0) → Type 0

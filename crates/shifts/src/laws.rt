@@ -5,13 +5,13 @@ ghost use Rattle.std.specs.Prelude.{◌≡◌};
 fn by_zero(table: &mut [u8], count: usize)
     ensures { table.new ≡ table.old }
 {
-    crate::shift_table(table, count, 0);
+    let _ = crate::shift_table(table, count, 0);
 }
 
 // By an amount and then by its opposite is the same table.
 fn and_back(table: &mut [u8], count: usize, by: u64)
     ensures { table.new ≡ table.old }
 {
-    crate::shift_table(table, count, by);
-    crate::shift_table(table, count, std::num::wrapping_sub_u64(0, by));
+    let _ = crate::shift_table(table, count, by);
+    let _ = crate::shift_table(table, count, by.wrapping_neg());
 }

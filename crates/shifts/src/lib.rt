@@ -12,48 +12,27 @@ ghost use Rattle.shifts.specs.Shifts.{is_timed, shifted_record, own_tag, shifted
 use node::record::{A, RECORD_SIZE};
 use node::tags::BUNDLE;
 use refusal::Refusal;
-use values::look::{Looked, look};
-
-// What `shift_table` answers.
-#[derive(Clone, Copy)]
-pub enum Shifted {
-    // How many tags were moved.
-    Tags(usize),
-    Refused(Refusal),
-}
+use values::look::look;
 
 // Whether the two numbers of a record of this kind are a time tag.
 fn is_timed(kind: u8) -> bool
     ensures { result ≡ is_timed kind }
 {
-    match kind {
-        BUNDLE | b't' => true,
-        _ => false,
-    }
+    matches!(kind, BUNDLE | b't')
 }
 
 // Whether a record exists and obeys its own rules.
 fn is_value(table: &[u8], index: usize) -> bool
     ensures { result ≡ is_value (look_at table.now index) }
 {
-    match look(table, index) {
-        Looked::Value(_) => true,
-        Looked::Refused(_) => false,
-    }
+    look(table, index).is_ok()
 }
 
 // Whether the first `count` records exist and obey their own rules.
 fn is_lookable(table: &[u8], count: usize) -> bool
     ensures { result ≡ lookable table.now count }
 {
-    let mut i: usize = 0;
-    while i < count {
-        if !is_value(table, i) {
-            return false;
-        }
-        i += 1;
-    }
-    true
+    (0..count).all(|i| is_value(table, i))
 }
 
 // Shifts the tag of the first record, where it has one, and says how many tags that are. Its two numbers are one of 64 bits.
@@ -77,25 +56,23 @@ fn shift_records(table: &mut [u8], count: usize, by: u64) -> usize
         × (table.new ≡ shifted_table by count table.old) }
 {
     let mut moved: usize = 0;
-    let mut index: usize = 0;
-    while index < count {
+    for index in 0..count {
         moved += shift_record(&mut table[RECORD_SIZE * index..], by);
-        index += 1;
     }
     moved
 }
 
 // Shifts the time tags of the first `count` records of a table by an amount, modulo 2^64: the tag of each bundle and each time argument.
-// No other byte changes. 11, and nothing changes, where one of these records does not exist or breaks its own rules; records after them
-// are not looked at.
+// Answers how many tags were moved. No other byte changes. 11, and nothing changes, where one of these records does not exist or breaks
+// its own rules; records after them are not looked at.
 //
 // Ruled out: the two numbers of an 'h' shifted; a nested bundle's tag left as it was; a carry lost between the halves; a table that is
 // shifted up to the record for which it is refused.
-pub fn shift_table(table: &mut [u8], count: usize, by: u64) -> Shifted
+pub fn shift_table(table: &mut [u8], count: usize, by: u64) -> Result<usize, Refusal>
     ensures { Shifts table.old count by result table.new }
 {
     if !is_lookable(table, count) {
-        return Shifted::Refused(Refusal::BadTable);
+        return Err(Refusal::BadTable);
     }
-    Shifted::Tags(shift_records(table, count, by))
+    Ok(shift_records(table, count, by))
 }

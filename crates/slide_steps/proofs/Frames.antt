@@ -19,10 +19,11 @@ use Rattle.folding.proofs.Cut.{sum-none, sum_twice}
 use Rattle.slides.specs.Slides.{sliding, slide_of}
 use Rattle.slides.proofs.Files.{sliding-sound, taken-long}
 use Rattle.slide_steps.specs.Steps.{table_size, slide_done, Slides, front_of, front_leaves, FrontSlides}
-use Rattle.slide_steps.specs.declared.Front.{Front}
-use Rattle.slide_steps.specs.declared.Front.TheVariants as front
-use Rattle.slide_steps.specs.declared.Slide.{Slide}
-use Rattle.slide_steps.specs.declared.Slide.TheVariants as slide
+use Rattle.slide_steps.specs.FrontResult.{Front}
+use Rattle.slide_steps.specs.Results.{Slide}
+use Rattle.std.specs.Prelude.{Err}
+use Rattle.slide_steps.specs.FrontResult as front
+use Rattle.slide_steps.specs.Results as slide
 
 -- ---- what the answer on a frame says of its verdict
 
@@ -36,7 +37,7 @@ waits-is (takes m a) e = let z : ◌≡◌ {A = ℕ} 0 1 = cc in absurd (omega a
 waits-is waits e = refl
 waits-is (refuses k) e = let z : ◌≡◌ {A = ℕ} 0 1 = cc in absurd (omega arith)
 
-refused-is : (v : Verdict (List ℕ)) (k : Refusal) → front.Refused k ≡ front_of v → v ≡ refuses k
+refused-is : (v : Verdict (List ℕ)) (k : Refusal) → Err k ≡ front_of v → v ≡ refuses k
 refused-is (takes m a) k e = let z : ◌≡◌ {A = ℕ} 0 1 = cc in absurd (omega arith)
 refused-is waits k e = let z : ◌≡◌ {A = ℕ} 0 1 = cc in absurd (omega arith)
 refused-is (refuses j) k e = let same : k ≡ j = cc in ap refuses (sym same)
@@ -138,7 +139,7 @@ module _ (by : ℕ) (l : List ℕ) (at : ℕ) (m table : List ℕ) (w : Going by
         (back ∙ ap (λ (x : List ℕ). w.done ++ x) kept ∙ sym w.is-now) h
 
     -- a frame that is refused
-    pub going-refused : {k : Refusal} → length l ≤ longest → r ≡ front.Refused k → {t table' : List ℕ} → length t ≡ table_size
+    pub going-refused : {k : Refusal} → length l ≤ longest → r ≡ Err k → {t table' : List ℕ} → length t ≡ table_size
         → Slides l by t (slide.Done at (end.Refused k)) (put_mid at (length m - at) m p) table'
     going-refused {k} short e h =
         let is : v ≡ refuses k = refused-is v k (sym e ∙ g.answers) in
@@ -179,11 +180,11 @@ module _ (by : ℕ) (l : List ℕ) (at : ℕ) (m table : List ℕ) (w : Going by
 
 -- ---- the refusals of a step
 
-pub step-long : (l : List ℕ) (by : ℕ) (table : List ℕ) → longest < length l → Slides l by table (slide.Refused TooLong) l table
+pub step-long : (l : List ℕ) (by : ℕ) (table : List ℕ) → longest < length l → Slides l by table (Err TooLong) l table
 step-long l by table h = record { answers = rw (lt-leb _ _ h); leaves = refl; keeps = λ k e. refl }
 
 pub step-short : (l : List ℕ) (by : ℕ) (table : List ℕ) → length l ≤ longest → length table < table_size
-    → Slides l by table (slide.Refused OutputShort) l table
+    → Slides l by table (Err OutputShort) l table
 step-short l by table h k = record { answers = rw (le-leb _ _ h, lt-leb _ _ k); leaves = refl; keeps = λ j e. refl }
 
 -- a step with a table that is long enough
@@ -198,5 +199,5 @@ step-slides {l} {after} {t} {t'} {table} {table'} {by} {r} w short room h =
       keeps = λ k e. absurd (never (slide_of by 0 l) k (sym done ∙ e));
     }
   where
-    never : (f : Fold (List ℕ)) (k : Refusal) → slide_done f ≡ slide.Refused k → ⊥
+    never : (f : Fold (List ℕ)) (k : Refusal) → slide_done f ≡ Err k → ⊥
     never (folded s at why) k e = let z : ◌≡◌ {A = ℕ} 0 1 = cc in omega arith

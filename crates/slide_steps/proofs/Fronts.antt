@@ -14,8 +14,10 @@ use Rattle.node.specs.Forest.{Forest, nil, node}
 use Rattle.node.specs.Records.{record_size, capacity}
 use Rattle.framing.specs.Framing.{first, tcp2, rule_of}
 use Rattle.answering.specs.Limits.{decoded, tabled, forest_of, Decodes}
-use Rattle.results.specs.declared.Decoded.{Decoded}
-use Rattle.results.specs.declared.Decoded.TheVariants as answer
+use Rattle.results.specs.Results.{DecodeAnswer}
+use Rattle.std.specs.Prelude.{Err}
+use Rattle.results.specs.Results as answer
+use Rattle.slide_steps.specs.FrontResult as front
 use Rattle.folding.specs.Folding.{takes, waits, refuses}
 use Rattle.folding.proofs.Settled.{GivenAlone, given-alone}
 use Rattle.cues.specs.Cues.{most_in_a_cue}
@@ -27,7 +29,6 @@ use Rattle.slides.specs.Slides.{slid_bytes}
 use Rattle.slides.specs.CodeSlides.{slid_records, RecordsFit}
 use Rattle.slides.proofs.Slid.{FrameIs, place-room}
 use Rattle.slide_steps.specs.Steps.{table_size, FrontSlides}
-use Rattle.slide_steps.specs.declared.Front.TheVariants as front
 use Rattle.slide_steps.proofs.Judged.{row-slides, row_fits, Accepts, SaysOf, answer-says}
 
 -- `&mut l[0..n]` lends the first n bytes
@@ -35,7 +36,7 @@ pub first_part : (n : ℕ) (l : List ℕ) → take (n - 0) (drop 0 l) ≡ take n
 first_part n l = rw sub-zero
 
 module _ (by : ℕ) (l table : List ℕ) (short : length l ≤ longest) (room : length table ≡ table_size)
-    {msg : List ℕ} (same : msg ≡ l) {r : Decoded} {after : List ℕ}
+    {msg : List ℕ} (same : msg ≡ l) {r : DecodeAnswer} {after : List ℕ}
     (w : Decodes (rule_of (Tcp Standard) deepest) msg table deepest r after) where
   -- the table has room for 3,276 records
   records-room : capacity table ≡ most_in_a_cue
@@ -52,7 +53,7 @@ module _ (by : ℕ) (l table : List ℕ) (short : length l ≤ longest) (room : 
   front-waits e = record { verdict = waits; judged = subst (SaysOf by l) e says; answers = refl; leaves = refl }
 
   -- a frame that is refused
-  pub front-refused : {k : Refusal} → r ≡ answer.Refused k → FrontSlides by l (front.Refused k) l
+  pub front-refused : {k : Refusal} → r ≡ Err k → FrontSlides by l (Err k) l
   front-refused {k} e = record { verdict = refuses k; judged = subst (SaysOf by l) e says; answers = refl; leaves = refl }
 
   -- the decoder of one frame never stops at a later one
@@ -76,9 +77,9 @@ module _ (by : ℕ) (l table : List ℕ) (short : length l ≤ longest) (room : 
     trees : AreTrees after count l tree
     trees =
         let gives : Gives (decoded (tcp2 deepest) (capacity table) deepest l) count dirty
-        = subst (λ (x : Decoded). Gives x count dirty) (sym e ∙ answered) (refl, refl) in
+        = subst (λ (x : DecodeAnswer). Gives x count dirty) (sym e ∙ answered) (refl, refl) in
         let is : table_after (tcp2 deepest) deepest l table ≡ after
-        = ap (λ (x : Decoded). tabled x (forest_of (tcp2 deepest l)) table) (sym answered)
+        = ap (λ (x : DecodeAnswer). tabled x (forest_of (tcp2 deepest l)) table) (sym answered)
         ∙ ap (λ (m : List ℕ). tabled r (forest_of (tcp2 deepest m)) table) (sym same) ∙ sym w.left in
         subst (λ (f : Forest). AreTrees after count l f) forest-is
         (subst (λ (t : List ℕ). AreTrees t count l (forest_of (tcp2 deepest l))) is

@@ -25,8 +25,9 @@ use Rattle.framing.proofs.FrameKnot.{FrameIn, cut_in}
 use Rattle.rosc_inputs.proofs.Totals.{one-tree, one_size}
 use Rattle.standard_inputs.proofs.Cuts.{Shallow, cut-shallow}
 use Rattle.answering.specs.Limits.{limited, decoded}
-use Rattle.results.specs.declared.Decoded.{Decoded}
-use Rattle.results.specs.declared.Decoded.TheVariants as answer
+use Rattle.results.specs.Results.{DecodeAnswer}
+use Rattle.std.specs.Prelude.{Err}
+use Rattle.results.specs.Results as answer
 use Rattle.folding.specs.Folding.{takes, waits, refuses}
 use Rattle.folding.specs.Frames.{judged}
 use Rattle.cues.specs.Cues.{recorded, most_in_a_cue}
@@ -107,10 +108,10 @@ pub record Accepts (by : ℕ) (l : List ℕ) (count left : ℕ) : Type 0 where
   pub judges : (base : ℕ) → (sliding by).judge base l ≡ takes used (slid_bytes by (node item inner nil) (take used l))
 
 -- what the answer says of the frame
-abbrev pub SaysOf : ℕ → List ℕ → Decoded → Type 0
+abbrev pub SaysOf : ℕ → List ℕ → DecodeAnswer → Type 0
 SaysOf by l (answer.Packets count left dirty) = Accepts by l count left
 SaysOf by l answer.Waiting = (base : ℕ) → (sliding by).judge base l ≡ waits
-SaysOf by l (answer.Refused k) = (base : ℕ) → (sliding by).judge base l ≡ refuses k
+SaysOf by l (Err k) = (base : ℕ) → (sliding by).judge base l ≡ refuses k
 SaysOf by l (answer.Stopped count left dirty k at) = ⊥
 
 module _ (by : ℕ) (l : List ℕ) where
@@ -122,7 +123,7 @@ module _ (by : ℕ) (l : List ℕ) where
       λ base. ap (judged recorded (slide_adds by) base l) e ∙ ap (λ (j : Fault). refuses (Unreadable j)) (sym (moved_none k))
   limited-says (read (one item f u)) e w s =
       rw (one-tree item f, one_size item f, le-leb _ _ s)
-      (by-test (λ (d : Decoded). SaysOf by l d) (leb (1 + size f) most_in_a_cue)
+      (by-test (λ (d : DecodeAnswer). SaysOf by l d) (leb (1 + size f) most_in_a_cue)
       (λ few. record {
         item = item;
         inner = f;
@@ -137,7 +138,7 @@ module _ (by : ℕ) (l : List ℕ) where
       (λ many. λ base. ap (judged recorded (slide_adds by) base l) e ∙ rw many))
 
   -- the decoder of one frame of edition 2, with a table of 3,276 records
-  pub answer-says : {d : Decoded} → length l ≤ longest → d ≡ decoded (tcp2 deepest) most_in_a_cue deepest l → SaysOf by l d
+  pub answer-says : {d : DecodeAnswer} → length l ≤ longest → d ≡ decoded (tcp2 deepest) most_in_a_cue deepest l → SaysOf by l d
   unfolding decoded tcp2
   answer-says h e =
       let given : decoded (tcp2 deepest) most_in_a_cue deepest l

@@ -10,6 +10,7 @@ use lib.Seq.{take_at}
 use mathlib.Core.Bool.{Bool, true, false, cond}
 use Rattle.refusal.specs.declared.Refusal.TheVariants.{TooLong, OutputShort}
 use Rattle.wire.specs.Limits.{longest, deepest}
+use Rattle.wire.proofs.Payloads.{ok-is}
 use Rattle.packet.specs.Packet.{fault, one}
 use Rattle.framing.specs.Framing.{Frame, wait, read, refused, cut_frame}
 use Rattle.results.specs.declared.End.{End}
@@ -22,8 +23,10 @@ use Rattle.cues.specs.Cues.{recorded}
 use Rattle.slides.specs.Slides.{slide_adds, sliding, slide_of}
 use Rattle.slides.proofs.Files.{sliding-sound, same_long}
 use Rattle.slide_steps.specs.Steps.{table_size, slide_done, slide_leaves, Slides, SlideStep, EverySlide, SlideInParts, OneSlide}
-use Rattle.slide_steps.specs.declared.Slide.{Slide}
-use Rattle.slide_steps.specs.declared.Slide.TheVariants as slide
+use Rattle.slide_steps.specs.Results.{Slide}
+use Rattle.slide_steps.specs.declared.Slid.{Slid}
+use Rattle.std.specs.Prelude.{Err}
+use Rattle.slide_steps.specs.Results as slide
 
 -- ---- a frame is judged alike wherever it stands
 
@@ -54,13 +57,13 @@ module _ (by k : ℕ) where
 
 -- a step that is done tells the slide of its buffer
 done-by : (f : Fold (List ℕ)) (b c : Bool) (used : ℕ) (why : End)
-    → slide.Done used why ≡ cond b (cond c (slide_done f) (slide.Refused OutputShort)) (slide.Refused TooLong)
+    → slide.Done used why ≡ cond b (cond c (slide_done f) (Err OutputShort)) (Err TooLong)
     → f ≡ folded (sum_in f) used why
 done-by f false c used why e = let z : ◌≡◌ {A = ℕ} 0 1 = cc in absurd (omega arith)
 done-by f true false used why e = let z : ◌≡◌ {A = ℕ} 0 1 = cc in absurd (omega arith)
 done-by (folded s at end) true true used why e =
-    let a : at ≡ used = cc in
-    let b : end ≡ why = cc in
+    let a : at ≡ used = sym (ap (λ (x : Slid). x.used) (ok-is e)) in
+    let b : end ≡ why = sym (ap (λ (x : Slid). x.end) (ok-is e)) in
     cc
 
 pub step_is : {l table after table' : List ℕ} {by used : ℕ} {why : End} → Slides l by table (slide.Done used why) after table'

@@ -1,15 +1,15 @@
 -- A step of a slide over a buffer: document 02, Ticket 13, over the definition of crates/slides.
-use Rattle.std.specs.Prelude.{◌≡◌, cond, List, ◌++◌, ℕ, leb, length, take, drop}
+use Rattle.std.specs.Prelude.{◌≡◌, cond, List, ◌++◌, ℕ, leb, length, take, drop, Err, Ok}
 use Rattle.refusal.specs.declared.Refusal.{Refusal}
 use Rattle.refusal.specs.declared.Refusal.TheVariants.{TooLong, OutputShort}
 use Rattle.wire.specs.Limits.{longest}
 use Rattle.folding.specs.Folding.{Verdict, takes, waits, refuses, Fold, folded, sum_in}
 use Rattle.folding.specs.Walks.{Stepping, EveryWalk, WalkInParts}
 use Rattle.slides.specs.Slides.{sliding, slide_of}
-use Rattle.slide_steps.specs.declared.Front.{Front}
-use Rattle.slide_steps.specs.declared.Front.TheVariants as front
-use Rattle.slide_steps.specs.declared.Slide.{Slide}
-use Rattle.slide_steps.specs.declared.Slide.TheVariants as slide
+use Rattle.slide_steps.specs.FrontResult.{Front}
+use Rattle.slide_steps.specs.Results.{Slide}
+use Rattle.slide_steps.specs.FrontResult as front
+use Rattle.slide_steps.specs.Results as slide
 
 -- the table of a step: "64 KiB tables hold 3,276 records" of 20 bytes (Ticket 10)
 abbrev pub table_size : ℕ
@@ -22,19 +22,19 @@ slide_done (folded slid at why) = slide.Done at why
 -- the answer of a step: 1 of a buffer over 65,535 bytes, then 12 where the table is too short
 abbrev pub slide_answer : ℕ → List ℕ → ℕ → Slide
 slide_answer by l room =
-    cond (leb (length l) longest) (cond (leb table_size room) (slide_done (slide_of by 0 l)) (slide.Refused OutputShort))
-    (slide.Refused TooLong)
+    cond (leb (length l) longest) (cond (leb table_size room) (slide_done (slide_of by 0 l)) (Err OutputShort))
+    (Err TooLong)
 
 -- the buffer after an answer: the slid bytes over its first ones, and a refusal changes none
 abbrev pub slide_leaves : Slide → List ℕ → List ℕ → List ℕ
-slide_leaves (slide.Done used why) slid l = slid ++ drop (length slid) l
-slide_leaves (slide.Refused k) slid l = l
+slide_leaves (Ok slid') slid l = slid ++ drop (length slid) l
+slide_leaves (Err k) slid l = l
 
 -- the contract of a step
 pub record Slides (l : List ℕ) (by : ℕ) (table : List ℕ) (r : Slide) (after table' : List ℕ) : Type 0 where
   pub answers : r ≡ slide_answer by l (length table)
   pub leaves : after ≡ slide_leaves r (sum_in (slide_of by 0 l)) l
-  pub keeps : (k : Refusal) → r ≡ slide.Refused k → table' ≡ table
+  pub keeps : (k : Refusal) → r ≡ Err k → table' ≡ table
 
 -- ---- the frame at the front
 
@@ -42,7 +42,7 @@ pub record Slides (l : List ℕ) (by : ℕ) (table : List ℕ) (r : Slide) (afte
 abbrev pub front_of : Verdict (List ℕ) → Front
 front_of (takes size slid) = front.Done size
 front_of waits = front.Waiting
-front_of (refuses k) = front.Refused k
+front_of (refuses k) = Err k
 
 -- the bytes after that: a frame that is accepted is slid
 abbrev pub front_leaves : Verdict (List ℕ) → List ℕ → List ℕ

@@ -19,15 +19,16 @@ use Rattle.walks.specs.Walks.{reads_on}
 use Rattle.slides.specs.Slides.{sliding, slide_of}
 use Rattle.slides.proofs.Files.{sliding-sound, same_long}
 use Rattle.slide_steps.specs.Steps.{table_size, slide_done, Slides}
-use Rattle.slide_steps.specs.declared.Slide.{Slide}
-use Rattle.slide_steps.specs.declared.Slide.TheVariants as slide
+use Rattle.slide_steps.specs.Results.{Slide}
+use Rattle.std.specs.Prelude.{Err}
+use Rattle.slide_steps.specs.Results as slide
 use Rattle.slide_steps.proofs.Walks.{step_is, slide-moved}
 use Rattle.slide_walks.specs.Turns.{Turns}
 use Rattle.slide_walks.specs.declared.Turn.{Turn}
 use Rattle.slide_walks.specs.declared.Turn.TheVariants.{On, Ended}
 
 -- a step that has its room is not refused
-never : (f : Fold (List ℕ)) (k : Refusal) → slide_done f ≡ slide.Refused k → ⊥
+never : (f : Fold (List ℕ)) (k : Refusal) → slide_done f ≡ Err k → ⊥
 never (folded s at why) k e = let z : ◌≡◌ {A = ℕ} 0 1 = cc in omega arith
 
 module _ (l : List ℕ) (count by : ℕ) (here : count ≤ length l) (short : length l ≤ longest) (table : List ℕ)
@@ -42,7 +43,7 @@ module _ (l : List ℕ) (count by : ℕ) (here : count ≤ length l) (short : le
   own-long : length own ≡ count
   own-long = ap length own_is ∙ length-take-le count l here
 
-  pub turn-never : {k : Refusal} {r : Slide} {m table' : List ℕ} {P : Type 0} → Slides own by table r m table' → r ≡ slide.Refused k → P
+  pub turn-never : {k : Refusal} {r : Slide} {m table' : List ℕ} {P : Type 0} → Slides own by table r m table' → r ≡ Err k → P
   turn-never {k} w e =
       absurd (never (slide_of by 0 own) k (sym (sym e ∙ w.answers
       ∙ rw (le-leb (length own) longest (omega (arith, own-long)), le-leb table_size (length table) room))))

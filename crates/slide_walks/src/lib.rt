@@ -2,14 +2,13 @@
 // repeats the step writes the bytes that are slid, keeps those after them, and decides nothing.
 #![tactic(auto)]
 
-ghost use Rattle.std.specs.Prelude.{◌≡◌, ◌≤◌, length};
+ghost use Rattle.std.specs.Prelude.{◌≤◌, length};
 ghost use Rattle.wire.specs.Limits.{longest};
-ghost use Rattle.walks.specs.Walks.{reads_on};
 ghost use Rattle.slide_steps.specs.Steps.{table_size};
 ghost use Rattle.slide_walks.specs.Turns.{Turns};
 
 use results::End;
-use slide_steps::Slide;
+use walks::reads_on;
 
 // What a buffer comes to. Its first bytes, so many, are slid: they are the next bytes of the output.
 #[derive(Clone, Copy)]
@@ -18,17 +17,6 @@ pub enum Turn {
     On(usize),
     // The recording is not read on, and why.
     Ended(usize, End),
-}
-
-// Whether a recording is read on after a buffer, which is its last or not.
-fn reads_on(is_last: bool, end: End) -> bool
-    ensures { result ≡ reads_on is_last end }
-{
-    match end {
-        End::Whole => !is_last,
-        End::Waiting => !is_last,
-        End::Refused(_) => false,
-    }
 }
 
 // Slides the first `count` bytes of a buffer: those that were kept and the portion that was read after them. A buffer that is not full is
@@ -40,13 +28,13 @@ pub fn slide_turn(buf: &mut [u8], count: usize, by: u64, table: &mut [u8]) -> Tu
     ensures { Turns buf.old count by result buf.new }
 {
     match slide_steps::slide_step(&mut buf[0..count], by, table) {
-        Slide::Done { used, end } => {
+        Ok(slid) => {
             let is_last = count < wire::LONGEST;
-            if reads_on(is_last, end) {
-                return Turn::On(used);
+            if reads_on(is_last, slid.end) {
+                return Turn::On(slid.used);
             }
-            Turn::Ended(used, end)
+            Turn::Ended(slid.used, slid.end)
         }
-        Slide::Refused(refusal) => Turn::Ended(0, End::Refused(refusal)),
+        Err(refusal) => Turn::Ended(0, End::Refused(refusal)),
     }
 }

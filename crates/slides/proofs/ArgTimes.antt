@@ -1,16 +1,15 @@
 -- A time tag among the arguments of a message: another number there is read as that number, and nothing else changes. A t of an array that
 -- stays open is read too, but no tree has it.
 use mathlib.Core.Path.{◌≡◌, refl, ap, sym, subst, ◌∙◌}
-use mathlib.Core.Bool.{true}
 use mathlib.Core.Logic.{◌⊎◌, inl, inr, ⊎_elim}
 use mathlib.Core.List.{List, [], ◌∷◌}
-use Prim.Native.Nat.{ℕ, ◌+◌, ◌-◌, ◌/◌, ◌%◌, ◌^◌, ◌<◌, ◌≤◌}
+use Prim.Native.Nat.{ℕ, ◌+◌, ◌-◌, ◌^◌, ◌<◌, ◌≤◌}
 use native.Mathlib.Nat.{zero-add}
 use native.Mathlib.Omega.{arith}
 use borrow.Author.Tests.{le-leb}
-use lib.ListN.{length, take, drop, length-drop}
+use lib.ListN.{length, drop, length-drop}
 use Rattle.wire.specs.Number.{number}
-use Rattle.node.specs.Forest.{Forest, nil, node, snoc}
+use Rattle.node.specs.Forest.{Forest, nil, snoc}
 use Rattle.node.specs.Tags.{bundle_kind, class_of, sort_of}
 use Rattle.node.specs.declared.record.Item.{Item}
 use Rattle.node.specs.declared.tags.Class.{Class}
@@ -19,15 +18,16 @@ use Rattle.node.specs.declared.tags.Sort.{Sort}
 use Rattle.node.specs.declared.tags.Sort.TheVariants.{Opens, Closes, Leaf}
 use Rattle.argument.specs.Argument.{arg_item, read_arg}
 use Rattle.argument.specs.CodeRead.{ArgRead}
-use Rattle.argument.specs.declared.Arg.{Arg}
-use Rattle.argument.specs.declared.Arg.TheVariants as arg
+use Rattle.argument.specs.Results.{Arg}
+use Rattle.std.specs.Prelude.{Err, Ok}
+use Rattle.argument.specs.Results as arg
 use Rattle.argument.proofs.There.{there}
-use Rattle.argument.proofs.Within.{given-within, given-kind, given-start}
+use Rattle.argument.proofs.Within.{given-within, given-kind}
 use Rattle.arguments.specs.Arguments.{Args, refused, args, later, arg_taken, array_item, Open, waits, act, read_tags, read_args}
 use Rattle.slides.specs.Slides.{has_time, time_place, with_time, put_time}
 use Rattle.slides.proofs.Puts.{put-length, put-take-before, put-drop-before, put-drop-after, put-high, put_low}
-use Rattle.slides.proofs.Fronts.{arg-front}
-use Rattle.slides.proofs.Times.{has-time, AtPlace, TimeAt, at-or-not, retimed, retimed_forest, retimed-at, retimed-not}
+use Rattle.slides.proofs.Fronts.{item-of, used-of, arg-front}
+use Rattle.slides.proofs.Times.{has-time, AtPlace, TimeAt, retimed, retimed_forest, retimed-at, retimed-not}
 use Rattle.slides.proofs.Times.{snoc-retimed, in-snoc, Placed}
 
 -- what was read before is counted
@@ -72,14 +72,14 @@ arg-time q tag class l p item used e s a =
         let f : read_arg tag Eight 0 l p ≡ arg.Given item used = ap (λ (x : Class). read_arg tag x 0 l p) (sym c) ∙ e in
         let g : arg.Given (arg_item 116 (0 + p) (number 4 l) (number 4 (drop 4 l))) 8 ≡ arg.Given item used
         = rw (le-leb 8 (length l) there8, h) at f in
-        let k : item ≡ arg_item 116 (0 + p) (number 4 l) (number 4 (drop 4 l)) = cc in
+        let k : item ≡ arg_item 116 (0 + p) (number 4 l) (number 4 (drop 4 l)) = sym (item-of g) in
         let at : time_place item ≡ 0 + p = ap time_place k in
         record {
           class-is = c;
           place_is = sym a.1 ∙ at ∙ zero-add p;
           item-is = k;
           tag_is = h;
-          used-is = cc;
+          used-is = sym (used-of g);
           fits = there8;
         }
 
@@ -88,8 +88,8 @@ arg-time q tag class l p item used e s a =
 module _ (q : ℕ) where
   -- an argument with its time tag there, or one that the later tags reach
   abbrev pub ReachedArg : (List ℕ → ℕ → Type 0) → List ℕ → ℕ → Arg → Type 0
-  ReachedArg go l p (arg.Refused k) = ⊥
-  ReachedArg go l p (arg.Given item used) = AtPlace q item ⊎ go (drop used l) (p + used)
+  ReachedArg go l p (Err k) = ⊥
+  ReachedArg go l p (Ok given) = AtPlace q given.item ⊎ go (drop given.used l) (p + given.used)
 
   abbrev pub ReachedSort : Sort → (List ℕ → ℕ → Type 0) → ℕ → List ℕ → ℕ → Type 0
   ReachedSort Opens go tag l p = go l p
@@ -133,13 +133,13 @@ module _ (q : ℕ) where
   kept-act (Leaf class) tag go R h l p frame below kept used e a = by-arg (read_arg tag class 0 l p) e
     where
       by-arg : (x : Arg) → arg_taken (λ m r f. go m r f below) l p frame x ≡ args kept used → From frame below (ReachedArg R l p x)
-      by-arg (arg.Refused k) f = let z : ◌≡◌ {A = ℕ} 0 1 = cc in absurd (omega arith)
-      by-arg (arg.Given item u) f =
-          let w = later-is u (go (drop u l) (p + u) (snoc frame item nil) below) kept used f in
+      by-arg (Err k) f = let z : ◌≡◌ {A = ℕ} 0 1 = cc in absurd (omega arith)
+      by-arg (Ok given) f =
+          let w = later-is given.used (go (drop given.used l) (p + given.used) (snoc frame given.item nil) below) kept used f in
           ⊎_elim
-          (λ b. ⊎_elim (λ d. inl d) (⊎_elim (λ d. inr (inr (inl d))) (λ (d : ⊥). absurd d)) (in-snoc q frame item nil b))
+          (λ b. ⊎_elim (λ d. inl d) (⊎_elim (λ d. inr (inr (inl d))) (λ (d : ⊥). absurd d)) (in-snoc q frame given.item nil b))
           (⊎_elim (λ b. inr (inl b)) (λ b. inr (inr (inr b))))
-          (h (drop u l) (p + u) (snoc frame item nil) below kept w.0 w.1 a)
+          (h (drop given.used l) (p + given.used) (snoc frame given.item nil) below kept w.0 w.1 a)
 
   -- a time tag that is kept was kept before, or is reached
   kept-reached : (tags l : List ℕ) (p : ℕ) (frame : Forest) (below : List Open) (kept : Forest) (used : ℕ)
@@ -216,12 +216,12 @@ module _ (q v : ℕ) (small : v < 2 ^ 64) where
       by-arg : (x : Arg) → read_arg tag class 0 l p ≡ x
           → arg_taken (λ m r f. go m r f (retimed_opens below)) l p (retimed_forest q v frame) x
           ≡ retimed_args (arg_taken (λ m r f. go m r f below) l p frame x)
-      by-arg (arg.Refused k) e = refl
-      by-arg (arg.Given item u) e =
-          ap (later u) (taken-same go (drop u l) (p + u) u frame item below
-          (λ a. let w = arg-time q tag class l p item u e s a in let z : q ≡ p = w.place_is in omega arith))
-          ∙ ap (later u) (h (drop u l) (p + u) (snoc frame item nil) below (omega arith))
-          ∙ later-retimed u (go (drop u l) (p + u) (snoc frame item nil) below)
+      by-arg (Err k) e = refl
+      by-arg (Ok given) e =
+          ap (later given.used) (taken-same go (drop given.used l) (p + given.used) given.used frame given.item below
+          (λ a. let w = arg-time q tag class l p given.item given.used e s a in let z : q ≡ p = w.place_is in omega arith))
+          ∙ ap (later given.used) (h (drop given.used l) (p + given.used) (snoc frame given.item nil) below (omega arith))
+          ∙ later-retimed given.used (go (drop given.used l) (p + given.used) (snoc frame given.item nil) below)
 
   tags-passed : (tags : List ℕ) → Passes (λ l p frame below. read_tags 0 tags l p frame below)
   unfolding read_tags
@@ -311,9 +311,9 @@ module _ (q v : ℕ) (small : v < 2 ^ 64) where
           → Placed q l p
           × (act (Leaf class) go 0 tag (put_time (q - p) v l) p (retimed_forest q v frame) (retimed_opens below) ≡ args
           (retimed_forest q v kept) used)
-      by-arg (arg.Refused k) d a f = absurd a
-      by-arg (arg.Given item u) d (inl a) f = here class tag s go R passes reads l p frame below kept used item u d f a
-      by-arg (arg.Given item u) d (inr a) f = after-it class tag s go R passes reads l p frame below kept used item u d f a
+      by-arg (Err k) d a f = absurd a
+      by-arg (Ok given) d (inl a) f = here class tag s go R passes reads l p frame below kept used given.item given.used d f a
+      by-arg (Ok given) d (inr a) f = after-it class tag s go R passes reads l p frame below kept used given.item given.used d f a
 
   pub tags-reached : (tags : List ℕ) → Reads (λ l p frame below. read_tags 0 tags l p frame below) (Reached q tags)
   unfolding read_tags

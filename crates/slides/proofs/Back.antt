@@ -1,24 +1,21 @@
 -- The bytes of a frame that is slid: only those of its time tags change, and what stood there can be put back.
-use mathlib.Core.Path.{◌≡◌, refl, ap, sym, subst, ◌∙◌}
+use mathlib.Core.Path.{◌≡◌, refl, ap, sym, ◌∙◌}
 use mathlib.Core.Bool.{Bool, true, false, cond}
 use mathlib.Core.Logic.{◌⊎◌, inl, inr, ⊎_elim}
-use mathlib.Core.List.{List, ◌++◌}
-use Prim.Native.Nat.{ℕ, ◌+◌, ◌-◌, ◌*◌, ◌/◌, ◌%◌, ◌^◌, ◌<◌, ◌≤◌}
+use mathlib.Core.List.{List}
+use Prim.Native.Nat.{ℕ, ◌+◌, ◌-◌, ◌<◌, ◌≤◌}
 use native.Mathlib.Omega.{arith}
-use lib.ListN.{length, get_or, take, drop, length-drop}
+use lib.ListN.{length, get_or, take, drop}
 use lib.Seq.{get_or-take, get_or-drop, take_at, ext_get_or}
 use Rattle.clock.specs.Shift.{shifted}
-use Rattle.wire.specs.Number.{number, bytes}
+use Rattle.wire.specs.Number.{bytes}
 use Rattle.wire.proofs.Choices.{lt-or-le}
-use Rattle.wire.proofs.Numbers.{length-bytes, bytes_read, number_small}
-use Rattle.wire.proofs.Parts.{drop-small}
+use Rattle.wire.proofs.Numbers.{length-bytes}
 use Rattle.node.specs.Forest.{Forest, nil, node}
 use Rattle.node.specs.declared.record.Item.{Item}
-use Rattle.slides.specs.Slides.{has_time, time_tag_of, time_place, with_time, slid_item, slid_forest, put_time, slide_one, slid_bytes, InTime}
+use Rattle.slides.specs.Slides.{has_time, time_tag_of, time_place, put_time, slide_one, slid_bytes, InTime}
 use Rattle.slides.proofs.Puts.{put-length, put-take-before, put-drop-before, put-drop-after}
-use Rattle.slides.proofs.Times.{AtPlace, TimeAt}
-use Rattle.slides.proofs.Marks.{TimesAre}
-use Rattle.slides.proofs.Slid.{FrameIs, Room, place-room, times-read, slid-read}
+use Rattle.slides.proofs.Times.{TimeAt}
 
 -- ---- one time tag
 

@@ -7,28 +7,31 @@ use Prim.Native.Nat.{ℕ, zero, suc, ◌+◌, ◌-◌, ◌^◌, ◌<◌, ◌≤�
 use native.Mathlib.Nat.{zero-add}
 use native.Mathlib.Omega.{arith}
 use lib.Dec.{eqb, leb}
-use lib.ListN.{length, get_or, take, drop, length-append, length-drop, length-take, take-append-drop}
-use lib.Seq.{take-append_seam, drop-append_seam, take-take}
+use lib.ListN.{length, get_or, take, drop, length-drop, length-take, take-append-drop}
+use lib.Seq.{take-append_seam, drop-append_seam}
 use Rattle.node.specs.Forest.{Forest, nil, node, snoc, depth}
-use Rattle.node.specs.Tags.{bundle_kind, message_kind, class_of, sort_of}
+use Rattle.node.specs.Tags.{bundle_kind, class_of, sort_of}
 use Rattle.node.specs.declared.record.Item.{Item}
 use Rattle.node.specs.declared.tags.Class.{Class}
-use Rattle.node.specs.declared.tags.Class.TheVariants.{Eight}
 use Rattle.node.specs.declared.tags.Sort.{Sort}
 use Rattle.node.specs.declared.tags.Sort.TheVariants.{Opens, Closes, Leaf}
 use Rattle.text.specs.Text.{read_text, non_zero}
-use Rattle.text.specs.declared.Text.{Text}
-use Rattle.text.specs.declared.Text.TheVariants.{Found, Lacks}
+use Rattle.argument.specs.Results.{Arg}
+use Rattle.heads.specs.Results.{ElementSize, Length}
+use Rattle.packet.specs.Results.{Start}
+use Rattle.std.specs.Prelude.{Err, None, Some, Ok}
+use Rattle.text.specs.Results.{Found, Text}
+use Rattle.argument.specs.Results as arg
+use Rattle.heads.specs.Results as cut
+use Rattle.packet.specs.Results as start
 use Rattle.text.proofs.Within.{found_in, found-ends}
 use Rattle.argument.specs.Argument.{read_arg}
 use Rattle.argument.specs.CodeParts.{StandsAt, between, padding_from, dirt_of}
-use Rattle.argument.specs.Dirt.{own_padding, arg_padding}
-use Rattle.argument.specs.declared.Arg.{Arg}
-use Rattle.argument.specs.declared.Arg.TheVariants as arg
-use Rattle.argument.proofs.Dirt.{arg-padding, padding-begins, own_dirt, dirt-node, dirt-nil}
+use Rattle.argument.specs.Dirt.{own_padding}
+use Rattle.argument.proofs.Dirt.{arg-padding, padding-begins, dirt-node, dirt-nil}
 use Rattle.argument.proofs.Stands.{stands-rest, stands_on, stands-take}
 use Rattle.argument.proofs.Within.{given-within}
-use Rattle.arguments.specs.Arguments.{Args, args, refused, later, arg_taken, array_item, Open, waits, act, read_tags, read_args}
+use Rattle.arguments.specs.Arguments.{Args, args, later, arg_taken, array_item, Open, waits, act, read_tags, read_args}
 use Rattle.arguments.proofs.Dirt.{leaf-own, dirt-snoc}
 use Rattle.refusal.specs.declared.Fault.{Fault}
 use Rattle.refusal.specs.declared.Fault.TheVariants.{Short}
@@ -36,23 +39,16 @@ use Rattle.refusal.specs.declared.Field.TheVariants.{Head}
 use Rattle.refusal.specs.declared.Refusal.TheVariants.{TooDeep, BytesLeft}
 use Rattle.clock.specs.Shift.{shifted}
 use Rattle.wire.specs.Number.{number}
-use Rattle.heads.specs.declared.Length.{Length}
-use Rattle.heads.specs.declared.Length.TheVariants as cut
 use Rattle.framing.specs.Framing.{read, refused as cutoff, wholly, cut_with, cut_frame}
-use Rattle.wire.specs.Pad.{padded}
 use Rattle.wire.proofs.Choices.{lt-or-le}
 use Rattle.heads.specs.Heads.{tags_in, size_of, length_of, message_item, bundle_item}
-use Rattle.heads.specs.declared.ElementSize.{ElementSize}
-use Rattle.heads.specs.declared.ElementSize.TheVariants as sizes
 use Rattle.heads.proofs.Heads.{size_in}
 use Rattle.packet.specs.FirstText.{start_of}
 use Rattle.packet.specs.Packet.{Out, fault, one, after, message_with, types_then, read_message, filling, read_packet, read_elements}
 use Rattle.packet.specs.Packet.{read_bundle, read_element, trees_in}
-use Rattle.packet.specs.declared.Start.{Start}
-use Rattle.packet.specs.declared.Start.TheVariants as start
 use Rattle.packet.proofs.Bundles.{contents, bundle-short, bundle-long, ended, first-trees}
 use Rattle.packet.proofs.Dirt.{message-padding, bundle-padding, packet-same, elements_same}
-use Rattle.packet.proofs.FirstText.{message-text, message-start-in, bundle-text}
+use Rattle.packet.proofs.FirstText.{message-text, bundle-text}
 use Rattle.packet.proofs.Knot.{starts-message, starts-bundle, starts-refused, element-holds, element-runs-out}
 use Rattle.slides.specs.Slides.{has_time, time_tag_of, time_place, with_time, put_time, slide_one, slid_bytes, slid_forest}
 use Rattle.slides.proofs.Puts.{put-length, put-take-before, put-drop-before, put-drop-after, put-take-after, drop-take}
@@ -62,7 +58,7 @@ use Rattle.slides.proofs.ArgTimes.{later-is, IsTime, arg-time, ReachedArg, Reach
 use Rattle.slides.proofs.ArgTimes.{args-retimed}
 use Rattle.slides.proofs.Marks.{retime_one, retime_all, retimed-slid}
 use Rattle.slides.proofs.Slid.{FrameIs, place-room, Has, has_one, has_all, one-slid, all-slid, times-read}
-use Rattle.slides.proofs.PacketTimes.{after_is, message-is, bundle-is, filling-is, message-own, packet-retimed, elements-placed}
+use Rattle.slides.proofs.PacketTimes.{after_is, message-is, bundle-is, message-own, packet-retimed, elements-placed}
 
 -- ---- bytes before, around and after a time tag
 
@@ -189,12 +185,12 @@ module _ (q v : ℕ) (small : v < 2 ^ 64) (msg : List ℕ) (fits : q + 8 ≤ len
   after-act (Leaf class) tag s go h l p frame below kept used far w a b e = by-arg (read_arg tag class 0 l p) refl e
     where
       by-arg : (x : Arg) → read_arg tag class 0 l p ≡ x → arg_taken (λ m r f. go m r f below) l p frame x ≡ args kept used → Alike kept
-      by-arg (arg.Refused k) d f = let z : ◌≡◌ {A = ℕ} 0 1 = cc in absurd (omega arith)
-      by-arg (arg.Given item u) d f =
-          let n = later-is u (go (drop u l) (p + u) (snoc frame item nil) below) kept used f in
-          let own = arg-own tag class l l p item u s w (stands_after p l far w) d d refl in
-          h (drop u l) (p + u) (snoc frame item nil) below kept n.0 (omega arith)
-          (stands_on 0 p l msg w u (given-within tag class 0 l p (sym d))) (snoc-alike frame item nil a own nil-alike) b n.1
+      by-arg (Err k) d f = let z : ◌≡◌ {A = ℕ} 0 1 = cc in absurd (omega arith)
+      by-arg (Ok given) d f =
+          let n = later-is given.used (go (drop given.used l) (p + given.used) (snoc frame given.item nil) below) kept used f in
+          let own = arg-own tag class l l p given.item given.used s w (stands_after p l far w) d d refl in
+          h (drop given.used l) (p + given.used) (snoc frame given.item nil) below kept n.0 (omega arith)
+          (stands_on 0 p l msg w given.used (given-within tag class 0 l p (sym d))) (snoc-alike frame given.item nil a own nil-alike) b n.1
 
   tags-after : (tags : List ℕ) → AfterAlike (λ l p frame below. read_tags 0 tags l p frame below)
   unfolding read_tags
@@ -215,29 +211,29 @@ module _ (q v : ℕ) (small : v < 2 ^ 64) (msg : List ℕ) (fits : q + 8 ≤ len
     where
       by-arg : (x : Arg) → read_arg tag class 0 l p ≡ x → ReachedArg q R l p x
           → arg_taken (λ m t f. go m t f below) l p frame x ≡ args kept used → Alike kept
-      by-arg (arg.Refused k) d c f = absurd c
-      by-arg (arg.Given item u) d (inl c) f =
-          let n = later-is u (go (drop u l) (p + u) (snoc frame item nil) below) kept used f in
-          let t = arg-time q tag class l p item u d s c in
-          let own : OwnAlike item = time-own tag class l p item u t in
+      by-arg (Err k) d c f = absurd c
+      by-arg (Ok given) d (inl c) f =
+          let n = later-is given.used (go (drop given.used l) (p + given.used) (snoc frame given.item nil) below) kept used f in
+          let t = arg-time q tag class l p given.item given.used d s c in
+          let own : OwnAlike given.item = time-own tag class l p given.item given.used t in
           let at : q ≡ p = t.place_is in
-          let eight : u ≡ 8 = t.used-is in
-          after (drop u l) (p + u) (snoc frame item nil) below kept n.0 (omega arith)
-          (stands_on 0 p l msg w u (given-within tag class 0 l p (sym d))) (snoc-alike frame item nil a own nil-alike) b n.1
-      by-arg (arg.Given item u) d (inr c) f =
-          let n = later-is u (go (drop u l) (p + u) (snoc frame item nil) below) kept used f in
-          let k = placed (drop u l) (p + u) (snoc frame item nil) below kept n.0 c n.1 in
-          let low : p + u ≤ q = k.low in
-          let high : q + 8 ≤ p + u + length (drop u l) = k.high in
-          let in-it : u ≤ length l = given-within tag class 0 l p (sym d) in
-          let room : q - p + 8 ≤ length l = omega (arith, length-drop u l) in
+          let eight : given.used ≡ 8 = t.used-is in
+          after (drop given.used l) (p + given.used) (snoc frame given.item nil) below kept n.0 (omega arith)
+          (stands_on 0 p l msg w given.used (given-within tag class 0 l p (sym d))) (snoc-alike frame given.item nil a own nil-alike) b n.1
+      by-arg (Ok given) d (inr c) f =
+          let n = later-is given.used (go (drop given.used l) (p + given.used) (snoc frame given.item nil) below) kept used f in
+          let k = placed (drop given.used l) (p + given.used) (snoc frame given.item nil) below kept n.0 c n.1 in
+          let low : p + given.used ≤ q = k.low in
+          let high : q + 8 ≤ p + given.used + length (drop given.used l) = k.high in
+          let in-it : given.used ≤ length l = given-within tag class 0 l p (sym d) in
+          let room : q - p + 8 ≤ length l = omega (arith, length-drop given.used l) in
           let l' = put_time (q - p) v l in
-          let front : take u l' ≡ take u l = put-take-before (q - p) v l room u (omega arith) in
-          let d' = arg-front l l' p (put-length (q - p) v l room) tag class item u d front in
-          let w' = stands-around p l w (omega arith) (omega (arith, length-drop u l)) in
-          let own = arg-own tag class l l' p item u s w w' d d' front in
-          h (drop u l) (p + u) (snoc frame item nil) below kept n.0 c
-          (stands_on 0 p l msg w u in-it) (snoc-alike frame item nil a own nil-alike) b n.1
+          let front : take given.used l' ≡ take given.used l = put-take-before (q - p) v l room given.used (omega arith) in
+          let d' = arg-front l l' p (put-length (q - p) v l room) tag class given.item given.used d front in
+          let w' = stands-around p l w (omega arith) (omega (arith, length-drop given.used l)) in
+          let own = arg-own tag class l l' p given.item given.used s w w' d d' front in
+          h (drop given.used l) (p + given.used) (snoc frame given.item nil) below kept n.0 c
+          (stands_on 0 p l msg w given.used in-it) (snoc-alike frame given.item nil a own nil-alike) b n.1
 
   tags-reach : (tags : List ℕ) → ReachAlike (λ l p frame below. read_tags 0 tags l p frame below) (Reached q tags)
   unfolding read_tags
@@ -266,42 +262,43 @@ module _ (q v : ℕ) (small : v < 2 ^ 64) (msg : List ℕ) (fits : q + 8 ≤ len
     where
       by-text : (x : Text) → read_text (drop used l) (p + used) ≡ x
           → types_then 0 (message_item (0 + p) n) (drop used l) (p + used) x ≡ one item f u → OwnAlike (message_item (0 + p) n) × Alike f
-      by-text (Lacks k) d g = let z : ◌≡◌ {A = ℕ} 0 1 = cc in absurd (omega arith)
-      by-text (Found m more) d g =
-          let tags = tags_in (take m (drop used l)) in
-          let rest = drop more (drop used l) in
-          let r = p + used + more in
+      by-text (Err k) d g = let z : ◌≡◌ {A = ℕ} 0 1 = cc in absurd (omega arith)
+      by-text (Ok text) d g =
+          let tags = tags_in (take text.length (drop used l)) in
+          let rest = drop text.used (drop used l) in
+          let r = p + used + text.used in
           let x = read_args 0 tags rest r in
-          let o = after_is more (message_with (message_item (0 + p) n) x) item f u g in
+          let o = after_is text.used (message_with (message_item (0 + p) n) x) item f u g in
           let k = message-is (message_item (0 + p) n) x item f o.0 o.1 in
           let placed = (args-retimed q v small tags rest r f o.0 k.0 a).0 in
           let i = found_in l p (sym t) in
           let j = found_in (drop used l) (p + used) (sym d) in
-          let low : p + used + more ≤ q = placed.low in
-          let high : q + 8 ≤ p + used + more + length rest = placed.high in
-          let long : length rest ≡ length l - used - more
-          = length-drop more (drop used l) ∙ ap (λ (y : ℕ). y - more) (length-drop used l) in
+          let low : p + used + text.used ≤ q = placed.low in
+          let high : q + 8 ≤ p + used + text.used + length rest = placed.high in
+          let long : length rest ≡ length l - used - text.used
+          = length-drop text.used (drop used l) ∙ ap (λ (y : ℕ). y - text.used) (length-drop used l) in
           let room : q - p + 8 ≤ length l = omega (arith, length-drop used l) in
           let l' = put_time (q - p) v l in
           let same : length l' ≡ length l = put-length (q - p) v l room in
           let front : take used l' ≡ take used l = put-take-before (q - p) v l room used (omega arith) in
           let later : drop used l' ≡ put_time (q - p - used) v (drop used l) = put-drop-before (q - p) v l room used (omega arith) in
-          let front' : take more (drop used l') ≡ take more (drop used l)
-          = ap (take more) later ∙ put-take-before (q - p - used) v (drop used l) (omega (arith, length-drop used l)) more (omega arith) in
+          let front' : take text.used (drop used l') ≡ take text.used (drop used l)
+          = ap (take text.used) later
+          ∙ put-take-before (q - p - used) v (drop used l) (omega (arith, length-drop used l)) text.used (omega arith) in
           let t' : read_text l' p ≡ Found n used = text-front l l' p same n used t front in
           let same' : length (drop used l') ≡ length (drop used l) = omega (arith, length-drop used l', length-drop used l) in
-          let d' : read_text (drop used l') (p + used) ≡ Found m more
-          = text-front (drop used l) (drop used l') (p + used) same' m more d front' in
+          let d' : read_text (drop used l') (p + used) ≡ Found text.length text.used
+          = text-front (drop used l) (drop used l') (p + used) same' text.length text.used d front' in
           let w' = stands-around p l w (omega arith) (omega (arith, length-drop used l)) in
-          let both : between (n + 1) used l' ++ between (m + 1) more (drop used l') ≡ between (n + 1) used l ++ between (m + 1) more
-          (drop used l)
+          let both : between (n + 1) used l' ++ between (text.length + 1) text.used (drop used l')
+          ≡ between (n + 1) used l ++ between (text.length + 1) text.used (drop used l)
           = rw (
             between-same (n + 1) used l l' (omega arith) front,
-            between-same (m + 1) more (drop used l) (drop used l')
+            between-same (text.length + 1) text.used (drop used l) (drop used l')
                 (omega arith) front',
           ) in (
             message-padding 0 p l msg w (sym t) (sym d) ∙ sym both ∙ sym (message-padding 0 p l' other w' (sym t') (sym d')),
-            args-alike tags rest r f o.0 (stands_on 0 (p + used) (drop used l) msg (stands_on 0 p l msg w used i.1) more j.1)
+            args-alike tags rest r f o.0 (stands_on 0 (p + used) (drop used l) msg (stands_on 0 p l msg w used i.1) text.used j.1)
                 k.0 a,
           )
 
@@ -365,7 +362,7 @@ module _ (q v : ℕ) (small : v < 2 ^ 64) (msg : List ℕ) (fits : q + 8 ≤ len
 
   module _ (n : ℕ) (hp : PacketAlike n) (he : ElementsAlike n) where
     -- elements whose first one is this
-    elements-first : (l : List ℕ) (p : ℕ) → length l < n + 1 → StandsAt msg (0 + p) l → (size : ℕ) → sizes.Holds size ≡ size_of l
+    elements-first : (l : List ℕ) (p : ℕ) → length l < n + 1 → StandsAt msg (0 + p) l → (size : ℕ) → Some size ≡ size_of l
         → (item : Item)
         (f : Forest) (u : ℕ) → read_packet 0 (take size (drop 4 l)) (p + 4) ≡ one item f u → TimeAt q (trees_in (read_elements 0 l p))
         → Alike (trees_in (read_elements 0 l p))
@@ -422,20 +419,20 @@ module _ (q v : ℕ) (small : v < 2 ^ 64) (msg : List ℕ) (fits : q + 8 ≤ len
         none : (k : Fault) → read_element 0 l p ≡ fault k → Alike (trees_in (read_elements 0 l p))
         none k e = subst Alike (sym (ap trees_in (ended 0 l p e))) nil-alike
 
-        by_out : (size : ℕ) → sizes.Holds size ≡ size_of l → (o : Out) → read_packet 0 (take size (drop 4 l)) (p + 4) ≡ o
+        by_out : (size : ℕ) → Some size ≡ size_of l → (o : Out) → read_packet 0 (take size (drop 4 l)) (p + 4) ≡ o
             → Alike (trees_in (read_elements 0 l p))
         by_out size s (fault k) e = none k (element-holds 0 l p s ∙ ap (filling size) e)
         by_out size s (one item f u) e = elements-first l p short w size s item f u e a
 
         by_size : (x : ElementSize) → x ≡ size_of l → Alike (trees_in (read_elements 0 l p))
-        by_size (sizes.Holds size) s = by_out size s (read_packet 0 (take size (drop 4 l)) (p + 4)) refl
-        by_size sizes.RunsOut s = none (Short Head p) (element-runs-out 0 l p s)
+        by_size (Some size) s = by_out size s (read_packet 0 (take size (drop 4 l)) (p + 4)) refl
+        by_size None s = none (Short Head p) (element-runs-out 0 l p s)
 
     packet-on : PacketAlike (n + 1)
     packet-on l p item f u short w e a = by-start (start_of l p) refl
       where
         by-start : (x : Start) → x ≡ start_of l p → OwnAlike item × Alike f
-        by-start (start.Refused k) s =
+        by-start (Err k) s =
             let z : fault k ≡ one item f u = sym (starts-refused 0 l p s) ∙ e in
             let no : ◌≡◌ {A = ℕ} 0 1 = cc in absurd (omega arith)
         by-start (start.Message m used) s =

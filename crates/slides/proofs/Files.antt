@@ -1,12 +1,12 @@
 -- A recording that is slid: as long as what was read, stopped where an index stops, back again by the opposite, the same by zero.
 use mathlib.Core.Path.{◌≡◌, refl, ap, sym, subst, ◌∙◌}
 use mathlib.Core.Bool.{Bool, true, false, cond}
-use mathlib.Core.List.{List, [], ◌∷◌, ◌++◌, append_assoc, append-nil}
+use mathlib.Core.List.{List, [], ◌++◌, append_assoc, append-nil}
 use Prim.Native.Nat.{ℕ, ◌+◌, ◌-◌, ◌<◌, ◌≤◌}
 use native.Mathlib.Omega.{arith}
 use lib.Dec.{leb}
-use lib.ListN.{length, get_or, take, drop, length-append, length-drop}
-use lib.Seq.{take-add, take-length, take_all, length-take-le, drop_at}
+use lib.ListN.{length, take, drop, length-append}
+use lib.Seq.{take-add, take_all, length-take-le, drop_at}
 use Rattle.clock.specs.Shift.{shifted}
 use Rattle.refusal.specs.declared.Refusal.{Refusal}
 use Rattle.refusal.specs.Refusal.{moved_by}
@@ -15,17 +15,17 @@ use Rattle.wire.specs.Limits.{deepest}
 use Rattle.wire.proofs.Parts.{take-small, drop-small}
 use Rattle.node.specs.Forest.{Forest, nil, node, size}
 use Rattle.node.specs.declared.record.Item.{Item}
-use Rattle.packet.specs.Packet.{Out, fault, one}
+use Rattle.packet.specs.Packet.{fault, one}
 use Rattle.framing.specs.Framing.{Frame, wait, read, refused, cut_frame}
 use Rattle.results.specs.declared.End.{End}
 use Rattle.results.specs.declared.End.TheVariants as end
-use Rattle.folding.specs.Folding.{Verdict, takes, waits, refuses, Fold, folded, Folding, fold_of, Inside, Stays, Sound, OwnBytes}
-use Rattle.folding.specs.Frames.{FrameAdds, judged, judge_of, over_frames}
+use Rattle.folding.specs.Folding.{Verdict, takes, waits, refuses, folded, Folding, fold_of, Inside, Stays, Sound, OwnBytes}
+use Rattle.folding.specs.Frames.{FrameAdds, judged, judge_of}
 use Rattle.folding.proofs.Frames.{inside, alone, sound}
 use Rattle.folding.proofs.Framed.{Framed, ends, lacks, fails, frame, framed, framed_is, framed-in}
 use Rattle.folding.proofs.Cut.{read-is-whole}
 use Rattle.folding.proofs.Settled.{GivenAlone, given-alone}
-use Rattle.cues.specs.Cues.{recorded, most_in_a_cue, entry_of, entry_adds, indexing, index_of}
+use Rattle.cues.specs.Cues.{recorded, most_in_a_cue, entry_adds, indexing, index_of}
 use Rattle.cues.proofs.Folds.{indexing-sound, indexing-own}
 use Rattle.cues.proofs.Kept.{kept_is_short}
 use Rattle.folding.proofs.Buffers as buffers

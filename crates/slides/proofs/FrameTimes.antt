@@ -12,16 +12,16 @@ use Rattle.wire.proofs.Choices.{by-test}
 use Rattle.node.specs.Forest.{Forest, nil, node, size, depth}
 use Rattle.node.specs.declared.record.Item.{Item}
 use Rattle.heads.specs.Heads.{length_of}
-use Rattle.heads.specs.declared.Length.{Length}
-use Rattle.heads.specs.declared.Length.TheVariants as cut
+use Rattle.heads.specs.Results.{Length}
+use Rattle.heads.specs.Results as cut
 use Rattle.heads.proofs.Heads.{length-in}
 use Rattle.packet.specs.Packet.{Out, fault, one, after, read_packet}
-use Rattle.framing.specs.Framing.{Frame, wait, read, refused, wholly, cut_with, cut_frame}
-use Rattle.slides.specs.Slides.{has_time, time_place, with_time, put_time}
+use Rattle.framing.specs.Framing.{read, refused, wholly, cut_with, cut_frame}
+use Rattle.slides.specs.Slides.{has_time, time_place, put_time}
 use Rattle.slides.proofs.Puts.{put-length, put-take-before, put-drop-before, put-take-after}
 use Rattle.slides.proofs.Fronts.{number-front}
-use Rattle.slides.proofs.Times.{AtPlace, TimeAt, retimed, retimed_forest}
-use Rattle.slides.proofs.PacketTimes.{after_is, packet-retimed}
+use Rattle.slides.proofs.Times.{TimeAt, retimed, retimed_forest}
+use Rattle.slides.proofs.PacketTimes.{packet-retimed}
 
 -- the length of a frame is told by its prefix, and by how many bytes there are
 length-same : (l l' : List ℕ) → length l' ≡ length l → take 4 l' ≡ take 4 l → length_of l' ≡ length_of l

@@ -1,11 +1,11 @@
 -- One frame that is slid: what is read of it, which of its bytes change, and how it slides back.
-use mathlib.Core.Path.{◌≡◌, refl, ap, sym, subst, ◌∙◌}
+use mathlib.Core.Path.{◌≡◌, refl, ap, sym, ◌∙◌}
 use mathlib.Core.Bool.{Bool, true, false, cond, false≢true}
-use mathlib.Core.Logic.{◌⊎◌, inl, inr, ⊎_elim}
+use mathlib.Core.Logic.{inl, inr, ⊎_elim}
 use mathlib.Core.List.{List}
-use Prim.Native.Nat.{ℕ, ◌+◌, ◌*◌, ◌/◌, ◌%◌, ◌^◌, ◌<◌, ◌≤◌}
+use Prim.Native.Nat.{ℕ, ◌+◌, ◌^◌, ◌<◌, ◌≤◌}
 use native.Mathlib.Omega.{arith}
-use lib.ListN.{length, get_or, take, drop}
+use lib.ListN.{length, take, drop}
 use Rattle.clock.specs.Shift.{shifted}
 use Rattle.wire.specs.Number.{number, bytes}
 use Rattle.wire.proofs.Numbers.{bytes_read, number_small}
@@ -13,9 +13,9 @@ use Rattle.wire.proofs.Parts.{drop-small}
 use Rattle.node.specs.Forest.{Forest, nil, node, size}
 use Rattle.node.specs.declared.record.Item.{Item}
 use Rattle.packet.specs.Packet.{one}
-use Rattle.framing.specs.Framing.{read, cut_frame}
+use Rattle.framing.specs.Framing.{read}
 use Rattle.slides.specs.Slides.{has_time, time_tag_of, time_place, with_time, slid_item, slid_forest, slid_bytes, InTime}
-use Rattle.slides.specs.Laws.{AreBytes, SlidFrame, FrameSlides}
+use Rattle.slides.specs.Laws.{AreBytes, FrameSlides}
 use Rattle.slides.proofs.Times.{TimeAt}
 use Rattle.slides.proofs.Marks.{TimesAre}
 use Rattle.slides.proofs.Slid.{FrameIs, place-room, times-read, slid-read}

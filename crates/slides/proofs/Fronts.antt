@@ -5,26 +5,27 @@ use mathlib.Core.List.{List, [], ◌∷◌}
 use Prim.Native.Nat.{ℕ, zero, suc, ◌+◌, ◌<◌, ◌≤◌}
 use native.Mathlib.Omega.{arith}
 use lib.Dec.{eqb, leb}
-use lib.ListN.{length, take, drop, length-take, take-append-drop}
+use lib.ListN.{length, take, drop, take-append-drop}
 use lib.Seq.{take-take, length-take-le}
 use Rattle.refusal.specs.declared.Fault.{Fault}
 use Rattle.refusal.specs.declared.Fault.TheVariants.{NotScalar}
+use Rattle.wire.proofs.Payloads.{ok-is}
 use Rattle.wire.specs.Number.{from, number}
-use Rattle.wire.proofs.Choices.{else-only, then-only}
 use Rattle.utf8.specs.Derive.{utf8}
 use Rattle.node.specs.Tags.{is_scalar}
 use Rattle.node.specs.declared.record.Item.{Item}
 use Rattle.node.specs.declared.tags.Class.{Class}
 use Rattle.node.specs.declared.tags.Class.TheVariants.{Four, Eight, Bare, Text as String, Blob, Scalar, Unknown}
 use Rattle.text.specs.Text.{until_nul, reach, read_text}
-use Rattle.text.specs.declared.Text.{Text}
-use Rattle.text.specs.declared.Text.TheVariants.{Found, Lacks}
+use Rattle.argument.specs.Results.{Arg}
+use Rattle.argument.specs.declared.GivenArg.{GivenArg}
+use Rattle.std.specs.Prelude.{Err, Ok}
+use Rattle.text.specs.Results.{Found, Text}
+use Rattle.argument.specs.Results as arg
 use Rattle.text.proofs.Nuls.{nul-longer}
 use Rattle.text.proofs.Texts.{whole}
 use Rattle.text.proofs.Within.{found_in, found-ends}
 use Rattle.argument.specs.Argument.{having, arg_item, text_arg, read_arg}
-use Rattle.argument.specs.declared.Arg.{Arg}
-use Rattle.argument.specs.declared.Arg.TheVariants as arg
 use Rattle.slides.proofs.Puts.{drop-take}
 
 -- the first NUL stands among the first bytes
@@ -49,6 +50,14 @@ unfolding number
 number-later l l' s =
     ap (from 0) (sym (drop-take 4 4 l') ∙ ap (drop 4) s ∙ drop-take 4 4 l)
 
+-- of two arguments that are the same, the items
+pub item-of : {x y : GivenArg} → ◌≡◌ {A = Arg} (Ok x) (Ok y) → x.item ≡ y.item
+item-of e = ap (λ (x : GivenArg). x.item) (ok-is e)
+
+-- and how many bytes they take
+pub used-of : {x y : GivenArg} → ◌≡◌ {A = Arg} (Ok x) (Ok y) → x.used ≡ y.used
+used-of e = ap (λ (x : GivenArg). x.used) (ok-is e)
+
 module _ (l l' : List ℕ) (p : ℕ) (long : length l' ≡ length l) where
   pub text-front : (n used : ℕ) → read_text l p ≡ Found n used → take used l' ≡ take used l → read_text l' p ≡ Found n used
   text-front n used e s =
@@ -65,7 +74,7 @@ module _ (l l' : List ℕ) (p : ℕ) (long : length l' ≡ length l) where
   given-if : (n : ℕ) (k : Fault) (x : Arg) {item : Item} {used : ℕ} → having n l k x ≡ arg.Given item used → x ≡ arg.Given item used
   given-if n k x {item} {used} e = by-test (leb n (length l)) e
     where
-      by-test : (t : Bool) → cond t x (arg.Refused k) ≡ arg.Given item used → x ≡ arg.Given item used
+      by-test : (t : Bool) → cond t x (Err k) ≡ arg.Given item used → x ≡ arg.Given item used
       by-test true f = f
       by-test false f = let z : ◌≡◌ {A = ℕ} 0 1 = cc in absurd (omega arith)
 
@@ -74,33 +83,33 @@ module _ (l l' : List ℕ) (p : ℕ) (long : length l' ≡ length l) where
   unfolding read_arg
   arg-front tag Four item used e s =
       let f : arg.Given (arg_item tag (0 + p) (number 4 l) 0) 4 ≡ arg.Given item used = given-if 4 _ _ e in
-      let u : 4 ≡ used = cc in
+      let u : 4 ≡ used = used-of f in
       rw (long, number-front 4 used l l' (omega arith) s) e
   arg-front tag Eight item used e s =
       let f : arg.Given (arg_item tag (0 + p) (number 4 l) (number 4 (drop 4 l))) 8 ≡ arg.Given item used = given-if 8 _ _ e in
-      let u : used ≡ 8 = cc in
+      let u : used ≡ 8 = sym (used-of f) in
       rw (long, number-front 4 used l l' (omega arith) s, number-later l l' (rw u at s)) e
   arg-front tag Bare item used e s = e
   arg-front tag String item used e s = by-text (read_text l p) refl e
     where
       by-text : (t : Text) → read_text l p ≡ t → text_arg tag (0 + p) p t ≡ arg.Given item used
           → text_arg tag (0 + p) p (read_text l' p) ≡ arg.Given item used
-      by-text (Found n u) f g =
-          let same : u ≡ used = cc in
-          ap (text_arg tag (0 + p) p) (text-front n u f (rw same s)) ∙ g
-      by-text (Lacks k) f g = let z : ◌≡◌ {A = ℕ} 0 1 = cc in absurd (omega arith)
+      by-text (Ok text) f g =
+          let same : text.used ≡ used = used-of g in
+          ap (text_arg tag (0 + p) p) (text-front text.length text.used f (rw same s)) ∙ g
+      by-text (Err k) f g = let z : ◌≡◌ {A = ℕ} 0 1 = cc in absurd (omega arith)
   arg-front tag Blob item used e s =
       let n = number 4 l in
       let f : arg.Given (arg_item tag (0 + p) (0 + (p + 4)) n) (reach p (4 + n)) ≡ arg.Given item used
       = given-if (reach p (4 + n)) _ _ (given-if (4 + n) _ _ (given-if 4 _ _ e)) in
-      let u : reach p (4 + n) ≡ used = cc in
+      let u : reach p (4 + n) ≡ used = used-of f in
       rw (long, number-front 4 used l l' (omega arith) s) e
   arg-front tag Scalar item used e s =
       let u : 4 ≡ used = scalar (is_scalar (number 4 l)) (given-if 4 _ _ e) in
       rw (long, number-front 4 used l l' (omega arith) s) e
     where
-      scalar : (t : Bool) → cond t (arg.Given (arg_item tag (0 + p) (number 4 l) 0) 4) (arg.Refused NotScalar) ≡ arg.Given item used
+      scalar : (t : Bool) → cond t (arg.Given (arg_item tag (0 + p) (number 4 l) 0) 4) (Err NotScalar) ≡ arg.Given item used
           → 4 ≡ used
-      scalar true f = cc
+      scalar true f = used-of f
       scalar false f = let z : ◌≡◌ {A = ℕ} 0 1 = cc in absurd (omega arith)
   arg-front tag Unknown item used e s = e

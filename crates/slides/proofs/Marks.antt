@@ -1,16 +1,14 @@
 -- Time tags that are set one after another: as each is set by its place, it does not matter whether two nodes have one place.
 use mathlib.Core.Path.{◌≡◌, refl, ap, sym, ◌∙◌}
 use mathlib.Core.Bool.{Bool, true, false, cond, ◌||◌, ◌&&◌, false≢true}
-use mathlib.Core.Logic.{◌⊎◌, inl, inr, ⊎_elim}
-use Prim.Native.Nat.{ℕ, ◌+◌, ◌*◌, ◌/◌, ◌%◌, ◌^◌, ◌<◌}
-use native.Mathlib.Omega.{arith}
+use Prim.Native.Nat.{ℕ}
 use borrow.Author.Tests.{eqb-true, eqb-false, eq-eqb}
 use lib.Dec.{eqb}
 use Rattle.clock.specs.Shift.{shifted}
 use Rattle.node.specs.Forest.{Forest, nil, node}
 use Rattle.node.specs.declared.record.Item.{Item}
 use Rattle.slides.specs.Slides.{has_time, time_tag_of, time_place, with_time, slid_item, slid_forest}
-use Rattle.slides.proofs.Times.{AtPlace, retimed, retimed_forest, retimed-at, retimed-not}
+use Rattle.slides.proofs.Times.{retimed, retimed_forest, retimed-at, retimed-not}
 
 -- every time tag of these trees is what N says of its place
 abbrev pub TimesAre : (ℕ → ℕ) → Forest → Type 0

@@ -1,10 +1,9 @@
 -- A time tag of a packet: another number there is read as that number, and nothing else changes.
 use mathlib.Core.Path.{◌≡◌, refl, ap, sym, subst, ◌∙◌}
 use mathlib.Core.Bool.{Bool, true, false, cond}
-use mathlib.Core.Logic.{◌⊎◌, inl, inr, ⊎_elim}
+use mathlib.Core.Logic.{inl, inr, ⊎_elim}
 use mathlib.Core.List.{List}
-use Prim.Native.Nat.{ℕ, zero, suc, ◌+◌, ◌-◌, ◌/◌, ◌%◌, ◌^◌, ◌<◌, ◌≤◌}
-use native.Mathlib.Nat.{zero-add}
+use Prim.Native.Nat.{ℕ, zero, suc, ◌+◌, ◌-◌, ◌^◌, ◌<◌, ◌≤◌}
 use native.Mathlib.Omega.{arith}
 use borrow.Author.Tests.{le-leb, leb-true}
 use lib.Dec.{leb}
@@ -12,31 +11,27 @@ use lib.ListN.{length, get_or, take, drop, length-drop, length-take}
 use lib.Seq.{get_or-take, take-take}
 use Rattle.refusal.specs.declared.Fault.TheVariants.{Short}
 use Rattle.refusal.specs.declared.Field.TheVariants.{Head}
-use Rattle.wire.specs.Number.{number}
 use Rattle.wire.specs.Pad.{padded}
-use Rattle.wire.specs.Same.{same_bytes}
 use Rattle.node.specs.Forest.{Forest, nil, node}
-use Rattle.node.specs.Tags.{bundle_kind, message_kind}
 use Rattle.node.specs.declared.record.Item.{Item}
 use Rattle.text.specs.Text.{read_text}
-use Rattle.text.specs.declared.Text.{Text}
-use Rattle.text.specs.declared.Text.TheVariants.{Found, Lacks}
+use Rattle.heads.specs.Results.{ElementSize}
+use Rattle.packet.specs.Results.{Start}
+use Rattle.std.specs.Prelude.{Err, None, Some, Ok}
+use Rattle.text.specs.Results.{Found, Text}
+use Rattle.packet.specs.Results as start
 use Rattle.text.proofs.Within.{found_in, found-ends}
 use Rattle.arguments.specs.Arguments.{Args, refused, args, read_args}
 use Rattle.heads.specs.Heads.{tags_in, size_of, message_item, bundle_item}
-use Rattle.heads.specs.declared.ElementSize.{ElementSize}
-use Rattle.heads.specs.declared.ElementSize.TheVariants as sizes
 use Rattle.heads.proofs.Heads.{SizeIn, size-within}
-use Rattle.packet.specs.FirstText.{start_by, start_of}
+use Rattle.packet.specs.FirstText.{start_of}
 use Rattle.packet.specs.Packet.{Out, fault, one, Elements, upto, after, message_with, types_then, read_message, bundle_with, bundle_by}
 use Rattle.packet.specs.Packet.{read_elements, trees_in}
 use Rattle.packet.specs.Packet.{filling, held_by, element_by, joined, go_on}
 use Rattle.packet.specs.Packet.{elements_by, started_by, packet_by, packet_at, elements_at, read_packet}
-use Rattle.packet.specs.declared.Start.{Start}
-use Rattle.packet.specs.declared.Start.TheVariants as start
 use Rattle.packet.proofs.FirstText.{message-start-in, bundle-start-in, message-text, bundle-text}
 use Rattle.packet.proofs.Items.{HasItem, message-item}
-use Rattle.slides.specs.Slides.{has_time, time_place, with_time, put_time}
+use Rattle.slides.specs.Slides.{time_place, with_time, put_time}
 use Rattle.slides.proofs.Puts.{put-length, put-take-before, put-drop-before, put-drop-after}
 use Rattle.slides.proofs.Puts.{put-take-after, put-high, put_low, drop-take}
 use Rattle.slides.proofs.Fronts.{number-front, number-later, text-front}
@@ -129,24 +124,26 @@ module _ (q v : ℕ) (small : v < 2 ^ 64) where
       by-text : (x : Text) → read_text l p ≡ x → types_then 0 item l p x ≡ one item' f u
           → Placed q l p
           × (types_then 0 item (put_time (q - p) v l) p (read_text (put_time (q - p) v l) p) ≡ one item' (retimed_forest q v f) u)
-      by-text (Lacks k) d g = let z : ◌≡◌ {A = ℕ} 0 1 = cc in absurd (omega arith)
-      by-text (Found m used) d g =
-          let x = read_args 0 (tags_in (take m l)) (drop used l) (p + used) in
-          let o = after_is used (message_with item x) item' f u g in
+      by-text (Err k) d g = let z : ◌≡◌ {A = ℕ} 0 1 = cc in absurd (omega arith)
+      by-text (Ok text) d g =
+          let x = read_args 0 (tags_in (take text.length l)) (drop text.used l) (p + text.used) in
+          let o = after_is text.used (message_with item x) item' f u g in
           let k = message-is item x item' f o.0 o.1 in
-          let w = args-retimed q v small (tags_in (take m l)) (drop used l) (p + used) f o.0 k.0 a in
+          let w = args-retimed q v small (tags_in (take text.length l)) (drop text.used l) (p + text.used) f o.0 k.0 a in
           let t = found_in l p (sym d) in
-          let in-it : used ≤ length l = t.1 in
-          let front = after-take l p used in-it w.0 in
+          let in-it : text.used ≤ length l = t.1 in
+          let front = after-take l p text.used in-it w.0 in
           let l' = put_time (q - p) v l in
-          let word : take m l' ≡ take m l
-          = sym (take-take m used l' (omega arith)) ∙ ap (take m) front ∙ take-take m used l (omega arith) in (
-            after-placed l p used in-it w.0,
-            ap (types_then 0 item l' p) (text-front l l' p (after-long l p used in-it w.0) m used d front)
-                ∙ ap (λ (t : List ℕ). after used (message_with item (read_args 0 (tags_in t) (drop used l') (p + used)))) word
-                ∙ ap (λ (t : List ℕ). after used (message_with item (read_args 0 (tags_in (take m l)) t (p + used))))
-                (after-drop l p used in-it w.0)
-                ∙ ap (λ (y : Args). after used (message_with item y)) w.1
+          let word : take text.length l' ≡ take text.length l
+          = sym (take-take text.length text.used l' (omega arith)) ∙ ap (take text.length) front
+          ∙ take-take text.length text.used l (omega arith) in (
+            after-placed l p text.used in-it w.0,
+            ap (types_then 0 item l' p) (text-front l l' p (after-long l p text.used in-it w.0) text.length text.used d front)
+                ∙ ap (λ (t : List ℕ). after text.used (message_with item (read_args 0 (tags_in t) (drop text.used l') (p + text.used))))
+                word
+                ∙ ap (λ (t : List ℕ). after text.used (message_with item (read_args 0 (tags_in (take text.length l)) t (p + text.used))))
+                (after-drop l p text.used in-it w.0)
+                ∙ ap (λ (y : Args). after text.used (message_with item y)) w.1
                 ∙ cc (k.1, o.2),
           )
 
@@ -220,7 +217,7 @@ module _ (q v : ℕ) (small : v < 2 ^ 64) where
       where
         by-start : (x : Start) → start_of l p ≡ x → started_by 0 es l p x ≡ one item f u
             → Placed q l p × (packet_by 0 es (put_time (q - p) v l) p ≡ one (retimed q v item) (retimed_forest q v f) u)
-        by-start (start.Refused k) d g = let z : ◌≡◌ {A = ℕ} 0 1 = cc in absurd (omega arith)
+        by-start (Err k) d g = let z : ◌≡◌ {A = ℕ} 0 1 = cc in absurd (omega arith)
         by-start (start.Message n used) d g =
             let own = message_item (0 + p) n in
             let o = after_is used (read_message 0 own (drop used l) (p + used)) item f u g in
@@ -259,7 +256,7 @@ module _ (q v : ℕ) (small : v < 2 ^ 64) where
     -- ---- elements
 
     module _ (pk : List ℕ → ℕ → Out) (hp : OutRetimed pk) where
-      module _ (l : List ℕ) (p n : ℕ) (d : size_of l ≡ sizes.Holds n) (item : Item) (g : Forest) (m : ℕ)
+      module _ (l : List ℕ) (p n : ℕ) (d : size_of l ≡ Some n) (item : Item) (g : Forest) (m : ℕ)
           (o : pk (take n (drop 4 l)) (p + 4) ≡ one item g m) (rest : Forest) (k : ℕ)
           (r : es (drop (4 + n) l) (p + (4 + n)) ≡ upto rest k) where
         abbrev Joined : Type 0
@@ -285,11 +282,11 @@ module _ (q v : ℕ) (small : v < 2 ^ 64) where
             (w.0.low, omega (arith, body-long))
 
         -- the size is told by its four bytes
-        size_same : (l' : List ℕ) → length l' ≡ length l → take 4 l' ≡ take 4 l → size_of l' ≡ sizes.Holds n
+        size_same : (l' : List ℕ) → length l' ≡ length l → take 4 l' ≡ take 4 l → size_of l' ≡ Some n
         unfolding size_of
         size_same l' long front = rw (long, number-front 4 4 l l' (omega arith) front) d
 
-        elements-are : (l' : List ℕ) (item' : Item) (g' rest' : Forest) → size_of l' ≡ sizes.Holds n
+        elements-are : (l' : List ℕ) (item' : Item) (g' rest' : Forest) → size_of l' ≡ Some n
             → pk (take n (drop 4 l')) (p + 4) ≡ one item' g' m → es (drop (4 + n) l') (p + (4 + n)) ≡ upto rest' k
             → elements_by pk es l' p ≡ upto (node item' g' rest') (4 + n + k)
         unfolding elements_by element_by
@@ -350,7 +347,7 @@ module _ (q v : ℕ) (small : v < 2 ^ 64) where
           none : upto nil 0 ≡ upto f u → Goal
           none g = let same : nil ≡ f = cc in absurd (subst (λ (x : Forest). TimeAt q x → ⊥) same (λ (b : ⊥). b) a)
 
-          by-els : (n : ℕ) → size_of l ≡ sizes.Holds n → (item : Item) (g : Forest) (m : ℕ) → pk (take n (drop 4 l)) (p + 4) ≡ one item g m
+          by-els : (n : ℕ) → size_of l ≡ Some n → (item : Item) (g : Forest) (m : ℕ) → pk (take n (drop 4 l)) (p + 4) ≡ one item g m
               → joined item g n (es (drop (4 + n) l) (p + (4 + n))) ≡ upto f u → Goal
           by-els n d item g m o j =
               let w = joined_is item g n (es (drop (4 + n) l) (p + (4 + n))) f u j in
@@ -360,14 +357,14 @@ module _ (q v : ℕ) (small : v < 2 ^ 64) where
                     (upto (retimed_forest q v f)) (sym w.4),
               )
 
-          by_out : (n : ℕ) → size_of l ≡ sizes.Holds n → (o : Out) → pk (take n (drop 4 l)) (p + 4) ≡ o
+          by_out : (n : ℕ) → size_of l ≡ Some n → (o : Out) → pk (take n (drop 4 l)) (p + 4) ≡ o
               → go_on es l p (filling n o) ≡ upto f u → Goal
           by_out n d (fault k) o g = none g
           by_out n d (one item g m) o j = by-els n d item g m o j
 
           by_size : (x : ElementSize) → size_of l ≡ x → go_on es l p (held_by pk l p x) ≡ upto f u → Goal
-          by_size sizes.RunsOut d g = none g
-          by_size (sizes.Holds n) d g = by_out n d (pk (take n (drop 4 l)) (p + 4)) refl g
+          by_size None d g = none g
+          by_size (Some n) d g = by_out n d (pk (take n (drop 4 l)) (p + 4)) refl g
 
   mutual
     unfolding packet_at

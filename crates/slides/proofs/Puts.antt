@@ -1,13 +1,13 @@
 -- Bytes with eight of them replaced: how long they are, their parts, the number that is read there, and what stood there put back.
-use mathlib.Core.Path.{◌≡◌, refl, ap, sym, ◌∙◌}
+use mathlib.Core.Path.{◌≡◌, ap, sym, ◌∙◌}
 use mathlib.Core.List.{List, [], ◌∷◌, ◌++◌, append_assoc}
-use Prim.Native.Nat.{ℕ, zero, suc, ◌+◌, ◌-◌, ◌*◌, ◌/◌, ◌%◌, ◌^◌, ◌<◌, ◌≤◌}
+use Prim.Native.Nat.{ℕ, zero, suc, ◌+◌, ◌-◌, ◌/◌, ◌%◌, ◌^◌, ◌<◌, ◌≤◌}
 use native.Mathlib.Nat.{zero-add, suc-add}
 use native.Mathlib.Omega.{arith}
-use lib.ListN.{length, get_or, take, drop, length-append, length-drop, length-take, take-append-drop}
-use lib.Seq.{drop-append-le, take-append-le, take_at, drop_at, take-take, drop-drop, take-add, length-take-le, take-nil, drop-nil}
+use lib.ListN.{length, take, drop, length-append, length-drop}
+use lib.Seq.{drop-append-le, take-append-le, take_at, drop_at, take-take, drop-drop, take-add, length-take-le, take-nil}
 use Rattle.wire.specs.Number.{number, bytes}
-use Rattle.wire.proofs.Numbers.{length-bytes, eight-bytes, read-written, number-parts, bytes_read}
+use Rattle.wire.proofs.Numbers.{length-bytes, eight-bytes, read-written}
 use Rattle.slides.specs.Slides.{put_time}
 
 -- what is left of the first u + k bytes after u of them

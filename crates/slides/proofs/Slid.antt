@@ -1,22 +1,22 @@
 -- A frame that is slid is read as its tree, slid: all of its time tags, and nothing else.
 use mathlib.Core.Path.{◌≡◌, refl, ap, sym, subst, ◌∙◌}
 use mathlib.Core.Bool.{Bool, true, false, cond}
-use mathlib.Core.Logic.{◌⊎◌, inl, inr, ⊎_elim}
+use mathlib.Core.Logic.{inl, inr}
 use mathlib.Core.List.{List, ◌++◌}
-use Prim.Native.Nat.{ℕ, ◌+◌, ◌*◌, ◌/◌, ◌%◌, ◌^◌, ◌<◌, ◌≤◌}
+use Prim.Native.Nat.{ℕ, ◌+◌, ◌/◌, ◌%◌, ◌^◌, ◌<◌, ◌≤◌}
 use native.Mathlib.Omega.{arith}
 use lib.ListN.{length, get_or, take, drop, take-append-drop}
 use Rattle.clock.specs.Shift.{shifted}
-use Rattle.wire.specs.Number.{number, bytes}
+use Rattle.wire.specs.Number.{number}
 use Rattle.wire.proofs.Numbers.{number_small, number-bytes}
 use Rattle.wire.proofs.Parts.{drop-small}
 use Rattle.node.specs.Forest.{Forest, nil, node}
 use Rattle.node.specs.declared.record.Item.{Item}
 use Rattle.packet.specs.Packet.{one}
 use Rattle.framing.specs.Framing.{read, cut_frame}
-use Rattle.slides.specs.Slides.{has_time, time_tag_of, time_place, with_time, slid_item, slid_forest, put_time, slide_one, slid_bytes}
+use Rattle.slides.specs.Slides.{has_time, time_tag_of, time_place, with_time, slid_forest, put_time, slide_one, slid_bytes}
 use Rattle.slides.proofs.Puts.{put-length}
-use Rattle.slides.proofs.Times.{AtPlace, TimeAt, retimed, retimed_forest, retimed-at}
+use Rattle.slides.proofs.Times.{TimeAt, retimed, retimed_forest, retimed-at}
 use Rattle.slides.proofs.FrameTimes.{retimed-kind, retimed-start, frame-retimed}
 use Rattle.slides.proofs.Marks.{TimesAre, retime_one, retime_all, retimed-slid}
 

@@ -2,14 +2,12 @@
 use mathlib.Core.Path.{◌≡◌, refl, ap, sym, ◌∙◌}
 use mathlib.Core.Bool.{Bool, true, false, cond, ◌||◌, ◌&&◌, false≢true}
 use mathlib.Core.Logic.{◌⊎◌, inl, inr, ⊎_elim}
-use mathlib.Core.List.{List, [], ◌∷◌}
+use mathlib.Core.List.{List}
 use Prim.Native.Nat.{ℕ, ◌+◌, ◌≤◌}
-use native.Mathlib.Omega.{arith}
-use borrow.Author.Tests.{eqb-true, eqb-false, eq-eqb, ne_eqb}
+use borrow.Author.Tests.{eqb-true, eqb-false, eq-eqb}
 use lib.Dec.{eqb}
 use lib.ListN.{length}
-use Rattle.wire.proofs.Choices.{by-test, by-eq}
-use Rattle.node.specs.Forest.{Forest, nil, node, snoc, size, depth}
+use Rattle.node.specs.Forest.{Forest, nil, node, snoc}
 use Rattle.node.specs.Tags.{bundle_kind}
 use Rattle.node.specs.declared.record.Item.{Item}
 use Rattle.slides.specs.Slides.{has_time, time_place, with_time}

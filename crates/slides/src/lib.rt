@@ -18,10 +18,8 @@ pub fn slide_records(frame: &mut [u8], by: u64, table: &[u8], count: usize)
     requires { (record_size * count ≤ length table.now) × RecordsFit (length frame.old) table.now count }
     ensures { frame.new ≡ slid_records by table.now 0 count frame.old }
 {
-    let mut i = 0;
-    while i < count {
+    for i in 0..count {
         slide_one(frame, by, record::item_at(table, i));
-        i += 1;
     }
 }
 
@@ -46,7 +44,7 @@ fn slide_one(frame: &mut [u8], by: u64, item: Item)
 fn time_in(item: Item) -> u64
     ensures { result ≡ time_tag_of item }
 {
-    item.a as u64 * 0x1_0000_0000 + item.b as u64
+    u64::from(item.a) * 0x1_0000_0000 + u64::from(item.b)
 }
 
 // Writes a time tag over eight bytes.

@@ -16,8 +16,13 @@ use Rattle.wire.proofs.Choices.{by-test, by-eq, by_both}
 use Rattle.node.specs.Forest.{Forest, nil, node, size, depth, level}
 use Rattle.node.specs.declared.record.Item.{Item}
 use Rattle.heads.specs.Heads.{length_of}
-use Rattle.heads.specs.declared.Length.{Length}
-use Rattle.heads.specs.declared.Length.TheVariants as cut
+use Rattle.heads.specs.Results.{Length}
+use Rattle.measure.specs.Results.{Extent}
+use Rattle.rosc_inputs.specs.Results.{Total}
+use Rattle.standard_inputs.specs.Results.{CutExtent, Refused, Tree, Unreadable, Waiting}
+use Rattle.std.specs.Prelude.{Err, Ok, Some}
+use Rattle.heads.specs.Results as cut
+use Rattle.rosc_inputs.specs.Results as total
 use Rattle.heads.proofs.Heads.{part-4}
 use Rattle.packet.specs.Packet.{Out, fault, one, after, read_packet}
 use Rattle.argument.specs.CodeParts.{StandsAt}
@@ -25,7 +30,6 @@ use Rattle.argument.specs.Dirt.{packets_padding, dirty_in}
 use Rattle.argument.proofs.Pads.{dirt-few}
 use Rattle.argument.proofs.Stands.{stands-drop, stands-take}
 use Rattle.measure.specs.CodeMeasure.{extent, node_dirt}
-use Rattle.measure.specs.declared.Extent.{Extent}
 use Rattle.measure.proofs.Extents.{extent-after}
 use Rattle.framing.specs.Framing.{stopped, Frame, wait, read, refused, wholly, cut_with, cut_frame, first, tcp2}
 use Rattle.framing.specs.Framing.{stops, tcp_vec2}
@@ -33,13 +37,9 @@ use Rattle.framing.proofs.FrameKnot.{FrameIn, cut_in}
 use Rattle.framing.proofs.FrameStarts.{FrameStarts, cut-starts}
 use Rattle.framing.proofs.Lists as lists
 use Rattle.rosc_inputs.specs.CodeTotals.{total_of, added}
-use Rattle.rosc_inputs.specs.declared.Total.{Total}
-use Rattle.rosc_inputs.specs.declared.Total.TheVariants as total
 use Rattle.rosc_inputs.proofs.Totals.{one-tree, one_size, one-dirt}
 use Rattle.rosc_inputs.proofs.Counting as counting
 use Rattle.standard_inputs.specs.CodeStreams.{cut_extent, judged}
-use Rattle.standard_inputs.specs.declared.CutExtent.{CutExtent}
-use Rattle.standard_inputs.specs.declared.CutExtent.TheVariants.{Waiting, Tree, Unreadable, Refused}
 
 -- ---- one frame
 
@@ -116,9 +116,9 @@ cut-shallow limit base l = go (length_of l)
 -- the total of one frame of n bytes of input
 abbrev pub total_of_cut : ℕ → CutExtent → Total
 total_of_cut n Waiting = total.Waiting
-total_of_cut n (Tree count next dirty) = total.Trees count (n - next) dirty
-total_of_cut n (Unreadable k) = total.Refused (why.Unreadable k)
-total_of_cut n (Refused k) = total.Refused k
+total_of_cut n (Ok (Some frame)) = total.Trees frame.count (n - frame.next) frame.dirty
+total_of_cut n (Unreadable k) = Err (why.Unreadable k)
+total_of_cut n (Refused k) = Err k
 
 total_first : (n limit base : ℕ) (msg : List ℕ) (x : Frame) → FrameStarts base x → Shallow limit x
     → total_of_cut n (cut_extent (node_dirt base msg) x) ≡ total_of limit (dirty_in msg) (first n x)
@@ -139,7 +139,7 @@ tcp2-total limit msg e =
 -- a frame that was measured lies within its input, and its dirt is small
 abbrev pub CutExtentIn : ℕ → CutExtent → Type 0
 CutExtentIn m Waiting = Unit {0}
-CutExtentIn m (Tree n next x) = (n + 4 ≤ next) × (next ≤ m) × (x ≤ 6 * n)
+CutExtentIn m (Ok (Some frame)) = (frame.count + 4 ≤ frame.next) × (frame.next ≤ m) × (frame.dirty ≤ 6 * frame.count)
 CutExtentIn m (Unreadable k) = fault_offset k ≤ m
 CutExtentIn m (Refused k) = Unit {0}
 
@@ -192,9 +192,9 @@ module _ (t : Turn) where
   -- the whole total by what the next frame is found to be
   abbrev onward : CutExtent → Total
   onward Waiting = added t.count t.dirt t.deep (total.Trees 0 (length (drop t.at t.msg)) 0)
-  onward (Tree n next x) =
-      added (t.count + n) (t.dirt + x) t.deep (total_of t.limit (dirty_in t.msg)
-      (lists.following (cut_frame t.limit) stops t.at (drop t.at t.msg) next))
+  onward (Ok (Some frame)) =
+      added (t.count + frame.count) (t.dirt + frame.dirty) t.deep (total_of t.limit (dirty_in t.msg)
+      (lists.following (cut_frame t.limit) stops t.at (drop t.at t.msg) frame.next))
   onward (Unreadable k) =
       added t.count t.dirt t.deep
       (total.Stopped 0 (length (drop t.at t.msg)) 0 (why.Unreadable (moved_by t.at k)) t.at)

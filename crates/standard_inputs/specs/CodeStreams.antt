@@ -1,14 +1,13 @@
 -- Describes code, and no part of the document: what the first reading of a frame of edition 2 answers. It writes nothing.
-use Rattle.std.specs.Prelude.{cond, ℕ, ◌+◌, eqb}
+use Rattle.std.specs.Prelude.{cond, ℕ, ◌+◌, eqb, Err}
 use Rattle.refusal.specs.declared.Refusal.TheVariants.{TooDeep, BytesLeft}
 use Rattle.node.specs.Forest.{Forest, size}
 use Rattle.node.specs.declared.record.Item.{Item}
 use Rattle.packet.specs.Packet.{fault, one}
-use Rattle.measure.specs.declared.Extent.{Extent}
-use Rattle.measure.specs.declared.Extent.TheVariants as extents
+use Rattle.measure.specs.Results.{Extent}
+use Rattle.standard_inputs.specs.Results.{CutExtent, Refused, Tree, Unreadable, Waiting}
+use Rattle.measure.specs.Results as extents
 use Rattle.framing.specs.Framing.{Frame, wait, read, refused}
-use Rattle.standard_inputs.specs.declared.CutExtent.{CutExtent}
-use Rattle.standard_inputs.specs.declared.CutExtent.TheVariants.{Waiting, Tree, Unreadable, Refused}
 
 -- the first reading of a frame
 abbrev pub cut_extent : (Item → Forest → ℕ) → Frame → CutExtent
@@ -21,4 +20,4 @@ cut_extent dirt (refused k) = Refused k
 abbrev pub judged : ℕ → Extent → CutExtent
 judged n (extents.Tree count next dirty) = cond (eqb next n) (Tree count next dirty) (Refused BytesLeft)
 judged n (extents.Deep next) = cond (eqb next n) (Refused TooDeep) (Refused BytesLeft)
-judged n (extents.Refused k) = Unreadable k
+judged n (Err k) = Unreadable k

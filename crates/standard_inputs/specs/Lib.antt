@@ -1,1 +1,2 @@
 pub mod CodeStreams
+pub mod Results

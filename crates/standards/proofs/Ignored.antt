@@ -1,13 +1,12 @@
 -- Ticket 10: tables that differ in their starts alone have trees that do, and those are written alike.
-use mathlib.Core.Path.{◌≡◌, refl, sym, ap, subst, ◌∙◌}
+use mathlib.Core.Path.{◌≡◌, refl, sym, ap, ◌∙◌}
 use mathlib.Core.Bool.{true, cond}
-use mathlib.Core.List.{List, [], ◌∷◌}
+use mathlib.Core.List.{List}
 use Prim.Native.Nat.{ℕ, ◌+◌, ◌-◌, ◌%◌, ◌≤◌, ◌<◌, min}
 use native.Mathlib.Omega.{arith}
-use lib.ListN.{length, get_or, take, drop, length-take, length-drop}
+use lib.ListN.{length, take, drop, length-take, length-drop}
 use lib.Seq.{ext_get_or, get_or-take, get_or-drop}
 use Rattle.edition.specs.declared.Edition.{Edition}
-use Rattle.edition.specs.declared.Edition.TheVariants.{Rosc, Standard}
 use Rattle.wire.specs.Number.{from, number}
 use Rattle.node.specs.Forest.{Forest, nil, node, depth}
 use Rattle.node.specs.Records.{kind_at, zeros_at, field_at, start_at, end_at, item_at, record_start}
@@ -19,9 +18,8 @@ use Rattle.node.specs.declared.tags.Sort.{Sort}
 use Rattle.node.specs.declared.tags.Sort.TheVariants.{Opens, Closes, Leaf}
 use Rattle.table.specs.Formed.{range_ok}
 use Rattle.table.specs.Tree.{Spans, Obeys, IsTree}
-use Rattle.table.proofs.Theorem.{tree_formed}
 use Rattle.writers.specs.Osc.{data_by, write_data, write_tags, write_message, write_bundle, write_elements, write_packet}
-use Rattle.encoder.specs.Outcome.{Outcome, Encodes, malformed, formed, tree_outcome, unframed, framed_by}
+use Rattle.encoder.specs.Outcome.{Encodes, malformed, formed, tree_outcome, unframed, framed_by}
 use Rattle.encoder.proofs.Only.{encodes-only}
 use Rattle.wire.proofs.Only.{one-outcome}
 use Rattle.standards.specs.Ignored.{StartsDiffer, IgnoresStarts}

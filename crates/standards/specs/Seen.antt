@@ -1,5 +1,5 @@
 -- What a caller sees of a packet that was decoded, by `look` at each record and by `text_of`, in OSC 1.0's words.
-use Rattle.std.specs.Prelude.{◌≡◌, true, false, List, [], ◌∷◌, ◌++◌, ℕ, ◌+◌}
+use Rattle.std.specs.Prelude.{◌≡◌, true, false, List, [], ◌∷◌, ◌++◌, ℕ, ◌+◌, Ok}
 use Rattle.std.specs.Int.{w32, w64}
 use Rattle.std.proofs.Common.{to_z}
 use Rattle.std.specs.Float.{binary32, binary64}
@@ -11,7 +11,6 @@ use Rattle.values.specs.declared.value.OscMidiMessage.{OscMidiMessage}
 use Rattle.values.specs.declared.value.OscType.{OscType}
 use Rattle.values.specs.declared.value.OscType.TheVariants.{Message, Bundle, Int, Float, String, Blob, Time, Long, Double, Char}
 use Rattle.values.specs.declared.value.OscType.TheVariants.{Color, Midi, Bool, Nil, Inf, Array}
-use Rattle.values.specs.declared.look.Looked.TheVariants.{Value}
 use Rattle.osc10.specs.Osc10.{Atom, word, long, bare, string, blob, char, OscArguments, end, atom, array, Packet, message, bundle, Packets}
 use Rattle.osc10.specs.Osc10.{none, also, osc_int32}
 
@@ -84,7 +83,7 @@ pub data Seen (l : List ℕ) : Entry → OscType → Type 0 where
 -- `look` at record i answers a value of this entry
 pub record LooksAs (l t : List ℕ) (i : ℕ) (entry : Entry) : Type 0 where
   pub value : OscType
-  pub looked : look_at t i ≡ Value value
+  pub looked : look_at t i ≡ Ok value
   pub seen : Seen l entry value
 
 -- the records from i on are looked at as these entries, one after another

@@ -1,7 +1,7 @@
 -- The order's demand 2, "what OSC 1.0 and RFC 3629 define is proved from them": what is claimed of the decoders and the encoders. What is
 -- read is every packet of the wider grammar (`Allowed`). What is written is of the wider grammar for trees with '/'-led addresses and
 -- without NUL in text or address, and of the narrower (`Strict`) for trees that have only what OSC 1.0 has.
-use Rattle.std.specs.Prelude.{◌≡◌, List, ◌++◌, ℕ, ◌≤◌, length, take}
+use Rattle.std.specs.Prelude.{◌≡◌, List, ◌++◌, ℕ, ◌≤◌, length, take, Ok}
 use Rattle.wire.specs.Limits.{longest, deepest}
 use Rattle.node.specs.Forest.{Forest, nil, node, size}
 use Rattle.node.specs.Records.{capacity}
@@ -9,10 +9,9 @@ use Rattle.node.specs.Tags.{message_kind}
 use Rattle.node.specs.declared.record.Item.{Item}
 use Rattle.framing.specs.Framing.{Whole, trees, udp, tcp}
 use Rattle.answering.specs.Limits.{decoded}
-use Rattle.results.specs.declared.Decoded.TheVariants as decoder
+use Rattle.results.specs.Results as decoder
 use Rattle.table.specs.Tree.{IsTree}
 use Rattle.encoder.specs.Outcome.{Outcome, Encodes, unframed, prefixed}
-use Rattle.results.specs.declared.Encoded.TheVariants as encoder
 use Rattle.calls.specs.Demands.{table_after, answer_to}
 use Rattle.osc10.specs.Words.{Bytes, Clean}
 use Rattle.osc10.specs.Osc10.{Packet, Allowed, deep, osc_int32, Spells, StandsFor, Spelled}
@@ -74,7 +73,7 @@ OfWritten frame Given Is =
     (t : List ℕ) (count : ℕ) (source : List ℕ) (item : Item) (inside : Forest) → Bytes t → Bytes source
     → IsTree t count source item inside
     → Given source item inside → (out : List ℕ) (r : Outcome) → Encodes frame t count source out r
-    → (n : ℕ) → r.answer ≡ encoder.Written n
+    → (n : ℕ) → r.answer ≡ Ok n
     → Is source item inside (take n r.out)
 
 -- '/'-led addresses, and no NUL in text or address

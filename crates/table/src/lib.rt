@@ -32,25 +32,22 @@ fn may_contain(container: u8, kind: u8) -> bool
 pub fn text_ok(source: &[u8], offset: u32, count: u32) -> bool
     ensures { result ≡ text_ok source.now offset count }
 {
-    if !lies_in(source, offset, count) {
-        return false;
-    }
-    is_utf8(range(source, offset, count))
+    lies_in(source, offset, count) && is_utf8(range(source, offset, count))
 }
 
 // Whether a node's range is right; a kind without a range passes.
 fn range_ok(source: &[u8], item: Item) -> bool
     ensures { result ≡ range_ok source.now item }
 {
-    let kind = item.kind;
-    match kind {
+    match item.kind {
         MESSAGE | b's' => text_ok(source, item.a, item.b),
         b'b' => lies_in(source, item.a, item.b),
         _ => true,
     }
 }
 
-// Whether nodes that the container may have stand end to end from record `lo` to record `hi`.
+// Whether nodes that the container may have stand end to end from record `lo` to record `hi`. No iterator, as the writers have one: that a
+// record ends after itself is tested here.
 fn tiles(table: &[u8], container: u8, lo: usize, hi: usize) -> bool
     requires { record_size * hi ≤ length table.now }
     ensures { Decides result (Tiles table.now container lo hi) }
@@ -74,21 +71,13 @@ fn node_ok(table: &[u8], count: usize, source: &[u8], index: usize) -> bool
     requires { (index < count) × (record_size * count ≤ length table.now) }
     ensures { Decides result (NodeOk table.now count source.now index) }
 {
-    if zeros_at(table, index) != 0 {
-        return false;
-    }
     let item = item_at(table, index);
-    if !own_rules(item) {
-        return false;
-    }
-    if !range_ok(source, item) {
-        return false;
-    }
     let end = field_at(table, index, END) as usize;
-    if count < end {
-        return false;
-    }
-    tiles(table, item.kind, index + 1, end)
+    zeros_at(table, index) == 0
+        && own_rules(item)
+        && range_ok(source, item)
+        && end <= count
+        && tiles(table, item.kind, index + 1, end)
 }
 
 // Whether a table of `count` records over a source is well formed. Each container's direct children are walked once, in the
@@ -98,39 +87,19 @@ fn node_ok(table: &[u8], count: usize, source: &[u8], index: usize) -> bool
 pub fn is_well_formed(table: &[u8], count: usize, source: &[u8]) -> bool
     ensures { Decides result (WellFormed table.now count source.now) }
 {
-    if count < 1 {
-        return false;
-    }
-    if MOST_RECORDS < count {
-        return false;
-    }
-    if capacity_of(table) < count {
-        return false;
-    }
-    if !is_packet(kind_at(table, 0)) {
-        return false;
-    }
-    if field_at(table, 0, END) as usize != count {
-        return false;
-    }
-    let mut i = 0;
-    while i < count {
-        if !node_ok(table, count, source, i) {
-            return false;
-        }
-        i += 1;
-    }
-    true
+    0 < count
+        && count <= MOST_RECORDS
+        && count <= capacity_of(table)
+        && is_packet(kind_at(table, 0))
+        && field_at(table, 0, END) as usize == count
+        && (0..count).all(|i| node_ok(table, count, source, i))
 }
 
 // Whether a record of a kind is one level of depth: a bundle or an array.
 fn is_level(kind: u8) -> bool
     ensures { result ≡ is_level kind }
 {
-    match kind {
-        BUNDLE | ARRAY => true,
-        _ => false,
-    }
+    matches!(kind, BUNDLE | ARRAY)
 }
 
 // Whether the bundles and arrays of a table of `count` records are nested deeper than a limit along any path; a message adds none.
@@ -143,19 +112,16 @@ pub fn deeper_than(table: &[u8], count: usize, limit: usize) -> bool
 {
     let mut ends = [count; DEEPEST + 1];
     let mut levels = 0;
-    let mut at = 0;
-    while at < count {
-        if ends[levels] <= at {
+    for at in 0..count {
+        while ends[levels] <= at {
             levels -= 1;
-        } else {
-            if is_level(kind_at(table, at)) {
-                if levels == limit {
-                    return true;
-                }
-                levels += 1;
-                ends[levels] = field_at(table, at, END) as usize;
+        }
+        if is_level(kind_at(table, at)) {
+            if levels == limit {
+                return true;
             }
-            at += 1;
+            levels += 1;
+            ends[levels] = field_at(table, at, END) as usize;
         }
     }
     false

@@ -3,7 +3,7 @@ use mathlib.Core.Path.{◌≡◌}
 use mathlib.Core.List.{List}
 use Prim.Native.Nat.{ℕ}
 use Rattle.text.specs.Text.{read_text}
-use Rattle.text.specs.declared.Text.{Text}
+use Rattle.text.specs.Results.{Text}
 use Rattle.wire.proofs.Only.{one-outcome}
 
 -- no second answer satisfies the contract of `read_osc_string`

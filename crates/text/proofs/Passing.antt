@@ -1,15 +1,14 @@
 -- Bytes up to one that stops a count: passed one by one and in blocks; and that a text's UTF-8 test may begin after its plain bytes.
 use mathlib.Core.Path.{◌≡◌, refl, sym, ap, ◌∙◌}
-use mathlib.Core.Bool.{Bool, true, false, cond}
+use mathlib.Core.Bool.{Bool, true, false, cond, ◌||◌}
 use mathlib.Core.List.{List, [], ◌∷◌}
-use Prim.Native.Nat.{ℕ, zero, suc, ◌+◌, ◌<◌, ◌≤◌}
+use Prim.Native.Nat.{ℕ, zero, suc, ◌+◌, ◌-◌, ◌<◌, ◌≤◌}
 use native.Mathlib.Nat.{zero-add, suc-add}
-use native.Mathlib.Numerals.{add-one}
 use native.Mathlib.Omega.{arith}
 use borrow.Author.Tests.{lt-ltb, le-ltb, ltb-true, ltb-false}
 use lib.Dec.{eqb, ltb}
-use lib.ListN.{length, take, drop, get_or, length-drop, drop_of_length-le}
-use lib.Seq.{drop-cons, drop-drop}
+use lib.ListN.{length, take, drop, get_or, length-take, length-drop}
+use lib.Seq.{drop-drop}
 use Rattle.utf8.specs.Utf8.{Range}
 use Rattle.utf8.specs.Derive.{run, utf8}
 use Rattle.utf8.proofs.Plain.{single}
@@ -21,37 +20,15 @@ one_more : (t : Bool) (m i : ℕ) → (i ≤ m → i + 1 ≤ m) → suc i ≤ co
 one_more true m i f h = absurd (omega arith)
 one_more false m i f h = omega (arith, f (omega arith))
 
+longer : (t : Bool) {m k n : ℕ} → (n ≤ m → n ≤ k) → suc n ≤ cond t 0 (suc m) → suc n ≤ cond t 0 (suc k)
+longer true f h = h
+longer false f h = omega (arith, f (omega arith))
+
 count-on : (t : Bool) (m n k : ℕ) → (n ≤ m → m ≡ n + k) → suc n ≤ cond t 0 (suc m) → cond t 0 (suc m) ≡ suc n + k
 count-on true m n k f h = absurd (omega arith)
 count-on false m n k f h = omega (arith, f (omega arith))
 
 module _ (f : ℕ → Bool) where
-  -- ---- counted from a place
-
-  -- a byte that does not stop the count is passed
-  pub one-passed : (l : List ℕ) (i : ℕ) → Passed f i l → i < length l → f (get_or l i 0) ≡ false → Passed f (i + 1) l
-  one-passed l i p h e =
-      let k : count_to f (drop i l) ≡ suc (count_to f (drop (i + 1) l)) = rw (drop-cons l i 0, e, add-one) in
-      (omega arith, omega (arith, p.1, k))
-
-  -- the same, to the place after it
-  pub to-next : (l : List ℕ) (i j : ℕ) → j ≡ i + 1 → Passed f i l → i < length l → f (get_or l i 0) ≡ false → Passed f j l
-  to-next l i j g p h e = rw g (one-passed l i p h e)
-
-  -- at a byte that stops it, those before are all
-  pub stops : (l : List ℕ) (i : ℕ) → Passed f i l → i < length l → f (get_or l i 0) ≡ true → (i ≤ length l) × (i ≡ count_to f l)
-  stops l i p h e =
-      let z : count_to f (drop i l) ≡ 0 = rw (drop-cons l i 0, e) in
-      (p.0, omega (arith, p.1))
-
-  -- at the end too
-  pub ends : (l : List ℕ) (i : ℕ) → Passed f i l → length l ≤ i → (i ≤ length l) × (i ≡ count_to f l)
-  ends l i p h =
-      let z : count_to f (drop i l) ≡ 0 = rw (drop_of_length-le l h) in
-      (p.0, omega (arith, p.1))
-
-  -- ---- a block of bytes
-
   -- a byte that stops the count is not passed
   at-stop : (l : List ℕ) (i : ℕ) → i < length l → f (get_or l i 0) ≡ true → count_to f l ≤ i
   at-stop [] i h e = absurd (omega arith)
@@ -64,17 +41,15 @@ module _ (f : ℕ → Bool) where
   past (b ∷ l) zero h e k = rw e (omega arith)
   past (b ∷ l) (suc i) h e k = one_more (f b) (count_to f l) i (past l i (omega arith) e) k
 
-  -- whether such a byte was met: so at one, and as before at another
-  pub met : (l : List ℕ) (i : ℕ) → i < length l → f (get_or l i 0) ≡ true → true ≡ ltb (count_to f l) (i + 1)
-  met l i h e = sym (lt-ltb (count_to f l) (i + 1) (omega (arith, at-stop l i h e)))
-
-  -- a byte that is not such does not change whether one was met
-  pub not-met : (l : List ℕ) (i : ℕ) → i < length l → f (get_or l i 0) ≡ false → ltb (count_to f l) i ≡ ltb (count_to f l) (i + 1)
-  not-met l i h e = go (ltb (count_to f l) i) refl
+  -- whether such a byte was met, and one more that is such or not
+  pub one-met : (l : List ℕ) (i : ℕ) → i < length l → {any now : Bool} → any ≡ ltb (count_to f l) i → now ≡ f (get_or l i 0)
+      → any || now ≡ ltb (count_to f l) (i + 1)
+  one-met l i h {any} {now} g e = go any now (sym g) (sym e)
     where
-      go : (t : Bool) → ltb (count_to f l) i ≡ t → t ≡ ltb (count_to f l) (i + 1)
-      go true g = sym (lt-ltb (count_to f l) (i + 1) (omega (arith, ltb-true (count_to f l) i g)))
-      go false g = sym (le-ltb (count_to f l) (i + 1) (past l i h e (ltb-false (count_to f l) i g)))
+      go : (s t : Bool) → ltb (count_to f l) i ≡ s → f (get_or l i 0) ≡ t → s || t ≡ ltb (count_to f l) (i + 1)
+      go true t g e = sym (lt-ltb (count_to f l) (i + 1) (omega (arith, ltb-true (count_to f l) i g)))
+      go false true g e = sym (lt-ltb (count_to f l) (i + 1) (omega (arith, at-stop l i h e)))
+      go false false g e = sym (le-ltb (count_to f l) (i + 1) (past l i h e (ltb-false (count_to f l) i g)))
 
   -- bytes of which none is such are counted
   counted : (l : List ℕ) (n : ℕ) → n ≤ count_to f l → count_to f l ≡ n + count_to f (drop n l)
@@ -83,12 +58,21 @@ module _ (f : ℕ → Bool) where
   counted (b ∷ l) zero h = omega arith
   counted (b ∷ l) (suc n) h = count-on (f b) (count_to f l) n (count_to f (drop n l)) (counted l n) h
 
+  -- so are they where they are counted by themselves
+  alone : (l : List ℕ) (n : ℕ) → n ≤ count_to f (take n l) → n ≤ count_to f l
+  alone l zero h = omega arith
+  alone [] (suc n) h = h
+  alone (b ∷ l) (suc n) h = longer (f b) (alone l n) h
+
   -- a block in which no such byte was met is passed
-  pub block : (l : List ℕ) (at n : ℕ) → Passed f at l → n ≤ length (drop at l) → ltb (count_to f (drop at l)) n ≡ false
-      → Passed f (at + n) l
+  pub block : (l : List ℕ) (at n : ℕ) → Passed f at l → n ≤ length (drop at l)
+      → ltb (count_to f (take (at + n - at) (drop at l))) (length (take (at + n - at) (drop at l))) ≡ false → Passed f (at + n) l
   block l at n p h e =
+      let m : at + n - at ≡ n = omega arith in
+      let all : length (take n (drop at l)) ≡ n = omega (arith, length-take n (drop at l)) in
+      let low = ltb-false (count_to f (take n (drop at l))) (length (take n (drop at l))) (rw m at e) in
       let k : count_to f (drop at l) ≡ n + count_to f (drop (at + n) l) = rw drop-drop at
-      (counted (drop at l) n (ltb-false (count_to f (drop at l)) n e)) in
+      (counted (drop at l) n (alone (drop at l) n (omega (arith, low, all)))) in
       (omega (arith, length-drop at l), omega (arith, p.1, k))
 
 -- ---- a text

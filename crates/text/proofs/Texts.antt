@@ -11,7 +11,8 @@ use Rattle.wire.proofs.Parts.{tail}
 use Rattle.utf8.specs.Utf8.{Octets, Decides}
 use Rattle.utf8.specs.Derive.{utf8}
 use Rattle.text.specs.Text.{until_nul, reach, read_text}
-use Rattle.text.specs.declared.Text.TheVariants.{Found, Lacks}
+use Rattle.std.specs.Prelude.{Err}
+use Rattle.text.specs.Results.{Found}
 use Rattle.text.specs.declared.Lack.TheVariants.{Nul, Padding, Utf8}
 use Rattle.text.specs.CodeFound.{TextFound}
 use Rattle.text.specs.CodePlain.{special, count_to}
@@ -45,13 +46,13 @@ judged l p m e d =
 
 module _ (l : List ℕ) (p n : ℕ) (e : n ≡ until_nul l) where
   -- no NUL: every byte stands before it
-  pub no_nul : n ≡ length l → Lacks Nul ≡ read_text l p
+  pub no_nul : n ≡ length l → Err Nul ≡ read_text l p
   unfolding read_text
   no_nul h = rw (← e, le-ltb n (length l) (omega arith))
 
   module _ (used : ℕ) (g : used ≡ reach p (n + 1)) where
     -- a NUL, and fewer bytes than the padding takes
-    pub no_padding : n < length l → length l < used → Lacks (Padding (p + n + 1)) ≡ read_text l p
+    pub no_padding : n < length l → length l < used → Err (Padding (p + n + 1)) ≡ read_text l p
     unfolding read_text
     no_padding h k = rw (← e, lt-ltb n (length l) h, lt-leb (reach p (n + 1)) (length l) (omega arith))
 
@@ -61,7 +62,7 @@ module _ (l : List ℕ) (p n : ℕ) (e : n ≡ until_nul l) where
     whole k u = rw (g, ← e, lt-ltb n (length l) (omega arith), le-leb (reach p (n + 1)) (length l) (omega arith), u)
 
     -- all bytes are there, and are not UTF-8
-    pub not-utf8 : used ≤ length l → utf8 (take n l) ≡ false → Lacks Utf8 ≡ read_text l p
+    pub not-utf8 : used ≤ length l → utf8 (take n l) ≡ false → Err Utf8 ≡ read_text l p
     unfolding read_text
     not-utf8 k u = rw (← e, lt-ltb n (length l) (omega arith), le-leb (reach p (n + 1)) (length l) (omega arith), u)
 

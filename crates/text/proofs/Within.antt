@@ -13,13 +13,13 @@ use Rattle.wire.proofs.Choices.{by-test, by_le}
 use Rattle.utf8.specs.Derive.{utf8}
 use Rattle.text.specs.Text.{reach, until_nul, read_text, fault_in}
 use Rattle.text.specs.declared.Lack.{Lack}
-use Rattle.text.specs.declared.Text.{Text}
-use Rattle.text.specs.declared.Text.TheVariants.{Found, Lacks}
+use Rattle.std.specs.Prelude.{Err, Ok}
+use Rattle.text.specs.Results.{Found, Text}
 
 -- a text that is found lies in the input, with its NUL and padding, and is UTF-8
 abbrev pub TextIn : List ℕ → Text → Type 0
-TextIn l (Found n used) = (n < used) × (used ≤ length l) × (utf8 (take n l) ≡ true)
-TextIn l (Lacks k) = Unit {0}
+TextIn l (Ok text) = (text.length < text.used) × (text.used ≤ length l) × (utf8 (take text.length l) ≡ true)
+TextIn l (Err k) = Unit {0}
 
 -- every text does
 pub text-within : (l : List ℕ) (p : ℕ) → TextIn l (read_text l p)
@@ -37,8 +37,8 @@ found_in l p e = subst (TextIn l) (sym e) (text-within l p)
 
 -- what a text lacks, whichever field it is, begins no later than its part ends
 abbrev LackLow : ℕ → ℕ → Text → Type 0
-LackLow p m (Found n used) = Unit {0}
-LackLow p m (Lacks lack) = (field : Field) → fault_offset (fault_in field p lack) ≤ p + m
+LackLow p m (Ok text) = Unit {0}
+LackLow p m (Err lack) = (field : Field) → fault_offset (fault_in field p lack) ≤ p + m
 
 -- every text does
 lacks-within : (l : List ℕ) (p : ℕ) → LackLow p (length l) (read_text l p)
@@ -51,14 +51,14 @@ lacks-within l p =
     (λ h field. omega arith)
 
 -- the same of one that lacks something
-pub lacks-low : {lack : Lack} (field : Field) (l : List ℕ) (p : ℕ) → Lacks lack ≡ read_text l p
+pub lacks-low : {lack : Lack} (field : Field) (l : List ℕ) (p : ℕ) → Err lack ≡ read_text l p
     → fault_offset (fault_in field p lack) ≤ p + length l
 lacks-low field l p e = subst (LackLow p (length l)) (sym e) (lacks-within l p) field
 
 -- where a text that is found ends, and what it takes
 abbrev TextEnds : List ℕ → ℕ → Text → Type 0
-TextEnds l p (Found n used) = (n ≡ until_nul l) × (used ≡ reach p (n + 1))
-TextEnds l p (Lacks k) = Unit {0}
+TextEnds l p (Ok text) = (text.length ≡ until_nul l) × (text.used ≡ reach p (text.length + 1))
+TextEnds l p (Err k) = Unit {0}
 
 text-ends : (l : List ℕ) (p : ℕ) → TextEnds l p (read_text l p)
 unfolding read_text

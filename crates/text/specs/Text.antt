@@ -1,13 +1,12 @@
 -- An OSC string: document 01, "How bytes are read", rule 1.
-use Rattle.std.specs.Prelude.{cond, List, [], ◌∷◌, ℕ, suc, ◌+◌, ◌-◌, eqb, leb, ltb, length, take}
+use Rattle.std.specs.Prelude.{cond, List, [], ◌∷◌, ℕ, suc, ◌+◌, ◌-◌, eqb, leb, ltb, length, take, Err}
 use Rattle.refusal.specs.declared.Fault.{Fault}
 use Rattle.refusal.specs.declared.Fault.TheVariants.{Short, NotUtf8}
 use Rattle.refusal.specs.declared.Field.{Field}
 use Rattle.refusal.specs.declared.Field.TheVariants as fields
 use Rattle.wire.specs.Pad.{padded}
 use Rattle.utf8.specs.Derive.{utf8}
-use Rattle.text.specs.declared.Text.{Text}
-use Rattle.text.specs.declared.Text.TheVariants.{Found, Lacks}
+use Rattle.text.specs.Results.{Found, Text}
 use Rattle.text.specs.declared.Lack.{Lack}
 use Rattle.text.specs.declared.Lack.TheVariants.{Nul, Padding, Utf8}
 
@@ -27,9 +26,9 @@ unfoldable pub read_text : List ℕ → ℕ → Text
 read_text l p =
     cond (ltb (until_nul l) (length l))
     (cond (leb (reach p (until_nul l + 1)) (length l))
-    (cond (utf8 (take (until_nul l) l)) (Found (until_nul l) (reach p (until_nul l + 1))) (Lacks Utf8))
-    (Lacks (Padding (p + until_nul l + 1))))
-    (Lacks Nul)
+    (cond (utf8 (take (until_nul l) l)) (Found (until_nul l) (reach p (until_nul l + 1))) (Err Utf8))
+    (Err (Padding (p + until_nul l + 1))))
+    (Err Nul)
 
 -- one for a byte that is not zero
 abbrev pub dirt_of_byte : ℕ → ℕ

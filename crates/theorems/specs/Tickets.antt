@@ -21,15 +21,14 @@ use Rattle.argument.specs.Dirt.{TextPadded, BlobPadded, dirty_in}
 use Rattle.packet.specs.Packet.{one, read_packet}
 use Rattle.framing.specs.Framing.{udp, tcp, tcp2, read, read_frame, cut_frame}
 use Rattle.answering.specs.Limits.{decoded}
-use Rattle.results.specs.declared.Decoded.TheVariants.{Packets}
+use Rattle.cues.specs.Results.{Given}
+use Rattle.results.specs.Results.{Packets, Written}
 use Rattle.results.specs.declared.End.{End}
-use Rattle.results.specs.declared.Indexed.TheVariants.{Written}
 use Rattle.decoder.specs.Cases.{Each}
 use Rattle.decoder.specs.Examples.{standard, misread}
 use Rattle.decoder.specs.Offsets.{OffsetsLow}
 use Rattle.cues.specs.Cues.{most_in_a_cue, cue_of, entry_size, most_entries, index, index_of, written_of, Indexes, KeptIsShort}
 use Rattle.cues.specs.Checks.{FitsExactly, DiffersFirst, CheckInParts}
-use Rattle.cues.specs.declared.cue.Cue.TheVariants.{Given}
 use Rattle.writers.specs.Osc.{longest_element}
 use Rattle.survey.specs.Surveys.{Surveys}
 use Rattle.encoder.specs.Outcome.{Outcome, Encodes, unframed, framed_by}

@@ -14,8 +14,8 @@ use Rattle.node.specs.declared.record.Item.{Item}
 use Rattle.values.specs.Value.{bare_of, narrow_of, value_by, value_of}
 use Rattle.values.specs.Look.{look_at}
 use Rattle.values.specs.declared.value.OscType.{OscType}
-use Rattle.values.specs.declared.look.Looked.{Looked}
-use Rattle.values.specs.declared.look.Looked.TheVariants as looked
+use Rattle.std.specs.Prelude.{Err, Ok}
+use Rattle.values.specs.Results.{Looked}
 use Rattle.told.specs.Answers.{told_answer, kind_of, looked_told}
 
 no_way : {A : Type 0} → false ≡ true → A
@@ -56,8 +56,8 @@ kind-kept item o =
 
 -- what an answer of `look` shows of the record: it exists, and the value has its kind
 abbrev Seen : List ℕ → ℕ → Looked → Type 0
-Seen t i (looked.Value v) = (i < capacity t) × (kind_of v ≡ kind_at t i)
-Seen t i (looked.Refused r) = Unit {0}
+Seen t i (Ok v) = (i < capacity t) × (kind_of v ≡ kind_at t i)
+Seen t i (Err r) = Unit {0}
 
 second-true : (x y : Bool) → x && y ≡ true → y ≡ true
 second-true true y e = e
@@ -73,9 +73,9 @@ seen t i =
     (λ _. tt)
 
 -- a value is given only where there is such a record
-pub in_table : (t : List ℕ) (i : ℕ) {v : OscType} → looked.Value v ≡ look_at t i → i < capacity t
+pub in_table : (t : List ℕ) (i : ℕ) {v : OscType} → Ok v ≡ look_at t i → i < capacity t
 in_table t i e = (subst (Seen t i) (sym e) (seen t i)).0
 
 -- and then the record's kind is what is told
-pub kind-told : (t : List ℕ) (i : ℕ) {v : OscType} → looked.Value v ≡ look_at t i → told_answer 0 (kind_at t i) 0 ≡ looked_told (look_at t i)
+pub kind-told : (t : List ℕ) (i : ℕ) {v : OscType} → Ok v ≡ look_at t i → told_answer 0 (kind_at t i) 0 ≡ looked_told (look_at t i)
 kind-told t i e = ap (λ (k : ℕ). told_answer 0 k 0) (sym (subst (Seen t i) (sym e) (seen t i)).1) ∙ ap looked_told e

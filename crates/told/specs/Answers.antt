@@ -1,31 +1,18 @@
 -- What is told of each answer: its record, and where one has no room for it, its number.
-use Rattle.std.specs.Prelude.{cond, ℕ, ◌+◌, ◌*◌, ltb}
+use Rattle.std.specs.Prelude.{cond, ℕ, ◌+◌, ◌*◌, ltb, Err, Ok}
 use Rattle.refusal.specs.Refusal.{number_of, offset_of, moved_refusal}
 use Rattle.refusal.specs.declared.Refusal.{Refusal}
 use Rattle.refusal.specs.declared.Refusal.TheVariants.{BadTable}
 use Rattle.results.specs.Differs.{index_differs}
-use Rattle.results.specs.declared.Decoded.{Decoded}
-use Rattle.results.specs.declared.Decoded.TheVariants as decodes
-use Rattle.results.specs.declared.Portion.{Portion}
-use Rattle.results.specs.declared.Portion.TheVariants as portion
+use Rattle.results.specs.Results.{Checked, CueAnswer, DecodeAnswer, Encoded, IndexAnswer, PortionAnswer}
+use Rattle.values.specs.Results.{Looked, Started}
+use Rattle.wire.specs.Results.{Padded}
+use Rattle.results.specs.Results as answers
+use Rattle.results.specs.declared.End.{End}
 use Rattle.results.specs.declared.End.TheVariants as end
-use Rattle.results.specs.declared.Indexed.{Indexed}
-use Rattle.results.specs.declared.Indexed.TheVariants as indexed
-use Rattle.results.specs.declared.Checked.{Checked}
-use Rattle.results.specs.declared.Checked.TheVariants as checked
-use Rattle.results.specs.declared.CueAt.{CueAt}
-use Rattle.results.specs.declared.CueAt.TheVariants as found
-use Rattle.results.specs.declared.Encoded.{Encoded}
-use Rattle.results.specs.declared.Encoded.TheVariants as encodes
-use Rattle.wire.specs.declared.Padded.{Padded}
-use Rattle.wire.specs.declared.Padded.TheVariants as padded
 use Rattle.node.specs.Tags.{message_kind, bundle_kind, array_kind}
 use Rattle.values.specs.declared.value.OscType.{OscType}
 use Rattle.values.specs.declared.value.OscType.TheVariants as value
-use Rattle.values.specs.declared.look.Looked.{Looked}
-use Rattle.values.specs.declared.look.Looked.TheVariants as looked
-use Rattle.values.specs.declared.look.Started.{Started}
-use Rattle.values.specs.declared.look.Started.TheVariants as started
 use Rattle.told.specs.declared.Told.{Told}
 
 -- an answer: a count, the low number, and dirty padding beside them
@@ -42,39 +29,43 @@ told_number r = record { number = number_of r; count = 0; low = 0; dirty = 0; fi
 
 -- a decoder's answer to n bytes: the count of records, the bytes left and dirty padding (Ticket 8); Waiting is count 0 with the whole input
 -- left; where a list stops (Ticket 1), all stand beside the number of the frame's refusal, its field's offset and the frame's
-abbrev pub decoded_told : ℕ → Decoded → Told
-decoded_told n (decodes.Packets count left dirty) = told_answer count left dirty
-decoded_told n decodes.Waiting = told_answer 0 n 0
-decoded_told n (decodes.Refused r) = told_refusal r
-decoded_told n (decodes.Stopped count left dirty r frame) =
+abbrev pub decoded_told : ℕ → DecodeAnswer → Told
+decoded_told n (answers.Packets count left dirty) = told_answer count left dirty
+decoded_told n answers.Waiting = told_answer 0 n 0
+decoded_told n (Err r) = told_refusal r
+decoded_told n (answers.Stopped count left dirty r frame) =
     record { number = number_of r; count = count; low = left; dirty = dirty; field = offset_of r; frame = frame }
 
 -- a step's answer (Ticket 14): the count of records, the bytes used and dirty padding; where a refused frame ends the stream, its field's
 -- offset, and the number of its refusal in the frame's part
-abbrev pub portion_told : Portion → Told
-portion_told (portion.Read count used dirty) = told_answer count used dirty
-portion_told (portion.Ended count used dirty r) =
+abbrev pub portion_told : PortionAnswer → Told
+portion_told (answers.Read count used dirty) = told_answer count used dirty
+portion_told (answers.Ended count used dirty r) =
     record { number = 0; count = count; low = used; dirty = dirty; field = offset_of r; frame = number_of r }
-portion_told (portion.Refused r) = told_number r
+portion_told (Err r) = told_number r
 
 -- the answer of a step that writes an index (Ticket 5): the records written and the bytes used; beside them 1 where the next frame is not
 -- all there; where it is refused, its field's offset from the call's first byte (Ticket 2), and the refusal's number in the frame's part
-abbrev pub indexed_told : Indexed → Told
-indexed_told (indexed.Written records used end.Whole) = told_answer records used 0
-indexed_told (indexed.Written records used end.Waiting) = told_answer records used 1
-indexed_told (indexed.Written records used (end.Refused r)) =
+abbrev pub ended_told : ℕ → ℕ → End → Told
+ended_told records used end.Whole = told_answer records used 0
+ended_told records used end.Waiting = told_answer records used 1
+ended_told records used (end.Refused r) =
     record { number = 0; count = records; low = used; dirty = 0; field = offset_of (moved_refusal used r); frame = number_of r }
-indexed_told (indexed.Refused r) = told_number r
+
+-- and where the call is refused, its number alone
+abbrev pub indexed_told : IndexAnswer → Told
+indexed_told (Ok indexed) = ended_told indexed.records indexed.used indexed.end
+indexed_told (Err r) = told_number r
 
 -- an encoder's answer: the bytes written
 abbrev pub encoded_told : Encoded → Told
-encoded_told (encodes.Written n) = told_answer 0 n 0
-encoded_told (encodes.Refused r) = told_number r
+encoded_told (Ok n) = told_answer 0 n 0
+encoded_told (Err r) = told_number r
 
 -- `start_of`: the start
 abbrev pub started_told : Started → Told
-started_told (started.At start) = told_answer 0 start 0
-started_told (started.Refused r) = told_number r
+started_told (Ok start) = told_answer 0 start 0
+started_told (Err r) = told_number r
 
 -- the kind of a value: document 01's table of kinds
 abbrev pub kind_of : OscType → ℕ
@@ -97,25 +88,25 @@ kind_of value.Array = array_kind
 
 -- `look`: the kind
 abbrev pub looked_told : Looked → Told
-looked_told (looked.Value v) = told_answer 0 (kind_of v) 0
-looked_told (looked.Refused r) = told_number r
+looked_told (Ok v) = told_answer 0 (kind_of v) 0
+looked_told (Err r) = told_number r
 
 -- a cue as it is told: 11 also where its records have no room in 24 bits, as in no index that was checked
-abbrev pub cue_told_as : CueAt → CueAt
-cue_told_as (found.At offset size records) = cond (ltb records 0x100_0000) (found.At offset size records) (found.Refused BadTable)
-cue_told_as (found.Refused r) = found.Refused r
+abbrev pub cue_told_as : CueAnswer → CueAnswer
+cue_told_as (Ok cue) = cond (ltb cue.records 0x100_0000) (answers.At cue.offset cue.size cue.records) (Err BadTable)
+cue_told_as (Err r) = Err r
 
 -- a cue looked up: the records of its table, and its length without the prefix
-abbrev pub cue_told : CueAt → Told
-cue_told (found.At offset size records) = told_answer records size 0
-cue_told (found.Refused r) = told_number r
+abbrev pub cue_told : CueAnswer → Told
+cue_told (Ok cue) = told_answer cue.records cue.size 0
+cue_told (Err r) = told_number r
 
 -- ---- forms of their own
 
 -- beside a cue all 64 bits are the offset of its prefix, and 0 where there is none
-abbrev pub cue_beside : CueAt → ℕ
-cue_beside (found.At offset size records) = offset
-cue_beside (found.Refused r) = 0
+abbrev pub cue_beside : CueAnswer → ℕ
+cue_beside (Ok cue) = cue.offset
+cue_beside (Err r) = 0
 
 -- "25 index differs; beside it one more number": 25 in bits 56 to 63, and the record's number below it
 abbrev pub differs_number : ℕ → ℕ
@@ -123,10 +114,10 @@ differs_number k = index_differs * 0x100_0000_0000_0000 + k
 
 -- a check of an index: the number of the next record in bits 0 to 55, or 25 with that of the first that differs
 abbrev pub checked_number : Checked → ℕ
-checked_number (checked.Fits k) = k
-checked_number (checked.Differs k) = differs_number k
+checked_number (Ok k) = k
+checked_number (Err differs) = differs_number differs.at
 
 -- `pad`: the position, which may have all 64 bits, or 14
 abbrev pub padded_number : Padded → ℕ
-padded_number (padded.At pos) = pos
-padded_number (padded.Refused r) = number_of r
+padded_number (Ok pos) = pos
+padded_number (Err r) = number_of r

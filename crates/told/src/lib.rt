@@ -10,7 +10,7 @@ ghost use Rattle.told.specs.Answers.{told_answer, told_refusal, told_number, dec
 ghost use Rattle.told.specs.Answers.{cue_told_as, cue_told, cue_beside, checked_number};
 
 use refusal::Refusal;
-use results::{Checked, CueAt, Decoded, Encoded, End, Indexed, Portion};
+use results::{CueAt, Decoded, End, IndexDiffers, Indexed, Portion};
 
 // The parts of what is told.
 #[derive(Clone, Copy)]
@@ -101,20 +101,21 @@ fn told_number(refusal: Refusal) -> Told
 // A decoder's answer to `len` bytes.
 //
 // Ruled out: Waiting told as 0 bytes left; a list that stops told without its frame's refusal.
-pub fn of_decoded(answer: Decoded, len: usize) -> Told
+pub fn of_decoded(answer: Result<Decoded, Refusal>, len: usize) -> Told
     ensures { result ≡ decoded_told len answer }
 {
     match answer {
-        Decoded::Packets { count, left, dirty } => told_answer(count, left, dirty),
-        Decoded::Waiting => told_answer(0, len, 0),
-        Decoded::Refused(refusal) => told_refusal(refusal),
-        Decoded::Stopped {
-            count,
-            left,
-            dirty,
-            refusal,
-            frame,
-        } => Told {
+        Ok(Decoded::Packets { count, left, dirty }) => told_answer(count, left, dirty),
+        Ok(Decoded::Waiting) => told_answer(0, len, 0),
+        Ok(
+            Decoded::Stopped {
+                count,
+                left,
+                dirty,
+                refusal,
+                frame,
+            },
+        ) => Told {
             number: refusal::number_of(refusal) as u64,
             count: count as u64,
             low: left as u64,
@@ -122,23 +123,26 @@ pub fn of_decoded(answer: Decoded, len: usize) -> Told
             field: refusal::offset_of(refusal) as u64,
             frame: frame as u64,
         },
+        Err(refusal) => told_refusal(refusal),
     }
 }
 
 // The answer of a step over a stream.
 //
 // Ruled out: a frame's refusal told as the call's; a stream that ended told as one that goes on.
-pub fn of_portion(portion: Portion) -> Told
-    ensures { result ≡ portion_told portion }
+pub fn of_portion(answer: Result<Portion, Refusal>) -> Told
+    ensures { result ≡ portion_told answer }
 {
-    match portion {
-        Portion::Read { count, used, dirty } => told_answer(count, used, dirty),
-        Portion::Ended {
-            count,
-            used,
-            dirty,
-            refusal,
-        } => Told {
+    match answer {
+        Ok(Portion::Read { count, used, dirty }) => told_answer(count, used, dirty),
+        Ok(
+            Portion::Ended {
+                count,
+                used,
+                dirty,
+                refusal,
+            },
+        ) => Told {
             number: 0,
             count: count as u64,
             low: used as u64,
@@ -146,7 +150,7 @@ pub fn of_portion(portion: Portion) -> Told
             field: refusal::offset_of(refusal) as u64,
             frame: refusal::number_of(refusal) as u64,
         },
-        Portion::Refused(refusal) => told_number(refusal),
+        Err(refusal) => told_number(refusal),
     }
 }
 
@@ -154,12 +158,12 @@ pub fn of_portion(portion: Portion) -> Told
 // `used`; it is told from the call's first byte on.
 //
 // Ruled out: a refused frame told as one that is not all there; the offset of its field left out, or counted from the frame.
-pub fn of_indexed(indexed: Indexed) -> Told
-    requires { Bounded (indexed_told indexed) }
-    ensures { result ≡ indexed_told indexed }
+pub fn of_indexed(answer: Result<Indexed, Refusal>) -> Told
+    requires { Bounded (indexed_told answer) }
+    ensures { result ≡ indexed_told answer }
 {
-    match indexed {
-        Indexed::Written { records, used, end } => match end {
+    match answer {
+        Ok(Indexed { records, used, end }) => match end {
             End::Whole => told_answer(records, used, 0),
             End::Waiting => told_answer(records, used, 1),
             End::Refused(refusal) => Told {
@@ -171,7 +175,7 @@ pub fn of_indexed(indexed: Indexed) -> Told
                 frame: refusal::number_of(refusal) as u64,
             },
         },
-        Indexed::Refused(refusal) => told_number(refusal),
+        Err(refusal) => told_number(refusal),
     }
 }
 
@@ -196,66 +200,58 @@ pub fn low(number: u32) -> u64
 // An encoder's answer, which has nothing beside it.
 //
 // Ruled out: fewer bytes told than were written; refusal 12 told as 12 bytes written.
-pub fn encoded(answer: Encoded) -> u64
+pub fn encoded(answer: Result<usize, Refusal>) -> u64
     ensures { (result ≡ answer_of (encoded_told answer)) × (0 ≡ more_of (encoded_told answer)) }
 {
     match answer {
-        Encoded::Written(n) => n as u64,
-        Encoded::Refused(refusal) => refused(refusal),
+        Ok(n) => n as u64,
+        Err(refusal) => refused(refusal),
     }
 }
 
 // A cue that was looked up: 11 where its records have no room in 24 bits, which is in no index that was checked.
 //
 // Ruled out: refusal 11 told as a cue of no records; the length in the place of the records.
-pub fn cue(cue: CueAt) -> u64
-    ensures { result ≡ answer_of (cue_told (cue_told_as cue)) }
+pub fn cue(answer: Result<CueAt, Refusal>) -> u64
+    ensures { result ≡ answer_of (cue_told (cue_told_as answer)) }
 {
-    match cue {
-        CueAt::At {
-            offset: _,
-            size,
-            records,
-        } => {
-            if records < 0x100_0000 {
-                return answer_of(told_answer(records as usize, size as usize, 0));
+    match answer {
+        Ok(cue) => {
+            if cue.records < 0x100_0000 {
+                return answer_of(told_answer(cue.records as usize, cue.size as usize, 0));
             }
             refused(Refusal::BadTable)
         }
-        CueAt::Refused(refusal) => refused(refusal),
+        Err(refusal) => refused(refusal),
     }
 }
 
 // What is told beside it: the offset of its prefix, and 0 where there is no cue.
 //
 // Ruled out: the offset after the prefix; an offset left where 11 is told.
-pub fn cue_offset(cue: CueAt) -> u64
-    ensures { result ≡ cue_beside (cue_told_as cue) }
+pub fn cue_offset(answer: Result<CueAt, Refusal>) -> u64
+    ensures { result ≡ cue_beside (cue_told_as answer) }
 {
-    match cue {
-        CueAt::At {
-            offset,
-            size: _,
-            records,
-        } => {
-            if records < 0x100_0000 {
-                return offset;
+    match answer {
+        Ok(cue) => {
+            if cue.records < 0x100_0000 {
+                return cue.offset;
             }
             0
         }
-        CueAt::Refused(_) => 0,
+        Err(_) => 0,
     }
 }
 
 // A check of an index, by the numbers of its records.
 //
 // Ruled out: 25 without the record that differs; a record's number in bits 56 to 63.
-pub fn checked(checked: Checked) -> u64
-    requires { checked_number checked < 0x1_0000_0000_0000_0000 }
-    ensures { result ≡ checked_number checked }
+pub fn checked(answer: Result<usize, IndexDiffers>) -> u64
+    requires { checked_number answer < 0x1_0000_0000_0000_0000 }
+    ensures { result ≡ checked_number answer }
 {
-    match checked {
-        Checked::Fits(k) => k as u64,
-        Checked::Differs(k) => results::INDEX_DIFFERS as u64 * 0x100_0000_0000_0000 + k as u64,
+    match answer {
+        Ok(k) => k as u64,
+        Err(differs) => results::INDEX_DIFFERS as u64 * 0x100_0000_0000_0000 + differs.at as u64,
     }
 }

@@ -2,7 +2,7 @@
 ghost use Rattle.std.specs.Prelude.{◌≡◌};
 ghost use Rattle.told.specs.Times.{outside_number, tagged_number, tagged_beside, unix_number, unix_beside};
 
-use clock::{OutOfRange, Tagged, Unix};
+use clock::{OutOfRange, UnixTime};
 
 // The number of a refusal in bits 56 to 63, and nothing below.
 fn outside(reason: OutOfRange) -> u64
@@ -14,15 +14,15 @@ fn outside(reason: OutOfRange) -> u64
 // A tag: 0, or the refusal; the tag is written, and 0 where refused.
 //
 // Ruled out: a refusal that leaves the caller's number as it was; 26 in the low bits.
-pub fn tagged(tagged: Tagged, tag: &mut u64) -> u64
-    ensures { (result ≡ tagged_number tagged) × (tag.new ≡ tagged_beside tagged) }
+pub fn tagged(answer: Result<u64, OutOfRange>, tag: &mut u64) -> u64
+    ensures { (result ≡ tagged_number answer) × (tag.new ≡ tagged_beside answer) }
 {
-    match tagged {
-        Tagged::Tag(at) => {
+    match answer {
+        Ok(at) => {
             *tag = at;
             0
         }
-        Tagged::Refused(reason) => {
+        Err(reason) => {
             *tag = 0;
             outside(reason)
         }
@@ -32,18 +32,15 @@ pub fn tagged(tagged: Tagged, tag: &mut u64) -> u64
 // A Unix time: its nanoseconds, or the refusal; the seconds are written, and 0 where refused.
 //
 // Ruled out: 28 told as 28 nanoseconds; the nanoseconds in the place of the seconds.
-pub fn unix(unix: Unix, seconds: &mut i64) -> u64
-    ensures { (result ≡ unix_number unix) × (seconds.new ≡ unix_beside unix) }
+pub fn unix(answer: Result<UnixTime, OutOfRange>, seconds: &mut i64) -> u64
+    ensures { (result ≡ unix_number answer) × (seconds.new ≡ unix_beside answer) }
 {
-    match unix {
-        Unix::At {
-            seconds: after,
-            nanos,
-        } => {
-            *seconds = after;
-            nanos
+    match answer {
+        Ok(time) => {
+            *seconds = time.seconds;
+            time.nanos
         }
-        Unix::Refused(reason) => {
+        Err(reason) => {
             *seconds = 0;
             outside(reason)
         }

@@ -2,38 +2,30 @@
 use mathlib.Core.Path.{◌≡◌, refl, sym, ap, subst, ◌∙◌}
 use mathlib.Core.Bool.{Bool, true, false, cond}
 use mathlib.Core.List.{List, [], ◌∷◌, ◌++◌, append-nil}
-use Prim.Native.Nat.{ℕ, zero, suc, ◌+◌, ◌-◌, ◌*◌, ◌<◌, ◌≤◌, min}
-use native.Mathlib.Nat.{add-sub_cancel_left}
-use native.Mathlib.Numerals.{add-one}
+use Prim.Native.Nat.{ℕ, zero, suc, ◌+◌, ◌-◌, ◌*◌, ◌<◌, ◌≤◌, min, max}
 use native.Mathlib.Omega.{arith}
 use lib.Dec.{ltb}
-use borrow.Author.Tests.{lt-ltb, le-ltb, ltb-true, ltb-false}
+use borrow.Author.Tests.{ltb-true, ltb-false}
 use lib.ListN.{length, take, drop, get_or, length-take, length-drop, take-append-drop}
-use lib.Seq.{drop-cons, drop-drop, drop-length, get_or-take, get_or-drop, take_all, take-length}
+use lib.Seq.{drop-drop, get_or-take, get_or-drop, take_all, take-length}
+use Rattle.std.specs.List.{fold}
 use Rattle.utf8.specs.Utf8.{Range, Octets, Decides}
 use Rattle.utf8.specs.Derive.{step, run, utf8}
 use Rattle.utf8.specs.Automaton.{RunPasses}
-use Rattle.utf8.specs.CodeHighest.{highest_of, PlainFront}
+use Rattle.utf8.specs.CodeHighest.{highest_of, PlainBefore}
 use Rattle.utf8.proofs.Grammar.{octets, same_answer}
 use Rattle.utf8.proofs.Same.{same_rows, same-rows→eq}
 use Rattle.utf8.proofs.Table.{at}
 
--- one octet more, which is greater than those before it or is not
-pub higher : (top : ℕ) (s : List ℕ) (i : ℕ) → i < length s → top < get_or s i 0
-    → highest_of (get_or s i 0) (drop (i + 1) s) ≡ highest_of top (drop i s)
-higher top s i h k =
-    let x : ℕ = get_or s i 0 in
-    rw (drop-cons s i 0, add-one) (ap (λ (t : Bool). highest_of (cond t x top) (drop (suc i) s)) (sym (lt-ltb top x k)))
+-- the greater of two numbers is what the test chooses
+greater : (top x : ℕ) (t : Bool) → ltb top x ≡ t → max top x ≡ cond t x top
+greater top x true e = omega (arith, ltb-true top x e)
+greater top x false e = omega (arith, ltb-false top x e)
 
--- an octet that is no higher changes nothing
-pub no-higher : (top : ℕ) (s : List ℕ) (i : ℕ) → i < length s → get_or s i 0 ≤ top → highest_of top (drop (i + 1) s) ≡ highest_of top (drop i s)
-no-higher top s i h k =
-    let x : ℕ = get_or s i 0 in
-    rw (drop-cons s i 0, add-one) (ap (λ (t : Bool). highest_of (cond t x top) (drop (suc i) s)) (sym (le-ltb top x k)))
-
--- at the end, `top` is the greatest
-pub at-end : (top : ℕ) (s : List ℕ) (i : ℕ) → i ≡ length s → highest_of top (drop i s) ≡ top
-at-end top s i e = rw (e, drop-length)
+-- the greatest, one octet after another
+pub folded : (top : ℕ) (s : List ℕ) → fold max top s ≡ highest_of top s
+folded top [] = refl
+folded top (x ∷ s) = rw (greater top x (ltb top x) refl) (folded (cond (ltb top x) x top) s)
 
 -- where the greatest is below n, each is
 below_top : (n top x : ℕ) (t : Bool) → ltb top x ≡ t → cond t x top < n → (top < n) × (x < n)
@@ -136,21 +128,37 @@ block_more s r n h k =
     low_part s 0 (r + n)
     (two-parts s 0 r r (r + n - r) (r + n) (omega arith) (omega arith) (part_low s 0 r h) (part_low s r (r + n - r) (omega arith)))
 
--- a block that is not below 0x80 is not passed
-pub stopped : (s : List ℕ) (r n : ℕ) → r ≤ length s → highest_of 0 (take r s) < 0x80
-    → 0x7F < highest_of 0 (take (r + n - r) (drop r s))
-    → PlainFront n r s
-stopped s r n h k l =
-    let e : r + n - r ≡ n = omega arith in
-    (h, k, λ w. rw e at l)
+-- `rest` is left of s, and what stands before it is below 0x80
+pub record After (s rest : List ℕ) : Type 0 where
+  pub within : length rest ≤ length s
+  pub left : rest ≡ drop (length s - length rest) s
+  pub low : highest_of 0 (take (length s - length rest) s) < 0x80
 
--- f octets were passed, and r of the rest
-pub passed_on : (s : List ℕ) (n m f r : ℕ) → PlainFront m f s → PlainFront n r (take (length s - f) (drop f s)) → PlainFront n (f + r) s
-passed_on s n m f r p q =
-    let q' : PlainFront n r (drop f s) = rw tail at q in
-    let e : length (drop f s) ≡ length s - f = length-drop f s in
-    let k : highest_of 0 (take (f + r - f) (drop f s)) ≤ 0x7F = rw add-sub_cancel_left (omega (arith, q'.1)) in
-    (omega (arith, p.0, q'.0), block_more s f r p.1 k, λ w. rw drop-drop at (q'.2 (omega arith)))
+-- a block more
+pub after-block : (s rest block later : List ℕ) (n : ℕ) → After s rest → n < length rest → block ≡ take n rest → later ≡ drop n rest
+    → highest_of 0 block ≤ 0x7F → After s later
+after-block s rest block later n a h e f k =
+    let r = length s - length rest in
+    let m : length later ≡ length rest - n = rw f (length-drop n rest) in
+    let more : length s - length later ≡ r + n = omega (arith, a.within) in
+    let one : r + n - r ≡ n = omega arith in
+    let low : highest_of 0 (take (r + n - r) (drop r s)) ≤ 0x7F = rw (one, ← a.left, ← e) k in
+    record {
+      within = omega (arith, a.within);
+      left = rw (more, ← drop-drop, ← a.left) f;
+      low = rw more (block_more s r n a.low low);
+    }
+
+-- octets were passed, and more of the rest
+pub passed_on : (s t u : List ℕ) (n m : ℕ) → PlainBefore m s t → PlainBefore n t u → PlainBefore n s u
+passed_on s t u n m p q =
+    let f = length s - length t in
+    let r = length t - length u in
+    let more : length s - length u ≡ f + r = omega (arith, p.0, q.0) in
+    let one : f + r - f ≡ r = omega arith in
+    let low : highest_of 0 (take (f + r - f) (drop f s)) ≤ 0x7F = rw (one, ← p.1) (omega (arith, q.2.1)) in
+    let left : u ≡ drop (f + r) s = q.1 ∙ rw (← drop-drop, ← p.1) in
+    (omega (arith, p.0, q.0), rw more left, rw more (omega arith, block_more s f r p.2.1 low, λ w. rw (← left, q.1) (q.2.2 (omega arith))))
 
 -- ---- the test whether an octet is above 0x7F
 
@@ -201,20 +209,21 @@ pub none-high : (s : List ℕ) → ltb 0x7F (highest_of 0 s) ≡ false → Decid
 none-high s e = plain-octets s (omega (arith, ltb-false 0x7F (highest_of 0 s) e))
 
 -- the first octets were passed, and the last 64, which have all that are left, are below 0x80
-pub all-passed : (s : List ℕ) (r : ℕ) → PlainFront 64 r s → 64 ≤ length s → length s - r ≤ 64
+pub all-passed : (s rest : List ℕ) → PlainBefore 64 s rest → 64 ≤ length s → length rest ≤ 64
     → highest_of 0 (take (length s - (length s - 64)) (drop (length s - 64) s)) < 0x80
     → Decides true (Octets s)
-all-passed s r p h k l =
+all-passed s rest p h k l =
     let m : ℕ = length s - 64 in
-    let front : Low s 0 r = part_low s 0 r p.1 in
+    let r = length s - length rest in
+    let front : Low s 0 r = part_low s 0 r p.2.1 in
     let back : Low s m (length s - m) = part_low s m (length s - m) l in
     let all : Low s 0 (length s) = two-parts s 0 r m (length s - m) (length s) (omega (arith, p.0)) (omega arith) front back in
     plain-octets s (rw take-length at (low_part s 0 (length s) all))
 
 -- the first octets were passed, and the rest is judged
-pub judged : (s : List ℕ) (r : ℕ) {b : Bool} → highest_of 0 (take r s) < 0x80 → Decides b (Octets (take (length s - r) (drop r s)))
-    → Decides b (Octets s)
-judged s r h d =
-    let e : utf8 s ≡ utf8 (drop r s) = ap utf8 (sym (take-append-drop r s)) ∙ ascii_run 0 (take r s) h (drop r s) in
-    let f = same_answer (octets (drop r s)) (rw tail at d) in
+pub judged : (s rest : List ℕ) {b : Bool} → PlainBefore 64 s rest → Decides b (Octets rest) → Decides b (Octets s)
+judged s rest p d =
+    let r = length s - length rest in
+    let e : utf8 s ≡ utf8 (drop r s) = ap utf8 (sym (take-append-drop r s)) ∙ ascii_run 0 (take r s) p.2.1 (drop r s) in
+    let f = same_answer (octets (drop r s)) (rw p.1 at d) in
     subst (λ (t : Bool). Decides t (Octets s)) (e ∙ f) (octets s)

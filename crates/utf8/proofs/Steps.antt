@@ -2,19 +2,19 @@
 use mathlib.Core.Path.{◌≡◌, refl, sym, ap, subst, ◌∙◌}
 use mathlib.Core.Bool.{Bool}
 use mathlib.Core.List.{List, [], ◌++◌, append-nil}
-use Prim.Native.Nat.{ℕ, suc, ◌+◌, ◌-◌, ◌/◌, ◌<◌}
+use Prim.Native.Nat.{ℕ, suc, ◌+◌, ◌/◌, ◌<◌}
 use native.Mathlib.Numerals.{add-one}
 use native.Mathlib.Omega.{arith}
 use lib.Dec.{eqb}
 use lib.ListN.{length, take, drop, get_or, take-append-drop}
-use lib.Seq.{drop-cons, drop-drop}
+use lib.Seq.{drop-cons}
 use Rattle.utf8.specs.Utf8.{Range, Octets, Decides}
 use Rattle.utf8.specs.Derive.{run, step, utf8}
 use Rattle.utf8.specs.CodeHighest.{highest_of}
 use Rattle.utf8.specs.Automaton.{wants, classes, nexts, StateRow}
 use Rattle.utf8.specs.CodeStates.{Reads}
 use Rattle.utf8.proofs.Grammar.{octets}
-use Rattle.utf8.proofs.Plain.{ascii_run, tail}
+use Rattle.utf8.proofs.Plain.{ascii_run}
 use Rattle.utf8.proofs.Rules.{class_rule, step_rule, end-rule}
 
 module _ (class next : List ℕ) (is-class : class ≡ classes) (is-next : next ≡ nexts) where
@@ -46,22 +46,20 @@ module _ (class next : List ℕ) (is-class : class ≡ classes) (is-next : next 
         λ rest. rw (drop-cons s i 0, add-one) (ap (λ (rows : List (List Range)). run rows (drop (suc i) s ++ rest)) same),
       )
 
--- a part of what is left was read: the state answers on what follows it
-pub onward : (n r : ℕ) (s : List ℕ) (i m : ℕ) → Reads n (take (i + m - i) (drop i s)) r → run (wants (n / 14)) (drop i s) ≡ utf8 s
-    → run (wants (r / 14)) (drop (i + m) s) ≡ utf8 s
-onward n r s i m h same =
-    let e : i + m - i ≡ m = omega arith in
-    let f : take (i + m - i) (drop i s) ++ drop (i + m) s ≡ drop i s = rw (e, ← drop-drop m i s) (take-append-drop m (drop i s)) in
-    h.1 (drop (i + m) s) ∙ ap (run (wants (n / 14))) f ∙ same
+-- the first octets were read: the state answers on what follows them
+pub onward : (n r m : ℕ) (s block later : List ℕ) → block ≡ take m s → later ≡ drop m s → Reads n block r → {b : Bool}
+    → run (wants (n / 14)) s ≡ b → run (wants (r / 14)) later ≡ b
+onward n r m s block later e f h same =
+    let all : block ++ later ≡ s = rw (e, f) (take-append-drop m s) in
+    h.1 later ∙ ap (run (wants (n / 14))) all ∙ same
 
 -- octets below 0x80, where no character is open, are passed over
 pub passed_over : (n : ℕ) (s : List ℕ) → n ≡ 0 → highest_of 0 s < 0x80 → Reads n s 0
 passed_over n s e h = ((refl, omega arith), λ rest. rw e (sym (ascii_run 0 s h rest)))
 
 -- the end: where all is read, the state 0 is the answer
-pub answer : (n r : ℕ) (s : List ℕ) (i : ℕ) → Reads n (take (length s - i) (drop i s)) r → run (wants (n / 14)) (drop i s) ≡ utf8 s
-    → Decides (eqb r 0) (Octets s)
-answer n r s i h same =
-    let g : run (wants (r / 14)) [] ≡ run (wants (n / 14)) (drop i s) = rw (tail, append-nil) at (h.1 []) in
+pub answer : (n r : ℕ) (t s : List ℕ) → Reads n t r → run (wants (n / 14)) t ≡ utf8 s → Decides (eqb r 0) (Octets s)
+answer n r t s h same =
+    let g : run (wants (r / 14)) [] ≡ run (wants (n / 14)) t = rw append-nil at (h.1 []) in
     let f : eqb r 0 ≡ utf8 s = sym (end-rule r h.0) ∙ g ∙ same in
     subst (λ (b : Bool). Decides b (Octets s)) (sym f) (octets s)

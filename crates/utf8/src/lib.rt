@@ -4,7 +4,7 @@
 ghost use Rattle.std.specs.Prelude.{◌≡◌, ◌*◌, ◌≤◌, ltb, length};
 ghost use Rattle.utf8.specs.Utf8.{Octets, Decides};
 ghost use Rattle.utf8.specs.Lead.{lead_of};
-ghost use Rattle.utf8.specs.CodeHighest.{highest_of, PlainFront};
+ghost use Rattle.utf8.specs.CodeHighest.{highest_of, PlainBefore};
 ghost use Rattle.utf8.specs.Automaton.{classes, nexts, StateRow};
 ghost use Rattle.utf8.specs.CodeStates.{Reads};
 
@@ -72,15 +72,7 @@ const NEXT: [u8; 126] = [
 fn highest(s: &[u8]) -> u8
     ensures { result ≡ highest_of 0 s.now }
 {
-    let mut top: u8 = 0;
-    let mut i = 0;
-    while i < s.len() {
-        if top < s[i] {
-            top = s[i];
-        }
-        i += 1;
-    }
-    top
+    s.iter().fold(0, |top, byte| top.max(*byte))
 }
 
 // Whether a byte is above 0x7F, of `n` to `2 * n` bytes: the first `n` and the last `n` are all of them.
@@ -95,7 +87,8 @@ fn high_in_ends(s: &[u8], n: usize) -> bool
     0x7F < highest(&s[last..])
 }
 
-// Whether a byte is above 0x7F, of at most 64 bytes.
+// Whether a byte is above 0x7F, of at most 64 bytes. Each size has a return of its own: as the arms of a `match` they are compiled into one
+// call for all sizes, which took more than twice as long.
 fn high_in_few(s: &[u8]) -> bool
     requires { length s.now ≤ 64 }
     ensures { result ≡ ltb 0x7F (highest_of 0 s.now) }
@@ -116,28 +109,27 @@ fn high_in_few(s: &[u8]) -> bool
     0x7F < highest(s)
 }
 
-// How many bytes may be passed over, `n` at a time, while more than `n` are left: all of them are below 0x80.
-fn skip(s: &[u8], n: usize) -> usize
+// What is left after blocks of `n` bytes that are below 0x80: at most `n` bytes, or a block that is not.
+fn skip(s: &[u8], n: usize) -> &[u8]
     requires { 1 ≤ n }
-    ensures { PlainFront n result s.now }
+    ensures { PlainBefore n s.now result.now }
 {
-    let mut at = 0;
-    while n < s.len() - at {
-        let next = at + n;
-        if 0x7F < highest(&s[at..next]) {
-            return at;
+    let mut rest = s;
+    while n < rest.len() {
+        let (block, later) = rest.split_at(n);
+        if 0x7F < highest(block) {
+            return rest;
         }
-        at = next;
+        rest = later;
     }
-    at
+    rest
 }
 
 // The same, by large blocks and then by small ones.
-fn plain_front(s: &[u8]) -> usize
-    ensures { PlainFront 64 result s.now }
+fn after_plain(s: &[u8]) -> &[u8]
+    ensures { PlainBefore 64 s.now result.now }
 {
-    let far = skip(s, 256);
-    far + skip(&s[far..], 64)
+    skip(skip(s, 256), 64)
 }
 
 // The automaton on some bytes, from one state to another: each byte is one step. The tables are lent, since each function that binds one
@@ -147,10 +139,8 @@ fn advance(s: &[u8], class: &[u8; 256], next: &[u8; 126], from: usize) -> usize
     ensures { Reads from s.now result }
 {
     let mut state = from;
-    let mut i = 0;
-    while i < s.len() {
-        state = next[state + class[s[i] as usize] as usize] as usize;
-        i += 1;
+    for byte in s {
+        state = next[state + class[*byte as usize] as usize] as usize;
     }
     state
 }
@@ -160,10 +150,8 @@ fn across(s: &[u8], class: &[u8; 256], next: &[u8; 126], from: usize) -> usize
     requires { (class.now ≡ classes) × (next.now ≡ nexts) × StateRow from }
     ensures { Reads from s.now result }
 {
-    if from == 0 {
-        if highest(s) < 0x80 {
-            return 0;
-        }
+    if from == 0 && highest(s) < 0x80 {
+        return 0;
     }
     advance(s, class, next, from)
 }
@@ -175,13 +163,12 @@ fn walk(s: &[u8]) -> bool
     let class = CLASS;
     let next = NEXT;
     let mut state: usize = 0;
-    let mut at: usize = 0;
-    while 32 <= s.len() - at {
-        let end = at + 32;
-        state = across(&s[at..end], &class, &next, state);
-        at = end;
+    let mut left = s;
+    while let Some((block, later)) = left.split_first_chunk::<32>() {
+        state = across(block, &class, &next, state);
+        left = later;
     }
-    advance(&s[at..], &class, &next, state) == 0
+    advance(left, &class, &next, state) == 0
 }
 
 // Whether `s` is UTF-8. Bytes below 0x80 are characters by themselves, and need no tables.
@@ -196,14 +183,11 @@ pub fn is_utf8(s: &[u8]) -> bool
         }
         return true;
     }
-    let at = plain_front(s);
-    if n - at <= 64 {
-        let last = n - 64;
-        if highest(&s[last..]) < 0x80 {
-            return true;
-        }
+    let rest = after_plain(s);
+    if rest.len() <= 64 && highest(&s[n - 64..]) < 0x80 {
+        return true;
     }
-    walk(&s[at..])
+    walk(rest)
 }
 
 // How many bytes the character has that begins with `first`.

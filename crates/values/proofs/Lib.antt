@@ -1,4 +1,3 @@
-pub mod Floats
 pub mod Looks
 pub mod Named
 pub mod Only

@@ -4,8 +4,7 @@ use mathlib.Core.List.{List}
 use Prim.Native.Nat.{ℕ}
 use Rattle.values.specs.Look.{look_at, started_at, text_named}
 use Rattle.values.specs.declared.value.OscType.{OscType}
-use Rattle.values.specs.declared.look.Looked.{Looked}
-use Rattle.values.specs.declared.look.Started.{Started}
+use Rattle.values.specs.Results.{Looked, Started}
 use Rattle.wire.proofs.Only.{one-outcome}
 
 -- no second answer satisfies the contract of `look`

@@ -1,2 +1,3 @@
 pub mod Value
 pub mod Look
+pub mod Results

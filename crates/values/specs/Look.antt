@@ -1,5 +1,5 @@
 -- Looking at a record, at the text that its value names and at where its data begins: document 01, "Looking at a record", and Ticket 10.
-use Rattle.std.specs.Prelude.{cond, ◌&&◌, List, ℕ, eqb, ltb}
+use Rattle.std.specs.Prelude.{cond, ◌&&◌, List, ℕ, eqb, ltb, Err, Ok}
 use Rattle.refusal.specs.declared.Refusal.TheVariants.{BadTable}
 use Rattle.wire.specs.Part.{part, inside}
 use Rattle.node.specs.Records.{zeros_at, item_at, start_at, capacity}
@@ -8,21 +8,18 @@ use Rattle.values.specs.Value.{value_of}
 use Rattle.values.specs.declared.value.OscType.{OscType}
 use Rattle.values.specs.declared.value.OscType.TheVariants.{Message, Bundle, Int, Float, String, Blob, Time, Long, Double, Char}
 use Rattle.values.specs.declared.value.OscType.TheVariants.{Color, Midi, Bool, Nil, Inf, Array}
-use Rattle.values.specs.declared.look.Looked.{Looked}
-use Rattle.values.specs.declared.look.Looked.TheVariants.{Value, Refused}
-use Rattle.values.specs.declared.look.Started.{Started}
-use Rattle.values.specs.declared.look.Started.TheVariants as started
+use Rattle.values.specs.Results.{Looked, Started}
 
 -- what `look` answers: the value, where the record exists and its own rules hold; else 11
 unfoldable pub look_at : List ℕ → ℕ → Looked
 look_at t i =
     cond (ltb i (capacity t))
-    (cond (eqb (zeros_at t i) 0 && own_rules (item_at t i)) (Value (value_of (item_at t i))) (Refused BadTable))
-    (Refused BadTable)
+    (cond (eqb (zeros_at t i) 0 && own_rules (item_at t i)) (Ok (value_of (item_at t i))) (Err BadTable))
+    (Err BadTable)
 
 -- what `start_of` answers: the fifth number of a record that exists, which no rule tests; else 11 (Ticket 10)
 unfoldable pub started_at : List ℕ → ℕ → Started
-started_at t i = cond (ltb i (capacity t)) (started.At (start_at t i)) (started.Refused BadTable)
+started_at t i = cond (ltb i (capacity t)) (Ok (start_at t i)) (Err BadTable)
 
 -- a part of the packet, where its range is inside the packet; otherwise the whole label
 abbrev pub part_or : List ℕ → List ℕ → ℕ → ℕ → List ℕ

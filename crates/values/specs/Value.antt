@@ -1,10 +1,9 @@
 -- A record as a value: document 01, "The node table" and "Looking at a record".
-use Rattle.std.specs.Prelude.{Bool, true, false, cond, ℕ, ◌+◌, ◌*◌, ◌/◌, ◌%◌, eqb}
+use Rattle.std.specs.Prelude.{true, false, cond, ℕ, ◌+◌, ◌*◌, ◌/◌, ◌%◌, eqb}
 use Rattle.std.specs.Int.{w32, w64}
 use Rattle.std.proofs.Common.{to_z}
 use Rattle.std.specs.Float.{binary32, binary64}
 use Rattle.std.specs.Float.Ieee.{of_bits}
-use Rattle.node.specs.declared.tags.Class.TheVariants.{Blob}
 use Rattle.node.specs.Tags.{message_kind, bundle_kind}
 use Rattle.node.specs.declared.record.Item.{Item}
 use Rattle.values.specs.declared.value.OscTime.{OscTime}

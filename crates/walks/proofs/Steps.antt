@@ -13,8 +13,8 @@ use Rattle.cues.specs.Cues.{entry_size, longest_recording, Indexes, MayContinue}
 use Rattle.results.specs.Ends.{FieldUpTo}
 use Rattle.results.specs.declared.End.{End}
 use Rattle.results.specs.declared.End.TheVariants as end
-use Rattle.results.specs.declared.Indexed.{Indexed}
-use Rattle.results.specs.declared.Indexed.TheVariants.{Written, Refused}
+use Rattle.results.specs.Results.{IndexAnswer, Written}
+use Rattle.std.specs.Prelude.{Err}
 use Rattle.cues.proofs.Steps.{stepped, full-moves, only-far}
 use Rattle.walks.specs.Walks.{LowPosition, LowLast, is_last, reads_on, further, WalkStep}
 use Rattle.walks.specs.CodeWalks.{CanWalk, RestKept}
@@ -44,10 +44,10 @@ module _ {from : Position} {buf : List ℕ} {count : ℕ} {out : List ℕ} (can 
   there : length (take count buf) ≡ count
   there = length-take-le count buf can.there
 
-  module _ {r : Indexed} {after : List ℕ} (w : Indexes (take count buf) from.at out r after) where
+  module _ {r : IndexAnswer} {after : List ℕ} (w : Indexes (take count buf) from.at out r after) where
     module _ {n used : ℕ} {why : End} (e : r ≡ Written n used why) where
       wrote : Indexes (take count buf) from.at out (Written n used why) after
-      wrote = subst (λ (x : Indexed). Indexes (take count buf) from.at out x after) e w
+      wrote = subst (λ (x : IndexAnswer). Indexes (take count buf) from.at out x after) e w
 
       -- a step that wrote has few records, for bytes that are there
       pub step-low : StepLow from count (length out) n used
@@ -115,12 +115,12 @@ module _ {from : Position} {buf : List ℕ} {count : ℕ} {out : List ℕ} (can 
             }
 
     -- the recording is too long
-    pub too_long : {k : Refusal} → r ≡ Refused k → WalkStep from buf count out TooLong buf after
+    pub too_long : {k : Refusal} → r ≡ Err k → WalkStep from buf count out TooLong buf after
     too_long {k} e =
-        let x : Indexes (take count buf) from.at out (Refused k) after
-        = subst (λ (x : Indexed). Indexes (take count buf) from.at out x after) e w in
+        let x : Indexes (take count buf) from.at out (Err k) after
+        = subst (λ (x : IndexAnswer). Indexes (take count buf) from.at out x after) e w in
         record {
-          step = Refused k;
+          step = Err k;
           steps = x;
           gives = refl;
           keeps = tt;

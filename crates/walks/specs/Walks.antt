@@ -1,13 +1,12 @@
 -- A walk over a recording: document 02, Ticket 5, "files are read through buffers of at most 64 KiB". One step goes over a buffer, by the
 -- contract of the step that writes an index (crates/cues), and says where the walk stands then.
-use Rattle.std.specs.Prelude.{◌≡◌, Bool, false, not, cond, List, ℕ, ◌+◌, ◌-◌, ◌*◌, ◌<◌, ◌≤◌, ltb, length, take, drop}
+use Rattle.std.specs.Prelude.{◌≡◌, Bool, false, not, cond, List, ℕ, ◌+◌, ◌-◌, ◌*◌, ◌<◌, ◌≤◌, ltb, length, take, drop, Err, Ok}
 use Rattle.wire.specs.Limits.{longest}
 use Rattle.cues.specs.Cues.{entry_size, longest_recording, Indexes}
 use Rattle.results.specs.Ends.{FieldUpTo}
 use Rattle.results.specs.declared.End.{End}
 use Rattle.results.specs.declared.End.TheVariants as end
-use Rattle.results.specs.declared.Indexed.{Indexed}
-use Rattle.results.specs.declared.Indexed.TheVariants.{Written, Refused}
+use Rattle.results.specs.Results.{IndexAnswer}
 use Rattle.walks.specs.declared.Position.{Position}
 use Rattle.walks.specs.declared.Walked.{Walked}
 use Rattle.walks.specs.declared.Walked.TheVariants.{On, Ended, TooLong}
@@ -27,16 +26,17 @@ abbrev pub further : Position → ℕ → ℕ → ℕ → Position
 further from n used kept = record { at = from.at + used; records = from.records + n; kept = kept }
 
 -- what a step over `count` bytes makes of a position: it is read on, or there are no more records and why
-abbrev pub walked_by : Position → ℕ → Indexed → Walked
-walked_by from count (Written n used why) =
-    cond (reads_on (is_last count) why) (On (n * entry_size) (further from n used (count - used)))
-    (Ended (n * entry_size) (further from n used (count - used)) why)
-walked_by from count (Refused k) = TooLong
+abbrev pub walked_by : Position → ℕ → IndexAnswer → Walked
+walked_by from count (Ok indexed) =
+    cond (reads_on (is_last count) indexed.end)
+    (On (indexed.records * entry_size) (further from indexed.records indexed.used (count - indexed.used)))
+    (Ended (indexed.records * entry_size) (further from indexed.records indexed.used (count - indexed.used)) indexed.end)
+walked_by from count (Err k) = TooLong
 
 -- the bytes that the step did not use stand at the front of the buffer
-abbrev pub keeps_unused : List ℕ → ℕ → Indexed → List ℕ → Type 0
-keeps_unused buf count (Written n used why) kept = take (count - used) kept ≡ drop used (take count buf)
-keeps_unused buf count (Refused k) kept = Unit {0}
+abbrev pub keeps_unused : List ℕ → ℕ → IndexAnswer → List ℕ → Type 0
+keeps_unused buf count (Ok indexed) kept = take (count - indexed.used) kept ≡ drop indexed.used (take count buf)
+keeps_unused buf count (Err k) kept = Unit {0}
 
 -- ---- the numbers of a walk stay low, and it moves on
 
@@ -62,7 +62,7 @@ LowAfter from room TooLong = Unit {0}
 -- the contract: the records of the buffer's frames stand in the output, what was not used is kept, and the walk stands where it should. It
 -- is too long where the recording is, and only there
 pub record WalkStep (from : Position) (buf : List ℕ) (count : ℕ) (out : List ℕ) (r : Walked) (kept after : List ℕ) : Type 0 where
-  pub step : Indexed
+  pub step : IndexAnswer
   pub steps : Indexes (take count buf) from.at out step after
   pub gives : r ≡ walked_by from count step
   pub keeps : keeps_unused buf count step kept

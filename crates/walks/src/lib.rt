@@ -10,10 +10,10 @@ ghost use Rattle.walks.specs.CodeWalks.{CanWalk};
 
 use cues::{ENTRY_SIZE, index_step};
 pub use rest::keep_rest;
-use results::{End, Indexed};
+use results::End;
 
 // Where a walk stands: so many records for the bytes up to an offset, and so many bytes after it that were read and are kept.
-#[derive(Clone, Copy)]
+#[derive(Clone, Copy, Debug, PartialEq, Eq)]
 pub struct Position {
     pub at: u64,
     pub records: usize,
@@ -52,12 +52,13 @@ pub fn start() -> Position
 }
 
 // Whether a recording is read on after a buffer, which is its last or not.
-fn reads_on(is_last: bool, end: End) -> bool
+//
+// Ruled out: reading on after a refused frame; reading on after the recording's last buffer.
+pub fn reads_on(is_last: bool, end: End) -> bool
     ensures { result ≡ reads_on is_last end }
 {
     match end {
-        End::Whole => !is_last,
-        End::Waiting => !is_last,
+        End::Whole | End::Waiting => !is_last,
         End::Refused(_) => false,
     }
 }
@@ -73,7 +74,10 @@ pub fn walk_step(from: Position, buf: &mut [u8], count: usize, out: &mut [u8]) -
 {
     let at = from.at;
     match index_step(&buf[..count], at, out) {
-        Indexed::Written { records, used, end } => {
+        Ok(indexed) => {
+            let used = indexed.used;
+            let records = indexed.records;
+            let end = indexed.end;
             let kept = keep_rest(buf, used, count);
             let written = records * ENTRY_SIZE;
             let next = Position {
@@ -91,6 +95,6 @@ pub fn walk_step(from: Position, buf: &mut [u8], count: usize, out: &mut [u8]) -
                 end,
             }
         }
-        Indexed::Refused(_) => Walked::TooLong,
+        Err(_) => Walked::TooLong,
     }
 }

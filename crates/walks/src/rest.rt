@@ -9,12 +9,6 @@ pub fn keep_rest(buf: &mut [u8], from: usize, to: usize) -> usize
     requires { (from ≤ to) × (to ≤ length buf.old) }
     ensures { RestKept from to buf.old buf.new result }
 {
-    let mut i = 0;
-    let mut j = from;
-    while j < to {
-        buf[i] = buf[j];
-        i += 1;
-        j += 1;
-    }
-    i
+    buf.copy_within(from..to, 0);
+    to - from
 }

@@ -2,6 +2,7 @@ pub mod Choices
 pub mod Multiples
 pub mod Only
 pub mod Parts
+pub mod Payloads
 pub mod Numbers
 pub mod Writers
 pub mod Copies

@@ -1,7 +1,7 @@
 -- No second outcome satisfies a contract of this crate.
 use mathlib.Core.Path.{◌≡◌, sym, ◌∙◌}
 use Prim.Native.Nat.{ℕ}
-use Rattle.wire.specs.declared.Padded.{Padded}
+use Rattle.wire.specs.Results.{Padded}
 use Rattle.wire.specs.Pad.{pad_of}
 
 -- an outcome that is a function of the input is the only one

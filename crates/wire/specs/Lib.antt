@@ -5,3 +5,4 @@ pub mod Pad
 pub mod Part
 pub mod Same
 pub mod Wrote
+pub mod Results

@@ -75,7 +75,7 @@ pub fn be_u64(s: &[u8], at: usize) -> u64
         + turned((x / 0x1_0000_0000) as u32) as u64
 }
 
-// The 4 bytes of x over the first 4 of out.
+// The 4 bytes of x over the first 4 of out. By `to_be_bytes`, tables took three quarters longer to write.
 pub fn put_u32(out: &mut [u8], x: u32)
     requires { 4 ≤ length out.old }
     ensures { Wrote (bytes 4 x) out.old out.new }
@@ -113,15 +113,14 @@ pub fn range(s: &[u8], offset: u32, count: u32) -> &[u8]
     &s[from..to]
 }
 
-// The bytes over the first ones of out, one by one: compiled to large steps where they are many.
+// The bytes over the first ones of out, one by one: compiled to large steps where they are many. `copy_from_slice` would be a call of
+// `memmove`, and what is exported for C needs no C library.
 fn copy_bytes(bytes: &[u8], out: &mut [u8])
     requires { length bytes.now ≤ length out.old }
     ensures { Wrote bytes.now out.old out.new }
 {
-    let mut i: usize = 0;
-    while i < bytes.len() {
-        out[i] = bytes[i];
-        i += 1;
+    for (i, byte) in bytes.iter().enumerate() {
+        out[i] = *byte;
     }
 }
 
@@ -131,10 +130,8 @@ fn copy_eights(bytes: &[u8], out: &mut [u8])
     ensures { Wrote bytes.now out.old out.new }
 {
     let last = bytes.len() - 8;
-    let mut i: usize = 0;
-    while i < last {
+    for i in (0..last).step_by(8) {
         put_u64(&mut out[i..], be_u64(bytes, i));
-        i += 8;
     }
     put_u64(&mut out[last..], be_u64(bytes, last));
 }
@@ -149,42 +146,27 @@ fn copy_fours(bytes: &[u8], out: &mut [u8])
     put_u32(&mut out[last..], be_u32(bytes, last));
 }
 
-// The bytes over the first ones of out.
+// The bytes over the first ones of out. Fewer than 4 have an arm of their own, for which a small loop is compiled.
 pub fn copy(bytes: &[u8], out: &mut [u8])
     requires { length bytes.now ≤ length out.old }
     ensures { Wrote bytes.now out.old out.new }
 {
-    let n = bytes.len();
-    if n < 4 {
-        copy_bytes(bytes, out);
-        return;
+    match bytes.len() {
+        0..4 => copy_bytes(bytes, out),
+        4..8 => copy_fours(bytes, out),
+        8..64 => copy_eights(bytes, out),
+        _ => copy_bytes(bytes, out),
     }
-    if n < 8 {
-        copy_fours(bytes, out);
-        return;
-    }
-    if n < 64 {
-        copy_eights(bytes, out);
-        return;
-    }
-    copy_bytes(bytes, out);
-}
-
-// A padded position, or the refusal.
-#[derive(Clone, Copy)]
-pub enum Padded {
-    At(u64),
-    Refused(Refusal),
 }
 
 // The next multiple of 4: the position itself where it is one.
 //
 // Ruled out: 4 for the position 0; a wrapped 0 for a position over 2^64 - 4.
-pub fn pad(pos: u64) -> Padded
+pub fn pad(pos: u64) -> Result<u64, Refusal>
     ensures { result ≡ pad_of pos }
 {
     if 0xffff_ffff_ffff_fffc < pos {
-        return Padded::Refused(Refusal::PadOverflow);
+        return Err(Refusal::PadOverflow);
     }
-    Padded::At((pos + 3) / 4 * 4)
+    Ok((pos + 3) / 4 * 4)
 }

@@ -3,3 +3,4 @@ pub mod Lengths
 pub mod Rows
 pub mod Arguments
 pub mod Packets
+pub mod Turns

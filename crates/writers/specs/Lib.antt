@@ -1,2 +1,3 @@
 pub mod Osc
 pub mod CodeWriters
+pub mod Siblings

@@ -2,6 +2,8 @@
 // that it is lent, and answers how many these are.
 #![tactic(auto)]
 
+mod siblings; // siblings.rt: the nodes that stand side by side in a table
+
 ghost use Rattle.std.specs.Prelude.{◌≡◌, [], ◌≤◌, length};
 ghost use Rattle.wire.specs.Wrote.{Filled};
 ghost use Rattle.node.specs.Tags.{message_kind};
@@ -11,6 +13,7 @@ ghost use Rattle.writers.specs.CodeWriters.{tag_text, bundle_head, Any, SoundIn,
 
 use node::record::{END, Item, field_at, item_at, kind_at};
 use node::tags::{ARRAY, Class, MESSAGE, Sort, sort_of};
+use siblings::Siblings;
 use strings::{encode_leaf_data, encode_pair_into, write_zeros};
 use wire::{LONGEST, copy, put_u32};
 
@@ -25,11 +28,9 @@ fn encode_arg_types(table: &[u8], lo: usize, hi: usize, out: &mut [u8]) -> usize
     requires { OutputRoom Any write_tags table.now lo hi (length out.old) }
     ensures { WritesRow write_tags table.now lo hi out.old out.new result }
 {
-    let mut at = lo;
     let mut written: usize = 0;
-    while at < hi {
+    for (at, end) in Siblings::new(table, lo, hi) {
         let kind = kind_at(table, at);
-        let end = field_at(table, at, END) as usize;
         out[written] = kind;
         written += 1;
         if kind == ARRAY {
@@ -37,7 +38,6 @@ fn encode_arg_types(table: &[u8], lo: usize, hi: usize, out: &mut [u8]) -> usize
             out[written] = b']';
             written += 1;
         }
-        at = end;
     }
     written
 }
@@ -47,10 +47,8 @@ fn encode_arg_data(table: &[u8], lo: usize, hi: usize, source: &[u8], out: &mut 
     requires { OutputRoom (SoundIn source.now) (write_data source.now) table.now lo hi (length out.old) }
     ensures { WritesRow (write_data source.now) table.now lo hi out.old out.new result }
 {
-    let mut at = lo;
     let mut written: usize = 0;
-    while at < hi {
-        let end = field_at(table, at, END) as usize;
+    for (at, end) in Siblings::new(table, lo, hi) {
         match sort_of(kind_at(table, at)) {
             Sort::Opens => {
                 written += encode_arg_data(table, at + 1, end, source, &mut out[written..]);
@@ -60,7 +58,6 @@ fn encode_arg_data(table: &[u8], lo: usize, hi: usize, source: &[u8], out: &mut 
                 written += encode_leaf_data(class, item_at(table, at), source, &mut out[written..]);
             }
         }
-        at = end;
     }
     written
 }
@@ -105,13 +102,11 @@ fn encode_bundle(table: &[u8], at: usize, source: &[u8], out: &mut [u8]) -> usiz
 {
     let end = field_at(table, at, END) as usize;
     let mut written = encode_bundle_head(item_at(table, at), out);
-    let mut next = at + 1;
-    while next < end {
+    for (next, _) in Siblings::new(table, at + 1, end) {
         let start = written + 4;
         let length = encode_packet(table, next, source, &mut out[start..]);
         put_u32(&mut out[written..], length as u32);
         written = start + length;
-        next = field_at(table, next, END) as usize;
     }
     written
 }

@@ -1,3 +1,5 @@
+use Rattle.std.proofs.Common.{sym}
+use Rattle.argument.proofs.There.{with-numbers}
 use Rattle.argument.proofs.Argued.{blob-short, blob-cut, blob-lacks, blob-given}
 use Rattle.argument.proofs.read_blob.Goals as goal
 
@@ -13,4 +15,7 @@ returns-then-input-used c =
 
 pub returns : goal.returns
 returns c =
-    blob-given _ _ _ _ c.if-input-lt4.false c.be_u32-size.ensures c.if-input-end.false c.if-input-used.false
+    sym
+    (with-numbers
+    (blob-given _ _ _ _ c.if-input-lt4.false c.be_u32-size.ensures c.if-input-end.false c.if-input-used.false)
+    c.given.ensures)

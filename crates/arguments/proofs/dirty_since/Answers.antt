@@ -9,7 +9,7 @@ use Rattle.wire.proofs.Parts.{tail}
 use Rattle.argument.specs.CodeParts.{StandsAt, dirt_of}
 use Rattle.argument.proofs.Stands.{stands_on}
 use Rattle.scan.specs.CodeScans.{scan}
-use Rattle.scan.specs.declared.Scanned.TheVariants.{Used}
+use Rattle.scan.specs.Results.{Used}
 use Rattle.arguments.specs.Arguments.{read_args}
 use Rattle.arguments.specs.CodeReadings.{kept_of}
 use Rattle.arguments.proofs.Counts.{scan-accepted, scan-refused}
@@ -35,44 +35,44 @@ slice_bounds-scan_args-count c = cut-le _ c.requires.cut_after.0.2
 pub slice_bounds-scan_args-start : goal.slice_bounds-scan_args-start
 slice_bounds-scan_args-start c = cut-le _ c.requires.cut_after.0.2
 
-pub slice_bounds-scan_args-count-in-Used : goal.slice_bounds-scan_args-count-in-Used
-slice_bounds-scan_args-count-in-Used c =
+pub slice_bounds-scan_args-count-in-Ok : goal.slice_bounds-scan_args-count-in-Ok
+slice_bounds-scan_args-count-in-Ok c =
     let r = c.requires.cut_after in
-    (cut_at 0 _ _ _ r.0.2 (scan-accepted 0 _ _ _ r.1.2) (sym c.in-Used.is ∙ c.scan_args.ensures)).within
+    (cut_at 0 _ _ _ r.0.2 (scan-accepted 0 _ _ _ r.1.2) (sym c.in-Ok.is ∙ c.scan_args.ensures)).within
 
-pub slice_bounds-scan_args-start-in-Used : goal.slice_bounds-scan_args-start-in-Used
-slice_bounds-scan_args-start-in-Used c =
+pub slice_bounds-scan_args-start-in-Ok : goal.slice_bounds-scan_args-start-in-Ok
+slice_bounds-scan_args-start-in-Ok c =
     let r = c.requires.cut_after in
-    (cut_at 0 _ _ _ r.0.2 (scan-accepted 0 _ _ _ r.1.2) (sym c.in-Used.is ∙ c.scan_args.ensures)).within
+    (cut_at 0 _ _ _ r.0.2 (scan-accepted 0 _ _ _ r.1.2) (sym c.in-Ok.is ∙ c.scan_args.ensures)).within
 
 pub overflow_add-pos : goal.overflow_add-pos
 overflow_add-pos c =
     let r = c.requires.cut_after in
-    let k = cut_at 0 _ _ _ r.0.2 (scan-accepted 0 _ _ _ r.1.2) (sym c.in-Used.is ∙ c.scan_args.ensures) in
+    let k = cut_at 0 _ _ _ r.0.2 (scan-accepted 0 _ _ _ r.1.2) (sym c.in-Ok.is ∙ c.scan_args.ensures) in
     omega (arith, k.within, c.requires.input_bound)
 
-pub scan_args-requires-in-Used : goal.scan_args-requires-in-Used
-scan_args-requires-in-Used c =
+pub scan_args-requires-in-Ok : goal.scan_args-requires-in-Ok
+scan_args-requires-in-Ok c =
     let r = c.requires.cut_after in
-    let k = cut_at 0 _ _ _ r.0.2 (scan-accepted 0 _ _ _ r.1.2) (sym c.in-Used.is ∙ c.scan_args.ensures) in
+    let k = cut_at 0 _ _ _ r.0.2 (scan-accepted 0 _ _ _ r.1.2) (sym c.in-Ok.is ∙ c.scan_args.ensures) in
     let l = c.args.input.now in
-    let n = c.in-Used.used in
+    let n = c.in-Ok.lost.used in
     omega (arith, k.within, c.requires.input_bound, length-take (length l - n) (drop n l), length-drop n l)
 
-pub returns-in-Used-scan_args : goal.returns-in-Used-scan_args
-returns-in-Used-scan_args c = λ base msg w.
+pub returns-in-Ok-scan_args : goal.returns-in-Ok-scan_args
+returns-in-Ok-scan_args c = λ base msg w.
     let r = c.requires.cut_after in
-    let k = cut_at base _ _ _ r.0.2 (scan-accepted base _ _ _ r.1.2) (sym c.in-Used.is ∙ c.scan_args.ensures) in
-    rest-dirt k msg w (sym c.in-Used-scan_args.is ∙ c.scan_args-in-Used.ensures)
+    let k = cut_at base _ _ _ r.0.2 (scan-accepted base _ _ _ r.1.2) (sym c.in-Ok.is ∙ c.scan_args.ensures) in
+    rest-dirt k msg w (sym c.in-Ok-scan_args.is ∙ c.scan_args-in-Ok.ensures)
 
 -- What was accepted is not refused: neither the rest nor the first tags.
-pub returns-in-Refused-scan_args : goal.returns-in-Refused-scan_args
-returns-in-Refused-scan_args c =
+pub returns-in-Err-scan_args : goal.returns-in-Err-scan_args
+returns-in-Err-scan_args c =
     let r = c.requires.cut_after in
-    let k = cut_at 0 _ _ _ r.0.2 (scan-accepted 0 _ _ _ r.1.2) (sym c.in-Used.is ∙ c.scan_args.ensures) in
-    absurd (scan-refused 0 _ _ _ (sym c.in-Refused-scan_args.is ∙ c.scan_args-in-Used.ensures) k.accepted)
+    let k = cut_at 0 _ _ _ r.0.2 (scan-accepted 0 _ _ _ r.1.2) (sym c.in-Ok.is ∙ c.scan_args.ensures) in
+    absurd (scan-refused 0 _ _ _ (sym c.in-Err-scan_args.is ∙ c.scan_args-in-Ok.ensures) k.accepted)
 
-pub returns-in-Refused : goal.returns-in-Refused
-returns-in-Refused c =
+pub returns-in-Err : goal.returns-in-Err
+returns-in-Err c =
     let r = c.requires.cut_after in
-    absurd (cut-never 0 _ _ _ r.0.2 (scan-accepted 0 _ _ _ r.1.2) (sym c.in-Refused.is ∙ c.scan_args.ensures))
+    absurd (cut-never 0 _ _ _ r.0.2 (scan-accepted 0 _ _ _ r.1.2) (sym c.in-Err.is ∙ c.scan_args.ensures))

@@ -7,10 +7,9 @@ use Rattle.clock.specs.Promises.{TagCase}
 use Rattle.clock.specs.declared.Rule.{Rule}
 use Rattle.clock.specs.declared.Rule.TheVariants.{A, B}
 use Rattle.clock.specs.declared.OutOfRange.TheVariants.{TooEarly}
-use Rattle.clock.specs.declared.Tagged.{Tagged}
-use Rattle.clock.specs.declared.Tagged.TheVariants as tagged
-use Rattle.clock.specs.declared.Unix.{Unix}
-use Rattle.clock.specs.declared.Unix.TheVariants as unix
+use Rattle.clock.specs.Results.{Tagged, Unix}
+use Rattle.std.specs.Prelude.{Err}
+use Rattle.clock.specs.Results as unix
 use Rattle.clock.proofs.Domains.{case-of, TimeCase, time-of}
 use Rattle.contract.specs.Contract.{Lists}
 use Rattle.calls.specs.Calls.{Meets, tag_of, unix_of, contract_of}
@@ -34,7 +33,7 @@ module _ (rule : Rule) (tag : ℕ) where
   unix-listed = by-time (time-of rule tag)
 
 -- examples: the second before 1970 has no tag, and the tag (0, 1) is by rule B the first second after the wrap
-second-before : Meets (tag_of A (negsuc 0) 0) (tagged.Refused TooEarly) tt
+second-before : Meets (tag_of A (negsuc 0) 0) (Err TooEarly) tt
 unfolding tag_for
 second-before = refl
 

@@ -10,9 +10,8 @@ use Rattle.refusal.specs.declared.Refusal.{Refusal}
 use Rattle.wire.specs.Limits.{longest}
 use Rattle.node.specs.Tags.{among}
 use Rattle.results.specs.declared.End.TheVariants as end
-use Rattle.results.specs.declared.Indexed.{Indexed}
-use Rattle.results.specs.declared.Checked.{Checked}
-use Rattle.results.specs.declared.Checked.TheVariants as checked
+use Rattle.results.specs.Results.{Checked, IndexAnswer}
+use Rattle.std.specs.Prelude.{Ok, Err}
 use Rattle.cues.specs.Cues.{longest_recording, entry_size, Index, index, index_of, written_of, indexed_as, index_answer, index_leaves}
 use Rattle.cues.specs.Checks.{compared}
 use Rattle.cues.specs.Refusals.{cue_order}
@@ -32,7 +31,7 @@ module _ (bytes : List ℕ) (base : ℕ) (out : List ℕ) where
   abbrev indexing : Contract
   indexing = contract_of (index_step bytes base out)
 
-  abbrev Ended : Indexed → Type 0
+  abbrev Ended : IndexAnswer → Type 0
   Ended r = WellEnded indexing r (index_leaves r (written_of (index_of base bytes)) out)
 
   written-ends : (i : Index) → IndexIn FrameListed base (length bytes) i → Ended (indexed_as base i)
@@ -53,8 +52,8 @@ module _ (bytes : List ℕ) (base : ℕ) (out : List ℕ) where
 
 module _ (fresh given : List ℕ) where
   checked-listed : (r : Checked) → Lists (contract_of (compare fresh given)) r
-  checked-listed (checked.Fits n) = tt
-  checked-listed (checked.Differs k) = refl
+  checked-listed (Ok n) = tt
+  checked-listed (Err differs) = refl
 
   pub compare-demand : Demand1 (contract_of (compare fresh given))
   compare-demand = answers-demand (checked-listed (compared fresh given))

@@ -13,8 +13,8 @@ use Rattle.node.specs.Tags.{among}
 use Rattle.argument.specs.Dirt.{dirty_in}
 use Rattle.framing.specs.Framing.{Whole, trees, waiting, refusal, stopped, tcp_vec2, rule_of}
 use Rattle.answering.specs.Limits.{order_of, stops_by, waits_by, limited, forest_of, tabled}
-use Rattle.results.specs.declared.Decoded.{Decoded}
-use Rattle.results.specs.declared.Decoded.TheVariants.{Packets, Waiting, Refused, Stopped}
+use Rattle.results.specs.Results.{DecodeAnswer, Packets, Stopped, Waiting}
+use Rattle.std.specs.Prelude.{Err}
 use Rattle.portions.specs.Portions.{portion_of, step_of, table_by}
 use Rattle.contract.specs.Endings.{by_decoded}
 use Rattle.contract.specs.Contract.{Contract, Fruitless, Lists, Demand1}
@@ -26,11 +26,11 @@ use Rattle.decoder.proofs.Numbers.{Among, rule-among, nine, limits}
 use Rattle.decoder.proofs.Only.{decodes-only, decodes-met}
 
 -- a decoder that gives no packets leaves the table as it was
-decoded-same : (r : Decoded) (f : Forest) (table : List ℕ) → Fruitless (by_decoded r) → tabled r f table ≡ table
+decoded-same : (r : DecodeAnswer) (f : Forest) (table : List ℕ) → Fruitless (by_decoded r) → tabled r f table ≡ table
 decoded-same (Packets count left dirty) f table n = absurd n
 decoded-same (Stopped count left dirty k at) f table n = absurd n
 decoded-same Waiting f table n = refl
-decoded-same (Refused k) f table n = refl
+decoded-same (Err k) f table n = refl
 
 module _ (framing : Framing) (msg table : List ℕ) (limit : ℕ) where
   abbrev call : Contract
@@ -66,12 +66,12 @@ module _ (bytes table : List ℕ) (limit : ℕ) where
   stepping = contract_of (read_portion bytes table limit)
 
   -- it ends as `decode_tcp_vec` does in edition 2
-  portion-ends : (r : Decoded) (n : ℕ) (f : Forest) → Lists (decoding (TcpVec Standard) bytes table limit) r
+  portion-ends : (r : DecodeAnswer) (n : ℕ) (f : Forest) → Lists (decoding (TcpVec Standard) bytes table limit) r
       → WellEnded stepping (portion_of n r) (tabled r f table)
   portion-ends (Packets count left dirty) n f h = (tt, λ x. absurd x)
   portion-ends (Stopped count left dirty k at) n f h = (h, λ x. absurd x)
   portion-ends Waiting n f h = (tt, λ x. absurd x)
-  portion-ends (Refused k) n f h = (h, λ _. refl)
+  portion-ends (Err k) n f h = (h, λ _. refl)
 
   pub portion-demand : Demand1 stepping
   portion-demand =

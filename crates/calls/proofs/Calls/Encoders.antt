@@ -8,7 +8,7 @@ use Rattle.utf8.specs.Derive.{utf8}
 use Rattle.wire.specs.Limits.{longest, deepest}
 use Rattle.node.specs.Forest.{nil, node, depth}
 use Rattle.node.specs.Tags.{among}
-use Rattle.results.specs.declared.Encoded.{Encoded}
+use Rattle.results.specs.Results.{Encoded}
 use Rattle.strings.specs.Atomic.{osc_string}
 use Rattle.writers.specs.Osc.{write_packet}
 use Rattle.encoder.specs.Outcome.{encode_order, Outcome, bytes_outcome, tree_outcome, Encodes, malformed, formed, string_outcome}

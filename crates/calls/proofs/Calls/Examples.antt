@@ -9,7 +9,9 @@ use lib.ListN.{replicate}
 use Rattle.refusal.specs.declared.Fault.TheVariants.{Empty}
 use Rattle.refusal.specs.declared.Refusal.TheVariants.{Unreadable, BadTable, OutputShort, PadOverflow}
 use Rattle.wire.specs.Number.{number, bytes}
-use Rattle.wire.specs.declared.Padded.TheVariants as padded
+use Rattle.results.specs.Results.{DecodeAnswer, Differs, Encoded}
+use Rattle.std.specs.Prelude.{Err, Ok}
+use Rattle.results.specs.Results as decodes
 use Rattle.node.specs.Forest.{size, depth, snoc}
 use Rattle.node.specs.Records.{record_of, records_of, kind_at, zeros_at, field_at}
 use Rattle.node.specs.Rules.{own_rules}
@@ -17,7 +19,6 @@ use Rattle.node.specs.Tags.{among, class_of, sort_of}
 use Rattle.values.specs.Value.{value_by}
 use Rattle.values.specs.Look.{look_at}
 use Rattle.values.specs.declared.value.OscType.TheVariants.{Blob, Double}
-use Rattle.values.specs.declared.look.Looked.TheVariants as looked
 use Rattle.text.specs.Text.{read_text}
 use Rattle.argument.specs.Argument.{read_arg}
 use Rattle.arguments.specs.Arguments.{read_tags}
@@ -28,19 +29,12 @@ use Rattle.edition.specs.declared.Edition.TheVariants.{Rosc}
 use Rattle.framing.specs.Framing.{udp, read_frame, cut_frame, tcp, tcp_vec}
 use Rattle.edition.specs.declared.Framing.TheVariants.{Udp, Tcp, TcpVec}
 use Rattle.answering.specs.Limits.{decode_order, decoded, forest_of, tabled}
-use Rattle.results.specs.declared.Decoded.{Decoded}
-use Rattle.results.specs.declared.Decoded.TheVariants as decodes
 use Rattle.folding.specs.Folding.{fold_at}
 use Rattle.cues.specs.Cues.{entry_of}
 use Rattle.cues.specs.Checks.{compared_at}
-use Rattle.results.specs.declared.Indexed.TheVariants as indexed
-use Rattle.results.specs.declared.Checked.TheVariants.{Differs}
-use Rattle.results.specs.declared.CueAt.TheVariants as found
 use Rattle.strings.specs.Atomic.{osc_string, osc_blob}
 use Rattle.writers.specs.Osc as osc
 use Rattle.encoder.specs.Outcome.{bytes_outcome, tree_outcome, malformed, formed}
-use Rattle.results.specs.declared.Encoded.{Encoded}
-use Rattle.results.specs.declared.Encoded.TheVariants as encodes
 use Rattle.contract.specs.Endings.{by_encoded}
 use Rattle.contract.specs.Contract.{Fruitless}
 use Rattle.calls.specs.Calls.{Meets, decode, index_step, compare, cue_at, encode, pad, look, text_of}
@@ -50,7 +44,7 @@ use Rattle.calls.proofs.Calls.Every.{settled, listed, nothing_changed}
 use Rattle.calls.proofs.Room.Examples.{blank, two-answer}
 
 -- P1: no bytes are refused with 2, and any table is as it was
-p1 : (table : List ℕ) → Meets (decode Udp [] table 64) (decodes.Refused (Unreadable Empty)) table
+p1 : (table : List ℕ) → Meets (decode Udp [] table 64) (Err (Unreadable Empty)) table
 unfolding packet_at read_packet udp decoded
 p1 table = record { answered = refl; left = refl }
 
@@ -61,31 +55,31 @@ unfolding number prefix_of read_frame tcp decoded
 p14 table = record { answered = refl; left = refl }
 
 -- a table with a wrong end is refused with 11, whatever the output
-wrong-end : (out : List ℕ) → Meets (encode (p3.table 2 3) 2 p3.packet out) (encodes.Refused BadTable) out
+wrong-end : (out : List ℕ) → Meets (encode (p3.table 2 3) 2 p3.packet out) (Err BadTable) out
 wrong-end out = malformed p3.wrong-end refl
 
 -- P3's table encodes to P3's packet; one byte less is refused with 12
 eleven : List ℕ
 eleven = 1 ∷ 2 ∷ 3 ∷ 4 ∷ 5 ∷ 6 ∷ 7 ∷ 8 ∷ 9 ∷ 10 ∷ 11 ∷ []
 
-short : Meets (encode (p3.table 2 2) 2 p3.packet eleven) (encodes.Refused OutputShort) eleven
+short : Meets (encode (p3.table 2 2) 2 p3.packet eleven) (Err OutputShort) eleven
 unfolding eleven bytes depth class_of sort_of osc_string osc.write_data osc.write_tags osc.write_message osc.write_packet bytes_outcome tree_outcome
 short = formed p3.message p3.five p3.p3-tree refl
 
 written : Meets (encode (p3.table 2 2) 2 p3.packet (eleven ++ (12 ∷ 13 ∷ [])))
-    (encodes.Written 12) (p3.packet ++ (13 ∷ []))
+    (Ok 12) (p3.packet ++ (13 ∷ []))
 unfolding eleven bytes depth class_of sort_of osc_string osc.write_data osc.write_tags osc.write_message osc.write_packet bytes_outcome tree_outcome
 written = formed p3.message p3.five p3.p3-tree refl
 
 -- 2^64 - 1 has no next multiple of 4
-last : Meets (pad 0xffff_ffff_ffff_ffff) (padded.Refused PadOverflow) tt
+last : Meets (pad 0xffff_ffff_ffff_ffff) (Err PadOverflow) tt
 last = refl
 
 -- ---- a cue index, of P3's packet in a frame
 
 -- its record is refused with 12 where the output has a byte less
 room-short : Meets (index_step (0 ∷ 0 ∷ 0 ∷ 12 ∷ p3.packet) 0 (replicate 15 9))
-    (indexed.Refused OutputShort) (replicate 15 9)
+    (Err OutputShort) (replicate 15 9)
 unfolding number bytes size depth snoc class_of sort_of read_text read_arg read_tags start_of read_message packet_by packet_at read_packet length_of
     cut_frame fold_at
 room-short = record { answers = refl; leaves = refl }
@@ -96,14 +90,14 @@ unfolding bytes compared_at
 byte_more = refl
 
 -- it has no cue 1
-no-cue : Meets (cue_at (entry_of 0 16 2) 1) (found.Refused BadTable) tt
+no-cue : Meets (cue_at (entry_of 0 16 2) 1) (Err BadTable) tt
 unfolding bytes
 no-cue = refl
 
 -- ---- the kinds that need care, over the packets and tables of crates/table/proofs/Examples.antt
 
 -- a bundle in a bundle is written as its own bytes
-nested : Meets (encode p3.nested-table 7 p3.nested (replicate 77 9)) (encodes.Written 76) (p3.nested ++ (9 ∷ []))
+nested : Meets (encode p3.nested-table 7 p3.nested (replicate 77 9)) (Ok 76) (p3.nested ++ (9 ∷ []))
 unfolding bytes depth class_of sort_of osc_string osc_blob osc.write_data osc.write_tags osc.write_message osc.write_bundle osc.write_elements
     osc.write_packet bytes_outcome tree_outcome
 nested = formed (p3.once 0) (p3.within 0) p3.nested-tree refl
@@ -111,10 +105,10 @@ nested = formed (p3.once 0) (p3.within 0) p3.nested-tree refl
 -- a list of two frames
 list : Meets (decode (TcpVec Rosc) p3.two (blank 12) 2)
     (decodes.Packets 12 0 0) (table_after tcp_vec 2 p3.two (blank 12))
-list = record { answered = sym two-answer; left = ap (λ (r : Decoded). tabled r (forest_of (tcp_vec p3.two)) (blank 12)) two-answer }
+list = record { answered = sym two-answer; left = ap (λ (r : DecodeAnswer). tabled r (forest_of (tcp_vec p3.two)) (blank 12)) two-answer }
 
 -- a double that is no number, and the byte of a blob
-double : Meets (look p3.nested-table 6) (looked.Value (Double 0x7FF8_0000_0000_0000 nan)) tt
+double : Meets (look p3.nested-table 6) (Ok (Double 0x7FF8_0000_0000_0000 nan)) tt
 unfolding p3.nested-table number bytes size record_of records_of kind_at zeros_at field_at own_rules class_of sort_of value_by look_at of_bits
 double = refl
 
@@ -129,12 +123,12 @@ p1-listed table = listed _ (decode Udp [] table 64) _ _ (p1 table)
 
 -- the bundle's call has no other ending
 nested-only : (r : Encoded) (out : List ℕ) → Meets (encode p3.nested-table 7 p3.nested (replicate 77 9)) r out
-    → (r ≡ encodes.Written 76) × (out ≡ p3.nested ++ (9 ∷ []))
+    → (r ≡ Ok 76) × (out ≡ p3.nested ++ (9 ∷ []))
 nested-only r out m = settled _ (encode p3.nested-table 7 p3.nested (replicate 77 9)) r _ out _ m nested
 
 -- a refusal with 12 leaves the output as it was
 short-unchanged : (r : Encoded) (out : List ℕ) → Meets (encode (p3.table 2 2) 2 p3.packet eleven) r out → out ≡ eleven
 short-unchanged r out m =
     let c = encode (p3.table 2 2) 2 p3.packet eleven in
-    let q : r ≡ encodes.Refused OutputShort = (settled _ c r _ out _ m short).0 in
+    let q : r ≡ Err OutputShort = (settled _ c r _ out _ m short).0 in
     nothing_changed _ c r out m (subst (λ (a : Encoded). Fruitless (by_encoded a)) (sym q) tt)

@@ -16,12 +16,13 @@ use Rattle.node.specs.Forest.{nil, node, size, depth}
 use Rattle.node.specs.Records.{capacity}
 use Rattle.argument.specs.Dirt.{dirty_in}
 use Rattle.heads.specs.Heads.{length_of}
-use Rattle.heads.specs.declared.Length.{Length}
+use Rattle.heads.specs.Results.{Length}
+use Rattle.results.specs.Results.{Stopped}
+use Rattle.std.specs.Prelude.{Err}
 use Rattle.packet.specs.Packet.{Out, fault, one, after, read_packet}
 use Rattle.framing.specs.Framing.{Whole, Frame, trees, waiting, refusal, stopped, wholly, cut_with, cut_frame, tcp2, stops, tcp_vec2}
 use Rattle.framing.proofs.FrameKnot.{cut-length, cut_in}
 use Rattle.answering.specs.Limits.{limited, decoded, forest_of}
-use Rattle.results.specs.declared.Decoded.TheVariants.{Refused, Stopped}
 use Rattle.decoder.proofs.Chosen.{by-decoded, by-trees, by-bounded}
 use Rattle.calls.specs.Fields.{Form, prefix, address, type_text, padding, plain, string, blob, time_tag, field_of, needs, packet_fields}
 use Rattle.calls.specs.Fields.{ShortIn, cut_here, cut_later, cut_packet, CutShort, CutFieldsShort, CutFrameShort}
@@ -103,7 +104,7 @@ cut_fields_short msg limit table field at e =
 -- ---- a list
 
 module _ {count left dirty at : ℕ} {r : Refusal} where
-  refused-unstopped : {A : Type 0} {k : Refusal} → Refused k ≡ Stopped count left dirty r at → A
+  refused-unstopped : {A : Type 0} {k : Refusal} → Err k ≡ Stopped count left dirty r at → A
   refused-unstopped e = let z : ◌≡◌ {A = ℕ} 0 1 = cc in absurd (omega arith)
 
   limited-stopped : (capacity limit : ℕ) (msg : List ℕ) (w : Whole) → limited capacity limit msg w ≡ Stopped count left dirty r at

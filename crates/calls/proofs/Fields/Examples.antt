@@ -21,7 +21,8 @@ use Rattle.packet.specs.FirstText.{start_of}
 use Rattle.packet.specs.Packet.{read_message, bundle_by, element_by, elements_by, packet_by, packet_at, read_packet}
 use Rattle.framing.specs.Framing.{Whole, udp, read_frame, cut_frame, tcp, tcp2, frames_at, tcp_vec, tcp_vec2}
 use Rattle.answering.specs.Limits.{decoded}
-use Rattle.results.specs.declared.Decoded.TheVariants.{Refused, Stopped}
+use Rattle.results.specs.Results.{Stopped}
+use Rattle.std.specs.Prelude.{Err}
 use Rattle.calls.specs.Demands.{answer_to}
 use Rattle.calls.specs.Fields.{cut_here, PacketShort, FrameShort, CutShort, first_frame, next_frame, ListShort, FieldsShort}
 use Rattle.calls.proofs.Room.Examples.{blank}
@@ -34,7 +35,7 @@ use Rattle.calls.proofs.Fields.One.{one_field_udp, one_field_tcp, one_field_list
 abbrev p2 : List ℕ
 p2 = 0x2F ∷ 0 ∷ 0 ∷ 0 ∷ []
 
-p2-refused : answer_to udp 64 p2 (blank 1) ≡ Refused (Unreadable (Short TypeText 4))
+p2-refused : answer_to udp 64 p2 (blank 1) ≡ Err (Unreadable (Short TypeText 4))
 unfolding number size depth snoc class_of sort_of read_text read_arg read_tags start_of size_of read_message bundle_by element_by elements_by packet_by
     packet_at read_packet udp decoded kept_padding packets_padding
 p2-refused = refl
@@ -46,7 +47,7 @@ p2-short = fields_short_udp p2 64 (blank 1) TypeText 4 p2-refused
 abbrev bare-blob : List ℕ
 bare-blob = 0x2F ∷ 0x61 ∷ 0 ∷ 0 ∷ 0x2C ∷ 0x62 ∷ 0 ∷ 0 ∷ 0 ∷ 0 ∷ 0 ∷ 1 ∷ 0x61 ∷ []
 
-blob-refused : answer_to udp 64 bare-blob (blank 2) ≡ Refused (Unreadable (Short Padding 13))
+blob-refused : answer_to udp 64 bare-blob (blank 2) ≡ Err (Unreadable (Short Padding 13))
 unfolding number size depth snoc class_of sort_of read_text read_arg read_tags start_of size_of read_message bundle_by element_by elements_by packet_by
     packet_at read_packet udp decoded kept_padding packets_padding
 blob-refused = refl
@@ -62,7 +63,7 @@ blob-not-data s = let w = (one_field_udp bare-blob Padding Data 13 8 blob-short 
 abbrev lone : List ℕ
 lone = 0x23 ∷ []
 
-lone-refused : answer_to udp 64 lone (blank 1) ≡ Refused (Unreadable (Short Address 0))
+lone-refused : answer_to udp 64 lone (blank 1) ≡ Err (Unreadable (Short Address 0))
 unfolding number size depth snoc class_of sort_of read_text read_arg read_tags start_of size_of read_message bundle_by element_by elements_by packet_by
     packet_at read_packet udp decoded kept_padding packets_padding
 lone-refused = refl
@@ -75,7 +76,7 @@ lone-not-types : (at : ℕ) → PacketShort lone TypeText at → ⊥
 lone-not-types at s = let e = (one_field_udp lone Address TypeText 0 at lone-short s).0 in let z : ◌≡◌ {A = ℕ} 0 1 = cc in omega arith
 
 -- so a decoder that told 18 there would not do what `fields_short_udp` says
-lone-told-as-types : (rule : List ℕ → Whole) → answer_to rule 64 lone (blank 1) ≡ Refused (Unreadable (Short TypeText 0))
+lone-told-as-types : (rule : List ℕ → Whole) → answer_to rule 64 lone (blank 1) ≡ Err (Unreadable (Short TypeText 0))
     → FieldsShort rule PacketShort → ⊥
 lone-told-as-types rule e f = lone-not-types 0 (f lone 64 (blank 1) TypeText 0 e)
 
@@ -95,7 +96,7 @@ p3-whole = packet-judged 0 p3 0
 abbrev p13 : List ℕ
 p13 = 0 ∷ 0 ∷ 0 ∷ 8 ∷ 0x2F ∷ 0x61 ∷ 0 ∷ 0 ∷ []
 
-p13-refused : answer_to tcp 64 p13 (blank 1) ≡ Refused (Unreadable (Short TypeText 8))
+p13-refused : answer_to tcp 64 p13 (blank 1) ≡ Err (Unreadable (Short TypeText 8))
 unfolding number size depth snoc class_of sort_of read_text read_arg read_tags start_of size_of prefix_of read_message bundle_by element_by
     elements_by packet_by packet_at read_packet read_frame tcp decoded kept_padding packets_padding
 p13-refused = refl
@@ -110,7 +111,7 @@ p13-only field at s = one_field_tcp p13 TypeText field 8 at p13-short s
 abbrev cut_list : List ℕ
 cut_list = 0 ∷ 0 ∷ 0 ∷ 8 ∷ 0x2F ∷ 0x61 ∷ 0 ∷ 0 ∷ 0 ∷ 0 ∷ 0 ∷ 0 ∷ 0 ∷ []
 
-cut-refused : answer_to tcp_vec 64 cut_list (blank 1) ≡ Refused (Unreadable (Short Head 12))
+cut-refused : answer_to tcp_vec 64 cut_list (blank 1) ≡ Err (Unreadable (Short Head 12))
 unfolding number size depth snoc class_of sort_of read_text read_arg read_tags start_of size_of prefix_of read_message bundle_by element_by
     elements_by packet_by packet_at read_packet read_frame frames_at tcp_vec decoded kept_padding packets_padding
 cut-refused = refl
@@ -136,7 +137,7 @@ cut-only start s = (one_field_list cut_list Head Head 12 12 12 start cut-second 
 abbrev short-frame : List ℕ
 short-frame = 0 ∷ 0 ∷ 0 ∷ 4 ∷ 0x2F ∷ 0x61 ∷ 0x62 ∷ 0x63 ∷ 0 ∷ 0 ∷ 0 ∷ 0 ∷ []
 
-frame_refused : answer_to (tcp2 64) 64 short-frame (blank 1) ≡ Refused (Unreadable (Short Address 4))
+frame_refused : answer_to (tcp2 64) 64 short-frame (blank 1) ≡ Err (Unreadable (Short Address 4))
 unfolding number size depth snoc class_of sort_of read_text read_arg read_tags start_of size_of length_of read_message bundle_by element_by elements_by
     packet_by packet_at read_packet cut_frame tcp2 decoded kept_padding packets_padding
 frame_refused = refl

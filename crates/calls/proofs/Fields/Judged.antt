@@ -23,18 +23,16 @@ use Rattle.node.specs.declared.tags.Class.TheVariants.{Four, Eight, Bare, Text a
 use Rattle.node.specs.declared.tags.Sort.{Sort}
 use Rattle.node.specs.declared.tags.Sort.TheVariants.{Opens, Closes, Leaf}
 use Rattle.text.specs.Text.{until_nul, reach, read_text, fault_in}
-use Rattle.text.specs.declared.Text.{Text}
-use Rattle.text.specs.declared.Text.TheVariants.{Found, Lacks}
+use Rattle.argument.specs.Results.{Arg}
+use Rattle.packet.specs.Results.{Start}
+use Rattle.std.specs.Prelude.{Err, Ok}
+use Rattle.text.specs.Results.{Found, Text}
 use Rattle.argument.specs.Argument.{having, text_arg, read_arg}
-use Rattle.argument.specs.declared.Arg.{Arg}
-use Rattle.argument.specs.declared.Arg.TheVariants as arg
 use Rattle.arguments.specs.Arguments.{Args, refused, args, later, arg_taken, Open, waits, array_item, act, read_tags, read_args}
 use Rattle.heads.specs.Heads.{tags_in, message_item, bundle_item}
 use Rattle.packet.specs.FirstText.{bundle_word, start_by, start_of}
 use Rattle.packet.specs.Packet.{Out, fault, one, Elements, upto, after, message_with, types_then, read_message, bundle_with, bundle_by}
 use Rattle.packet.specs.Packet.{started_by, packet_by, read_packet, read_elements}
-use Rattle.packet.specs.declared.Start.{Start}
-use Rattle.packet.specs.declared.Start.TheVariants as start
 use Rattle.packet.proofs.Knot.{packet-eq}
 use Rattle.calls.specs.Fields.{Form, address, type_text, padding, plain, string, blob, time_tag, field_of, needs}
 use Rattle.calls.specs.Fields.{class_fields, data_fields, message_fields, later_fields, packet_fields, ShortIn, cut_here, cut_later}
@@ -112,9 +110,10 @@ module _ (form form' : Form) (l : List ℕ) (p : ℕ) (h : needs form p l ≤ le
 module _ (form : Form) (text : (q : ℕ) (m : List ℕ) → needs form q m ≡ until_nul m + 1) (l : List ℕ) (p : ℕ) where
   -- a text that is this field, and its padding
   abbrev TextJudged : Text → Type 0
-  TextJudged (Found n used) =
-      (Found n used ≡ Found (until_nul l) (reach p (until_nul l + 1))) × Passed (form ∷ padding ∷ []) l p (reach p (until_nul l + 1))
-  TextJudged (Lacks k) = (forms : List Form) → Judged (form ∷ padding ∷ forms) l p (bad (fault_in (field_of form) p k))
+  TextJudged (Ok text) =
+      (Found text.length text.used ≡ Found (until_nul l) (reach p (until_nul l + 1)))
+      × Passed (form ∷ padding ∷ []) l p (reach p (until_nul l + 1))
+  TextJudged (Err k) = (forms : List Form) → Judged (form ∷ padding ∷ forms) l p (bad (fault_in (field_of form) p k))
 
   no_nul : length l ≤ until_nul l → (forms : List Form) → ShortIn (form ∷ padding ∷ forms) l p (field_of form) p
   no_nul h forms = let n : length l < needs form p l = omega (arith, text p l) in cut_here n
@@ -149,8 +148,8 @@ module _ (form : Form) (text : (q : ℕ) (m : List ℕ) → needs form q m ≡ u
 
 module _ (class : Class) (l : List ℕ) (p : ℕ) where
   abbrev ArgJudged : Arg → Type 0
-  ArgJudged (arg.Given item used) = Passed (class_fields class) l p used
-  ArgJudged (arg.Refused k) = (forms : List Form) → Judged (class_fields class ++ forms) l p (bad k)
+  ArgJudged (Ok given) = Passed (class_fields class) l p given.used
+  ArgJudged (Err k) = (forms : List Form) → Judged (class_fields class ++ forms) l p (bad k)
 
   -- data of n bytes that are there or not
   having-judged : (n : ℕ) (k : Fault) (x : Arg) → (n ≤ length l → ArgJudged x)
@@ -159,9 +158,9 @@ module _ (class : Class) (l : List ℕ) (p : ℕ) where
 
 text-arg-judged : (tag offset : ℕ) (l : List ℕ) (p : ℕ) (t : Text) → TextJudged string (λ q m. refl) l p t
     → ArgJudged String l p (text_arg tag offset p t)
-text-arg-judged tag offset l p (Found n used) j =
-    let e : used ≡ reach p (until_nul l + 1) = cc in subst (Passed (string ∷ padding ∷ []) l p) (sym e) j.1
-text-arg-judged tag offset l p (Lacks k) j = j
+text-arg-judged tag offset l p (Ok text) j =
+    let e : text.used ≡ reach p (until_nul l + 1) = cc in subst (Passed (string ∷ padding ∷ []) l p) (sym e) j.1
+text-arg-judged tag offset l p (Err k) j = j
 
 module _ (l : List ℕ) (p : ℕ) where
   blob-short : length l < 4 + number 4 l → (forms : List Form) → ShortIn (blob ∷ padding ∷ forms) l p Data p
@@ -228,11 +227,12 @@ act-judged (Leaf class) go forms base tag l p frame below h = by-arg (read_arg t
   where
     by-arg : (x : Arg) → ArgJudged class l p x
         → Judged (class_fields class ++ forms) l p (args_end (arg_taken (λ m q f. go m q f below) l p frame x))
-    by-arg (arg.Refused k) j = j forms
-    by-arg (arg.Given item used) j =
-        let o = go (drop used l) (p + used) (snoc frame item nil) below in
-        j forms (args_end (later used o))
-        (subst (Judged forms (drop used l) (p + used)) (more-end used o) (h (drop used l) (p + used) (snoc frame item nil) below))
+    by-arg (Err k) j = j forms
+    by-arg (Ok given) j =
+        let o = go (drop given.used l) (p + given.used) (snoc frame given.item nil) below in
+        j forms (args_end (later given.used o))
+        (subst (Judged forms (drop given.used l) (p + given.used)) (more-end given.used o)
+        (h (drop given.used l) (p + given.used) (snoc frame given.item nil) below))
 
 tags-judged : (base : ℕ) (ts l : List ℕ) (p : ℕ) (frame : Forest) (below : List Open)
     → Judged (data_fields ts) l p (args_end (read_tags base ts l p frame below))
@@ -272,8 +272,8 @@ message-judged base item l p = by-text (read_text l p) (text-judged type_text (�
     tags = tags_in (take n l)
 
     by-text : (t : Text) → TextJudged type_text (λ q m. refl) l p t → Judged (message_fields l) l p (out_end (types_then base item l p t))
-    by-text (Lacks k) j = j (data_fields tags)
-    by-text (Found m u) j =
+    by-text (Err k) j = j (data_fields tags)
+    by-text (Ok text) j =
         let o = read_args base tags (drop used l) (p + used) in
         subst (λ (t : Text). Judged (message_fields l) l p (out_end (types_then base item l p t))) (sym j.0)
         (j.1 (data_fields tags) (out_end (after used (message_with item o)))
@@ -312,8 +312,8 @@ packet-judged base l p =
     rest = drop used l
 
     by-text : (t : Text) → TextJudged address (λ q m. refl) l p t → Starts (start_by l p t)
-    by-text (Lacks k) j = j (later_fields l rest)
-    by-text (Found m u) j = subst (λ (t : Text). Starts (start_by l p t)) (sym j.0) found
+    by-text (Err k) j = j (later_fields l rest)
+    by-text (Ok text) j = subst (λ (t : Text). Starts (start_by l p t)) (sym j.0) found
       where
         Goes : List Form → Start → Type 0
         Goes forms s = Judged (address ∷ padding ∷ forms) l p (out_end (started_by base es l p s))

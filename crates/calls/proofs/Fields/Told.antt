@@ -21,7 +21,7 @@ use Rattle.framing.specs.Framing.{Whole, trees, waiting, refusal, stopped, singl
 use Rattle.framing.specs.Framing as frames
 use Rattle.framing.specs.Framing.{tcp, before, after_frame, frames_at, refuses, tcp_vec}
 use Rattle.framing.proofs.FrameKnot.{FrameIn, frame-in}
-use Rattle.results.specs.declared.Decoded.TheVariants.{Refused}
+use Rattle.std.specs.Prelude.{Err}
 use Rattle.calls.specs.Demands.{answer_to}
 use Rattle.calls.specs.Fields.{prefix, packet_fields, frame_fields, cut_here, PacketShort, FrameShort, Reaches, first_frame, next_frame}
 use Rattle.calls.specs.Fields.{ListShort, FieldsShort, ListFieldsShort}
@@ -68,7 +68,7 @@ first-has P n (frames.refused r) s = λ k e. absurd (s k e)
 
 -- the fault that a call tells of is the one that its input is read as
 pub told-has : {k : Fault} (P : Judgement → Type 0) (rule : List ℕ → Whole) (limit : ℕ) (msg table : List ℕ) → WholeHas P (rule msg)
-    → answer_to rule limit msg table ≡ Refused (Unreadable k) → P (bad k)
+    → answer_to rule limit msg table ≡ Err (Unreadable k) → P (bad k)
 told-has {k} P rule limit msg table h e = subst (WholeHas P) (read-refused rule (capacity table) limit msg e) h k refl
 
 -- the field that `decode_udp` tells is the one that is short

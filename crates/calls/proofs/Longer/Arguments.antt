@@ -18,16 +18,15 @@ use Rattle.node.specs.declared.tags.Class.TheVariants.{Four, Eight, Bare, Text a
 use Rattle.node.specs.declared.tags.Sort.{Sort}
 use Rattle.node.specs.declared.tags.Sort.TheVariants.{Opens, Closes, Leaf}
 use Rattle.text.specs.Text.{until_nul, reach, read_text, fault_in}
-use Rattle.text.specs.declared.Text.{Text}
-use Rattle.text.specs.declared.Text.TheVariants.{Found, Lacks}
+use Rattle.argument.specs.Results.{Arg, Given}
+use Rattle.std.specs.Prelude.{Err, Ok}
+use Rattle.text.specs.Results.{Found, Text}
 use Rattle.text.specs.declared.Lack.TheVariants.{Utf8}
 use Rattle.argument.specs.Argument.{arg_item, having, text_arg, read_arg}
 use Rattle.arguments.specs.Arguments.{Args, refused, args, later, arg_taken, array_item, Open, waits, act, read_tags, read_args}
 use Rattle.refusal.specs.declared.Fault.TheVariants.{Short}
 use Rattle.refusal.specs.declared.Field.{Field}
 use Rattle.refusal.specs.declared.Field.TheVariants.{Data, Padding}
-use Rattle.argument.specs.declared.Arg.{Arg}
-use Rattle.argument.specs.declared.Arg.TheVariants.{Given, Refused}
 use Rattle.calls.specs.Words.{Mendable}
 use Rattle.wire.proofs.Choices.{by-test, by_le}
 use Rattle.text.proofs.Nuls.{nul-longer}
@@ -35,13 +34,13 @@ use Rattle.argument.proofs.Within.{given-within}
 
 -- a text that was found stays, and so does a fault that no bytes mend
 abbrev pub KeptText : Text → Text → Type 0
-KeptText (Found n used) t = t ≡ Found n used
-KeptText (Lacks lack) t = (field : Field) (p : ℕ) → (Mendable (fault_in field p lack) → ⊥) → t ≡ Lacks lack
+KeptText (Ok text) t = t ≡ Found text.length text.used
+KeptText (Err lack) t = (field : Field) (p : ℕ) → (Mendable (fault_in field p lack) → ⊥) → t ≡ Err lack
 
 -- so does an argument
 abbrev KeptArg : Arg → Arg → Type 0
-KeptArg (Given item used) x = x ≡ Given item used
-KeptArg (Refused k) x = (Mendable k → ⊥) → x ≡ Refused k
+KeptArg (Ok given) x = x ≡ Given given.item given.used
+KeptArg (Err k) x = (Mendable k → ⊥) → x ≡ Err k
 
 -- so do arguments
 abbrev pub KeptArgs : Args → Args → Type 0
@@ -57,8 +56,8 @@ module _ (more : List ℕ) where
   number-longer n l h = rw (take-append-le n l more h)
 
   same_text : (t : Text) → KeptText t t
-  same_text (Found n used) = refl
-  same_text (Lacks lack) = λ field p s. refl
+  same_text (Ok text) = refl
+  same_text (Err lack) = λ field p s. refl
 
   -- a text is found again, or lacks UTF-8 again
   pub text-longer : (l : List ℕ) (p : ℕ) → KeptText (read_text l p) (read_text (l ++ more) p)
@@ -71,7 +70,7 @@ module _ (more : List ℕ) where
       let nul = lt-ltb n (length (l ++ more)) (omega (arith, length-append l more)) in
       let padding = le-leb (reach p (n + 1)) (length (l ++ more)) (omega (arith, length-append l more)) in
       rw (read_text, nul-longer l more j, nul, padding, take-append-le n l more (omega arith))
-      (same_text (cond (utf8 (take n l)) (Found n (reach p (n + 1))) (Lacks Utf8))))
+      (same_text (cond (utf8 (take n l)) (Found n (reach p (n + 1))) (Err Utf8))))
       (λ k field q s. absurd (s tt)))
       (λ h field q s. absurd (s tt))
 
@@ -84,12 +83,12 @@ module _ (more : List ℕ) where
       (λ g. rw (le-leb n (length (l ++ more)) (omega (arith, length-append l more))) (h g)) (λ g s. absurd (s tt))
 
   text-arg-longer : (tag offset p : ℕ) (t t' : Text) → KeptText t t' → KeptArg (text_arg tag offset p t) (text_arg tag offset p t')
-  text-arg-longer tag offset p (Found n used) t' e = rw e
-  text-arg-longer tag offset p (Lacks lack) t' e = λ s. rw (e Data p s)
+  text-arg-longer tag offset p (Ok text) t' e = rw e
+  text-arg-longer tag offset p (Err lack) t' e = λ s. rw (e Data p s)
 
   same-arg : (x : Arg) → KeptArg x x
-  same-arg (Given item used) = refl
-  same-arg (Refused k) = λ s. refl
+  same-arg (Ok given) = refl
+  same-arg (Err k) = λ s. refl
 
   arg-longer : (tag : ℕ) (class : Class) (base : ℕ) (l : List ℕ) (p : ℕ)
       → KeptArg (read_arg tag class base l p) (read_arg tag class base (l ++ more) p)
@@ -110,7 +109,7 @@ module _ (more : List ℕ) where
   arg-longer tag Scalar base l p =
       let n = number 4 l in
       having-longer 4 l Data p _ _
-      (λ h. rw (number-longer 4 l h) (same-arg (cond (is_scalar n) (Given (arg_item tag (base + p) n 0) 4) (Refused NotScalar))))
+      (λ h. rw (number-longer 4 l h) (same-arg (cond (is_scalar n) (Given (arg_item tag (base + p) n 0) 4) (Err NotScalar))))
   arg-longer tag Unknown base l p = λ s. refl
 
   -- ---- arguments
@@ -131,12 +130,13 @@ module _ (more : List ℕ) where
     where
       by-arg : (x y : Arg) → x ≡ read_arg tag class base l p → KeptArg x y
           → KeptArgs (arg_taken (λ m q f. go m q f below) l p frame x) (arg_taken (λ m q f. go m q f below) (l ++ more) p frame y)
-      by-arg (Refused k) y e s = λ m. rw (s m)
-      by-arg (Given item used) y e s =
-          let f = snoc frame item nil in
-          rw (s, drop-append-le used l more (given-within tag class base l p e))
-          (later-longer used (go (drop used l) (p + used) f below) (go (drop used l ++ more) (p + used) f below)
-          (h (drop used l) (p + used) f below))
+      by-arg (Err k) y e s = λ m. rw (s m)
+      by-arg (Ok given) y e s =
+          let f = snoc frame given.item nil in
+          rw (s, drop-append-le given.used l more (given-within tag class base l p e))
+          (later-longer given.used (go (drop given.used l) (p + given.used) f below)
+          (go (drop given.used l ++ more) (p + given.used) f below)
+          (h (drop given.used l) (p + given.used) f below))
 
   read-longer : (base : ℕ) (tags l : List ℕ) (p : ℕ) (frame : Forest) (below : List Open)
       → KeptArgs (read_tags base tags l p frame below) (read_tags base tags (l ++ more) p frame below)

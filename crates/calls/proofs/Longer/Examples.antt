@@ -22,8 +22,8 @@ use Rattle.framing.specs.Framing.{udp, read_frame, cut_frame, tcp, tcp2, frames_
 use Rattle.edition.specs.declared.Edition.TheVariants.{Standard}
 use Rattle.edition.specs.declared.Framing.TheVariants.{Tcp, TcpVec}
 use Rattle.answering.specs.Limits.{decoded, forest_of}
-use Rattle.results.specs.declared.Decoded.{Decoded}
-use Rattle.results.specs.declared.Decoded.TheVariants.{Packets, Refused}
+use Rattle.results.specs.Results.{DecodeAnswer, Packets}
+use Rattle.std.specs.Prelude.{Err}
 use Rattle.calls.specs.Words.{Gives, Unlimited}
 use Rattle.calls.specs.Demands.{answer_to, GoesOn, Stay, FaultsStay}
 use Rattle.decoder.proofs.Answers.{no-packets}
@@ -35,7 +35,7 @@ use Rattle.calls.proofs.Soiled.{dirt_low, clean_only}
 use Rattle.calls.proofs.Longer.Faults.{faults_stay_udp, faults_stay_tcp}
 use Rattle.calls.proofs.Room.Examples.{blank, nested-answer}
 
-unlimited : {r : Decoded} {count left dirty : ℕ} → r ≡ Packets count left dirty → Unlimited r
+unlimited : {r : DecodeAnswer} {count left dirty : ℕ} → r ≡ Packets count left dirty → Unlimited r
 unlimited e =
     record {
       not_1 = λ p. let z : ◌≡◌ {A = ℕ} 0 1 = cc in omega arith;
@@ -99,12 +99,12 @@ taken = more_bytes_tcp (prefix ++ empty) element 1 2 (blank 1) (blank 2) 1 0 0 (
 abbrev unknown : List ℕ
 unknown = 0x2F ∷ 0x61 ∷ 0 ∷ 0 ∷ 0x2C ∷ 0x78 ∷ 0 ∷ 0 ∷ []
 
-unknown-refused : answer_to udp 64 unknown (blank 1) ≡ Refused (Unreadable UnknownTag)
+unknown-refused : answer_to udp 64 unknown (blank 1) ≡ Err (Unreadable UnknownTag)
 unfolding number size depth snoc class_of sort_of read_text read_arg read_tags start_of size_of read_message bundle_by element_by elements_by packet_by
     packet_at read_packet udp decoded kept_padding packets_padding
 unknown-refused = refl
 
-still-unknown : answer_to udp 0 (unknown ++ element) (blank 2) ≡ Refused (Unreadable UnknownTag)
+still-unknown : answer_to udp 0 (unknown ++ element) (blank 2) ≡ Err (Unreadable UnknownTag)
 still-unknown =
     faults_stay_udp unknown element 64 0 (blank 1) (blank 2) UnknownTag (λ m. m) (omega arith) (omega arith) unknown-refused
 
@@ -112,16 +112,16 @@ still-unknown =
 abbrev framed : List ℕ
 framed = 0 ∷ 0 ∷ 0 ∷ 8 ∷ unknown
 
-framed-refused : answer_to tcp 64 framed (blank 1) ≡ Refused (Unreadable UnknownTag)
+framed-refused : answer_to tcp 64 framed (blank 1) ≡ Err (Unreadable UnknownTag)
 unfolding number size depth snoc class_of sort_of read_text read_arg read_tags start_of size_of prefix_of read_message bundle_by element_by
     elements_by packet_by packet_at read_packet read_frame tcp decoded kept_padding packets_padding
 framed-refused = refl
 
-still-framed : answer_to tcp 0 (framed ++ element) (blank 2) ≡ Refused (Unreadable UnknownTag)
+still-framed : answer_to tcp 0 (framed ++ element) (blank 2) ≡ Err (Unreadable UnknownTag)
 still-framed = faults_stay_tcp framed element 64 0 (blank 1) (blank 2) UnknownTag (λ m. m) (omega arith) (omega arith) framed-refused
 
 -- P1, and P3 after it
-none-mended : (answer_to udp 0 [] (blank 2) ≡ Refused (Unreadable Empty)) × (answer_to udp 0 ([] ++ p3.packet) (blank 2) ≡ Packets 2 0 0)
+none-mended : (answer_to udp 0 [] (blank 2) ≡ Err (Unreadable Empty)) × (answer_to udp 0 ([] ++ p3.packet) (blank 2) ≡ Packets 2 0 0)
 unfolding number size depth snoc class_of sort_of read_text read_arg read_tags start_of size_of read_message bundle_by element_by elements_by packet_by
     packet_at read_packet udp decoded kept_padding packets_padding
 none-mended = (refl, refl)
@@ -130,7 +130,7 @@ none-mended = (refl, refl)
 abbrev short : List ℕ
 short = 0x2F ∷ 0 ∷ 0 ∷ 0 ∷ []
 
-short-mended : (answer_to udp 0 short (blank 1) ≡ Refused (Unreadable (Short TypeText 4)))
+short-mended : (answer_to udp 0 short (blank 1) ≡ Err (Unreadable (Short TypeText 4)))
     × (answer_to udp 0 (short ++ (0 ∷ 0 ∷ 0 ∷ 0 ∷ [])) (blank 1) ≡ Packets 1 0 0)
 unfolding number size depth snoc class_of sort_of read_text read_arg read_tags start_of size_of read_message bundle_by element_by elements_by packet_by
     packet_at read_packet udp decoded kept_padding packets_padding
@@ -142,7 +142,7 @@ short-mended = (refl, refl)
 abbrev third-refused : List ℕ
 third-refused = (prefix ++ empty) ++ (0 ∷ 0 ∷ 0 ∷ 17 ∷ 0x2F ∷ 0 ∷ 0 ∷ 0 ∷ 0 ∷ 0 ∷ 0 ∷ 0 ∷ 0 ∷ 0 ∷ 0 ∷ 0 ∷ 0 ∷ 0 ∷ 0 ∷ 0 ∷ [])
 
-third-as-list : answer_to tcp_vec 64 third-refused (blank 2) ≡ Refused (Unreadable BadStart)
+third-as-list : answer_to tcp_vec 64 third-refused (blank 2) ≡ Err (Unreadable BadStart)
 unfolding prefix number size depth snoc class_of sort_of read_text read_arg read_tags start_of size_of prefix_of read_message bundle_by element_by
     elements_by packet_by packet_at read_packet read_frame frames_at tcp_vec decoded kept_padding packets_padding
 third-as-list = refl
@@ -160,7 +160,7 @@ second-refused =
     ∷ 0 ∷ 0 ∷ 0 ∷ 9 ∷ 0x2F ∷ 0 ∷ 0 ∷ 0 ∷ 0x2C ∷ 0x78 ∷ 0 ∷ 0 ∷ [])
 
 -- as an element it stands at another place, so that its address ends a byte earlier, and its type text is empty, with `,x` as padding
-second-mended : (answer_to tcp_vec 64 second-refused (blank 3) ≡ Refused (Unreadable UnknownTag))
+second-mended : (answer_to tcp_vec 64 second-refused (blank 3) ≡ Err (Unreadable UnknownTag))
     × (answer_to tcp_vec 64 (second-refused ++ (0 ∷ [])) (blank 3) ≡ Packets 3 0 2)
 unfolding prefix number size depth snoc class_of sort_of read_text read_arg read_tags start_of size_of prefix_of read_message bundle_by element_by
     elements_by packet_by packet_at read_packet read_frame frames_at tcp_vec decoded kept_padding packets_padding

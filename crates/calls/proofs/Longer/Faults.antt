@@ -10,7 +10,8 @@ use Rattle.refusal.specs.declared.Refusal.TheVariants.{Unreadable}
 use Rattle.wire.specs.Limits.{longest, deepest}
 use Rattle.framing.specs.Framing.{Whole, trees, waiting, refusal, stopped, udp, tcp}
 use Rattle.answering.specs.Limits.{limited, decoded}
-use Rattle.results.specs.declared.Decoded.TheVariants.{Refused, Stopped}
+use Rattle.results.specs.Results.{Stopped}
+use Rattle.std.specs.Prelude.{Err}
 use Rattle.argument.specs.Dirt.{dirty_in}
 use Rattle.node.specs.Forest.{size}
 use Rattle.calls.specs.Words.{Mendable}
@@ -20,25 +21,25 @@ use Rattle.decoder.proofs.Answers.{no-packets}
 use Rattle.calls.proofs.Longer.Wholes.{Longer, no-tree, udp-longer, tcp-longer}
 
 module _ {k : Fault} where
-  limited-refused : (capacity limit : ℕ) (msg : List ℕ) (w : Whole) → limited capacity limit msg w ≡ Refused (Unreadable k)
+  limited-refused : (capacity limit : ℕ) (msg : List ℕ) (w : Whole) → limited capacity limit msg w ≡ Err (Unreadable k)
       → w ≡ refusal (Unreadable k)
   limited-refused capacity limit msg (refusal j) e = let same : j ≡ Unreadable k = cc in rw same
   limited-refused capacity limit msg waiting e = let z : ◌≡◌ {A = ℕ} 0 1 = cc in absurd (omega arith)
   limited-refused capacity limit msg (trees f left) e =
-      by-trees (λ r. r ≡ Refused (Unreadable k) → trees f left ≡ refusal (Unreadable k)) capacity limit msg f left
+      by-trees (λ r. r ≡ Err (Unreadable k) → trees f left ≡ refusal (Unreadable k)) capacity limit msg f left
       (λ h p. let z : ◌≡◌ {A = ℕ} 0 1 = cc in absurd (omega arith))
       (λ h p. let z : ◌≡◌ {A = ℕ} 0 1 = cc in absurd (omega arith))
       (λ h c p. no-packets p) e
   limited-refused capacity limit msg (stopped f left j at) e =
-      by-bounded (λ r. r ≡ Refused (Unreadable k) → stopped f left j at ≡ refusal (Unreadable k)) capacity limit f
+      by-bounded (λ r. r ≡ Err (Unreadable k) → stopped f left j at ≡ refusal (Unreadable k)) capacity limit f
       (Stopped (size f) left (dirty_in msg f) j at) (λ h p. let z : ◌≡◌ {A = ℕ} 0 1 = cc in absurd (omega arith))
       (λ h p. let z : ◌≡◌ {A = ℕ} 0 1 = cc in absurd (omega arith)) (λ h c p. let z : ◌≡◌ {A = ℕ} 0 1 = cc in absurd (omega arith)) e
 
   -- a refusal of 2 to 8 is given for what the input is read as
-  pub read-refused : (rule : List ℕ → Whole) (capacity limit : ℕ) (msg : List ℕ) → decoded rule capacity limit msg ≡ Refused (Unreadable k)
+  pub read-refused : (rule : List ℕ → Whole) (capacity limit : ℕ) (msg : List ℕ) → decoded rule capacity limit msg ≡ Err (Unreadable k)
       → rule msg ≡ refusal (Unreadable k)
   read-refused rule capacity limit msg =
-      by-decoded (λ r. r ≡ Refused (Unreadable k) → rule msg ≡ refusal (Unreadable k)) rule capacity limit msg
+      by-decoded (λ r. r ≡ Err (Unreadable k) → rule msg ≡ refusal (Unreadable k)) rule capacity limit msg
       (λ h p. let z : ◌≡◌ {A = ℕ} 0 1 = cc in absurd (omega arith))
       (λ h p. let z : ◌≡◌ {A = ℕ} 0 1 = cc in absurd (omega arith))
       (λ h n. limited-refused capacity limit msg (rule msg))

@@ -12,8 +12,8 @@ use Rattle.argument.specs.CodeParts.{StandsAt}
 use Rattle.argument.specs.Dirt.{packets_padding, dirty_in}
 use Rattle.argument.proofs.Stands.{stands-rest, stands-drop, stands-take}
 use Rattle.heads.specs.Heads.{length_of}
-use Rattle.heads.specs.declared.Length.{Length}
-use Rattle.heads.specs.declared.Length.TheVariants as cut
+use Rattle.heads.specs.Results.{Length}
+use Rattle.heads.specs.Results as cut
 use Rattle.heads.proofs.Heads.{length-in}
 use Rattle.packet.specs.Packet.{Out, fault, one, after, read_packet}
 use Rattle.packet.proofs.Dirt.{packet-same}

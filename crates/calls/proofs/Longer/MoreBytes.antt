@@ -8,7 +8,7 @@ use Rattle.node.specs.Records.{records_of}
 use Rattle.argument.specs.Dirt.{dirty_in}
 use Rattle.framing.specs.Framing.{Whole, trees, udp, tcp}
 use Rattle.answering.specs.Limits.{decoded, forest_of}
-use Rattle.results.specs.declared.Decoded.TheVariants.{Packets}
+use Rattle.results.specs.Results.{Packets}
 use Rattle.calls.specs.Words.{Continues, Unlimited}
 use Rattle.calls.specs.Demands.{answer_to, GoesOn, MoreBytes}
 use Rattle.decoder.proofs.Chosen.{by-decoded, by-trees}

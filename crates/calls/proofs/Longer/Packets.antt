@@ -14,8 +14,11 @@ use Rattle.node.specs.Tags.{message_kind, bundle_kind}
 use Rattle.node.specs.Forest.{Forest, nil, node}
 use Rattle.node.specs.declared.record.Item.{Item}
 use Rattle.text.specs.Text.{read_text}
-use Rattle.text.specs.declared.Text.{Text}
-use Rattle.text.specs.declared.Text.TheVariants.{Found, Lacks}
+use Rattle.heads.specs.Results.{ElementSize}
+use Rattle.packet.specs.Results.{Start}
+use Rattle.std.specs.Prelude.{Err, None, Some, Ok}
+use Rattle.text.specs.Results.{Found, Text}
+use Rattle.packet.specs.Results as start
 use Rattle.arguments.specs.Arguments.{Args, refused, args, read_args}
 use Rattle.heads.specs.Heads.{tags_in, size_of}
 use Rattle.packet.specs.FirstText.{start_by, start_of}
@@ -23,10 +26,6 @@ use Rattle.packet.specs.Packet.{Out, fault, one, Elements, upto, after, message_
 use Rattle.heads.specs.Heads.{message_item, bundle_item}
 use Rattle.packet.specs.Packet.{bundle_with, bundle_by, filling}
 use Rattle.packet.specs.Packet.{held_by, element_by, started_by, packet_by, read_packet, read_elements, read_bundle, read_element, trees_in}
-use Rattle.packet.specs.declared.Start.{Start}
-use Rattle.packet.specs.declared.Start.TheVariants as start
-use Rattle.heads.specs.declared.ElementSize.{ElementSize}
-use Rattle.heads.specs.declared.ElementSize.TheVariants as size
 use Rattle.calls.specs.Words.{BeginsSame, none, also, Mendable}
 use Rattle.wire.proofs.Choices.{by-eq, by_le}
 use Rattle.text.proofs.Within.{found_in}
@@ -64,17 +63,17 @@ same_out (one item f used) = refl
 abbrev KeptStart : Start → Start → Type 0
 KeptStart (start.Message n used) s = s ≡ start.Message n used
 KeptStart (start.Bundle used) s = s ≡ start.Bundle used
-KeptStart (start.Refused k) s = (Mendable k → ⊥) → s ≡ start.Refused k
+KeptStart (Err k) s = (Mendable k → ⊥) → s ≡ Err k
 
 same_start : (s : Start) → KeptStart s s
 same_start (start.Message n used) = refl
 same_start (start.Bundle used) = refl
-same_start (start.Refused k) = λ s. refl
+same_start (Err k) = λ s. refl
 
 -- the size of an element that is all there stays
 abbrev KeptSize : ElementSize → ElementSize → Type 0
-KeptSize (size.Holds n) s = s ≡ size.Holds n
-KeptSize size.RunsOut s = Unit {0}
+KeptSize (Some n) s = s ≡ Some n
+KeptSize None s = Unit {0}
 
 module _ (base : ℕ) (more : List ℕ) where
   -- ---- messages
@@ -86,13 +85,13 @@ module _ (base : ℕ) (more : List ℕ) where
 
   types-grow : (item : Item) → item.kind ≡ message_kind → (l : List ℕ) (p : ℕ) (t t' : Text) → t ≡ read_text l p → KeptText t t'
       → Grows (types_then base item l p t) (types_then base item (l ++ more) p t')
-  types-grow item k l p (Lacks lack) t' e s = was-refused (λ m. ap (types_then base item (l ++ more) p) (s TypeText p m))
-  types-grow item k l p (Found m used) t' e s =
+  types-grow item k l p (Err lack) t' e s = was-refused (λ m. ap (types_then base item (l ++ more) p) (s TypeText p m))
+  types-grow item k l p (Ok text) t' e s =
       let w = found_in l p e in
-      let tags = tags_in (take m l) in
-      rw (s, take-append-le m l more (omega arith), drop-append-le used l more w.1)
-      (after-grows used (message-with-grows item k (read_args base tags (drop used l) (p + used)) _
-      (args-longer more base tags (drop used l) (p + used))))
+      let tags = tags_in (take text.length l) in
+      rw (s, take-append-le text.length l more (omega arith), drop-append-le text.used l more w.1)
+      (after-grows text.used (message-with-grows item k (read_args base tags (drop text.used l) (p + text.used)) _
+      (args-longer more base tags (drop text.used l) (p + text.used))))
 
   message-grows : (item : Item) → item.kind ≡ message_kind → (l : List ℕ) (p : ℕ)
       → Grows (read_message base item l p) (read_message base item (l ++ more) p)
@@ -118,13 +117,13 @@ module _ (base : ℕ) (more : List ℕ) where
     where
       by_size : (s s' : ElementSize) → s ≡ size_of l → KeptSize s s'
           → Kept (held_by (λ m q. read_packet base m q) l p s) (held_by (λ m q. read_packet base m q) (l ++ more) p s')
-      by_size (size.Holds n) s' e k =
+      by_size (Some n) s' e k =
           let h = size_in l e in
           let h4 : 4 ≤ length l = omega arith in
           let h' : n ≤ length (drop 4 l) = omega (arith, length-drop 4 l) in
           rw (k, drop-append-le 4 l more h4, take-append-le n (drop 4 l) more h')
           (same_out (filling n (read_packet base (take n (drop 4 l)) (p + 4))))
-      by_size size.RunsOut s' e k = tt
+      by_size None s' e k = tt
 
   elements-begin : (f : Forest) (l : List ℕ) (p : ℕ) → trees_in (read_elements base l p) ≡ f
       → BeginsSame f (trees_in (read_elements base (l ++ more) p))
@@ -175,10 +174,11 @@ module _ (base : ℕ) (more : List ℕ) where
       (by-text (read_text l p) (read_text (l ++ more) p) refl (text-longer more l p)))
     where
       by-text : (t t' : Text) → t ≡ read_text l p → KeptText t t' → KeptStart (start_by l p t) (start_by (l ++ more) p t')
-      by-text (Lacks lack) t' e s = λ m. rw (s Address p m)
-      by-text (Found n used) t' e s =
+      by-text (Err lack) t' e s = λ m. rw (s Address p m)
+      by-text (Ok text) t' e s =
           let w = found_in l p e in
-          rw (s, get_or-append l more 0 0 (omega arith), take-append-le n l more (omega arith)) (same_start (start_by l p (Found n used)))
+          rw (s, get_or-append l more 0 0 (omega arith), take-append-le text.length l more (omega arith))
+          (same_start (start_by l p (Found text.length text.used)))
 
   -- a packet goes on: a message is the same, a bundle begins with the same elements, and a fault that no bytes mend is the same
   pub packet-grows : (l : List ℕ) (p : ℕ) → Grows (read_packet base l p) (read_packet base (l ++ more) p)
@@ -195,5 +195,5 @@ module _ (base : ℕ) (more : List ℕ) where
       by-start (start.Bundle used) s' e k =
           rw (k, drop-append-le used l more (bundle-start-in l p e).1)
           (after-grows used (bundle-grows (base + p) (drop used l) (p + used)))
-      by-start (start.Refused f) s' e k =
+      by-start (Err f) s' e k =
           was-refused (λ n. ap (started_by base (λ m q. read_elements base m q) (l ++ more) p) (k n))

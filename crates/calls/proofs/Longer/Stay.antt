@@ -16,8 +16,9 @@ use Rattle.node.specs.Forest.{Forest, nil, node, size, depth}
 use Rattle.node.specs.Records.{record_size, records_of, capacity}
 use Rattle.node.proofs.Recorded.{length-records}
 use Rattle.heads.specs.Heads.{length_of}
-use Rattle.heads.specs.declared.Length.{Length}
-use Rattle.heads.specs.declared.Length.TheVariants as cut
+use Rattle.heads.specs.Results.{Length}
+use Rattle.results.specs.Results.{Packets, Stopped}
+use Rattle.heads.specs.Results as cut
 use Rattle.packet.specs.Packet.{Out, fault, one, after, read_packet}
 use Rattle.framing.specs.Framing.{Whole, trees, waiting, refusal, stopped, Frame, wait, read, refused, wholly, cut_with, cut_frame, first}
 use Rattle.framing.specs.Framing.{tcp2}
@@ -27,7 +28,6 @@ use Rattle.edition.specs.declared.Framing.TheVariants.{Tcp, TcpVec}
 use Rattle.framing.proofs.FrameKnot.{FrameIn, cut_in}
 use Rattle.framing.proofs.Lists as lists
 use Rattle.answering.specs.Limits.{limited, decoded, forest_of}
-use Rattle.results.specs.declared.Decoded.TheVariants.{Packets, Stopped}
 use Rattle.decoder.proofs.Chosen.{by-decoded, by-bounded}
 use Rattle.decoder.specs.CodeFrames.{Accepted}
 use Rattle.decoder.proofs.Cuts.{rest_of, rest-by, rest-forest}

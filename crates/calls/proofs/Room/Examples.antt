@@ -21,8 +21,8 @@ use Rattle.edition.specs.declared.Edition.TheVariants.{Rosc}
 use Rattle.framing.specs.Framing.{udp, read_frame, frames_at, tcp_vec}
 use Rattle.edition.specs.declared.Framing.TheVariants.{Udp, TcpVec}
 use Rattle.answering.specs.Limits.{decoded}
-use Rattle.results.specs.declared.Decoded.{Decoded}
-use Rattle.results.specs.declared.Decoded.TheVariants.{Packets, Refused}
+use Rattle.results.specs.Results.{DecodeAnswer, Packets}
+use Rattle.std.specs.Prelude.{Err}
 use Rattle.calls.specs.Words.{NotFull}
 use Rattle.calls.specs.Demands.{answer_to, Unchanged}
 use Rattle.table.proofs.Examples.{nested, two}
@@ -45,7 +45,7 @@ unfolding number size depth snoc class_of sort_of read_text read_arg read_tags s
     elements_by packet_by packet_at read_packet read_frame frames_at tcp_vec decoded kept_padding packets_padding
 two-answer = refl
 
-not_full : {r : Decoded} {count left dirty : ℕ} → r ≡ Packets count left dirty → NotFull r
+not_full : {r : DecodeAnswer} {count left dirty : ℕ} → r ≡ Packets count left dirty → NotFull r
 not_full e =
     record {
       not_9 = λ p. let z : ◌≡◌ {A = ℕ} 0 1 = cc in omega arith;
@@ -61,12 +61,12 @@ list-higher : Unchanged (TcpVec Rosc) two 2 64 (blank 12) (blank 13)
 list-higher = more_room (TcpVec Rosc) two 2 64 (blank 12) (blank 13) (omega arith) (λ _. omega arith) (omega arith) (not_full two-answer)
 
 -- a limit of 65 is refused with 13, in a table that has too few records
-over : answer_to udp 65 nested (blank 1) ≡ Refused DepthLimit
+over : answer_to udp 65 nested (blank 1) ≡ Err DepthLimit
 unfolding decoded kept_padding packets_padding
 over = refl
 
 -- 13 is neither 9 nor 10
-limit-not-full : {r : Decoded} → r ≡ Refused DepthLimit → NotFull r
+limit-not-full : {r : DecodeAnswer} → r ≡ Err DepthLimit → NotFull r
 limit-not-full e =
     record {
       not_9 = λ p. let z : ◌≡◌ {A = ℕ} 0 1 = cc in omega arith;
@@ -84,14 +84,14 @@ over-by-more =
     more_room Udp nested 65 70 (blank 1) (blank 9) (omega arith) (λ g. omega arith) (omega arith) (limit-not-full over)
 
 -- six records are not enough, so the bound says something
-full : decoded udp 6 64 nested ≡ Refused TableFull
+full : decoded udp 6 64 nested ≡ Err TableFull
 unfolding number size depth snoc class_of sort_of read_text read_arg read_tags start_of size_of read_message bundle_by element_by elements_by packet_by
     packet_at read_packet udp decoded kept_padding packets_padding
 full = refl
 
 -- 76 bytes, 76 records; 120 bytes of a list, 120
-enough : decoded udp 76 64 nested ≡ Refused TableFull → ⊥
+enough : decoded udp 76 64 nested ≡ Err TableFull → ⊥
 enough = records_hold Udp nested 64 76 (omega arith)
 
-list-enough : decoded tcp_vec 120 64 two ≡ Refused TableFull → ⊥
+list-enough : decoded tcp_vec 120 64 two ≡ Err TableFull → ⊥
 list-enough = records_hold (TcpVec Rosc) two 64 120 (omega arith)

@@ -16,8 +16,9 @@ use Rattle.node.specs.Forest.{Forest, nil, node, size, depth}
 use Rattle.node.specs.declared.record.Item.{Item}
 use Rattle.node.specs.Records.{records_of}
 use Rattle.heads.specs.Heads.{length_of}
-use Rattle.heads.specs.declared.Length.{Length}
-use Rattle.heads.specs.declared.Length.TheVariants as cut
+use Rattle.heads.specs.Results.{Length}
+use Rattle.results.specs.Results.{DecodeAnswer, Stopped}
+use Rattle.heads.specs.Results as cut
 use Rattle.packet.specs.Packet.{Out, fault, one, after, read_packet}
 use Rattle.framing.specs.Framing.{Whole, trees, waiting, refusal, stopped, Frame, wait, read, refused, wholly, cut_with, cut_frame, first}
 use Rattle.framing.specs.Framing.{tcp2}
@@ -25,11 +26,9 @@ use Rattle.framing.specs.Framing.{before, after_frame, frames_at, stops, tcp_vec
 use Rattle.edition.specs.declared.Framing.{Framing}
 use Rattle.edition.specs.declared.Framing.TheVariants.{Udp, Tcp, TcpVec}
 use Rattle.answering.specs.Limits.{limited, decoded, forest_of}
-use Rattle.results.specs.declared.Decoded.{Decoded}
-use Rattle.results.specs.declared.Decoded.TheVariants.{Stopped}
 use Rattle.calls.specs.Words.{Gives, NotFull}
 use Rattle.calls.specs.Demands.{MoreRoom}
-use Rattle.wire.proofs.Choices.{lt-or-le, by-eq, by_le, by-test}
+use Rattle.wire.proofs.Choices.{lt-or-le, by_le}
 use Rattle.decoder.proofs.Chosen.{by-decoded, by-trees, by-bounded}
 use Rattle.calls.proofs.Answered.{given-records}
 
@@ -175,7 +174,7 @@ more_room framing msg limit limit' table table' d h c n =
     record {
       answers = same;
       records = λ count dirty e. given-records count dirty (rule_of framing limit') limit' msg table'
-          (subst (λ (r : Decoded). Gives r count dirty) (sym same) e)
+          (subst (λ (r : DecodeAnswer). Gives r count dirty) (sym same) e)
           ∙ ap (λ (w : Whole). records_of 0 (forest_of w)) (same-trees {limit = limit} {limit' = limit'} c d count dirty framing msg n e)
           ∙ sym (given-records count dirty (rule_of framing limit) limit msg table e);
     }

@@ -8,8 +8,8 @@ use Rattle.refusal.specs.declared.Refusal.TheVariants.{TableFull}
 use Rattle.framing.specs.Framing.{Whole, trees, waiting, refusal, stopped, rule_of}
 use Rattle.edition.specs.declared.Framing.{Framing}
 use Rattle.answering.specs.Limits.{limited}
-use Rattle.results.specs.declared.Decoded.{Decoded}
-use Rattle.results.specs.declared.Decoded.TheVariants.{Refused, Stopped}
+use Rattle.results.specs.Results.{DecodeAnswer, Stopped}
+use Rattle.std.specs.Prelude.{Err}
 use Rattle.argument.specs.Dirt.{dirty_in}
 use Rattle.node.specs.Forest.{size}
 use Rattle.calls.specs.Demands.{RecordsHold}
@@ -17,8 +17,8 @@ use Rattle.decoder.proofs.Chosen.{by-decoded, by-trees, by-bounded}
 use Rattle.decoder.proofs.Sizes.{WholeIn, whole_in}
 
 -- another answer than 10
-abbrev NotTen : Decoded → Type 0
-NotTen r = r ≡ Refused TableFull → ⊥
+abbrev NotTen : DecodeAnswer → Type 0
+NotTen r = r ≡ Err TableFull → ⊥
 
 not-ten : (room limit n : ℕ) (msg : List ℕ) (w : Whole) → n ≤ room → WholeIn n w → NotTen (limited room limit msg w)
 not-ten room limit n msg (trees f left) h w =

@@ -1,5 +1,5 @@
 -- Each return is a case of `unix_for`; the sum of what the field stands for and the carry is below 2^34.
-use Rattle.std.proofs.Common.{◌+◌, ◌/◌, ◌^◌, ◌<◌, sym, arith}
+use Rattle.std.proofs.Common.{sym, arith}
 use Rattle.clock.proofs.Times.{seconds-below, code-early, code_at}
 use Rattle.clock.proofs.unix_of.Goals as goal
 

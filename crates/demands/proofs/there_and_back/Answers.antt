@@ -5,14 +5,14 @@ use Rattle.demands.proofs.there_and_back.Goals as goal
 
 pub returns-then-n-out : goal.returns-then-n-out
 returns-then-n-out c =
-    comes_back _ _ _ _ c.encode.ensures _ _ _ c.in-Written.is (rw sub-zero at c.decode_udp.ensures)
+    comes_back _ _ _ _ c.encode.ensures _ _ _ c.in_ok-n.was (rw sub-zero at c.decode_udp.ensures)
 
-pub returns-else-n-out : goal.returns-else-n-out
-returns-else-n-out c =
+pub returns : goal.returns
+returns c =
     let a = c.args in
-    within-output _ _ _ _ c.encode.ensures a.back.now _ c.in-Written.is c.encode.auto.out c.if-n-out.false
+    within-output _ _ _ _ c.encode.ensures a.back.now _ c.in_ok-n.was c.encode.auto.out c.if-n-out.false
 
-pub returns-in-Refused : goal.returns-in-Refused
-returns-in-Refused c =
+pub returns-in_err-n : goal.returns-in_err-n
+returns-in_err-n c =
     let a = c.args in
-    not-refused _ _ _ _ c.encode.ensures a.back.now _ c.in-Refused.is
+    not-refused _ _ _ _ c.encode.ensures a.back.now _ c.in_err-n.was

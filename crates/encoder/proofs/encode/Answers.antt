@@ -1,12 +1,14 @@
 -- What is refused before a byte is written is refused; where the length is known, the packet is planned and written as it is.
+use Rattle.std.proofs.lemmas.Result.{err_from_is_err_and}
 use Rattle.encoder.specs.Outcome.{unframed}
 use Rattle.encoder.proofs.Answers.{unframed-keeps, refused, planned, encoded-unframed}
 use Rattle.encoder.proofs.encode.Goals as goal
 
-pub returns-in-Refused : goal.returns-in-Refused
-returns-in-Refused c =
+pub returns-in_err-n : goal.returns-in_err-n
+returns-in_err-n c =
     let a = c.args in
-    refused unframed unframed-keeps a.table.now a.count a.source.now a.out.now c.prepare.ensures c.in-Refused.is
+    let p = err_from_is_err_and c.from_residual.result c.from_residual.ensures.1 in
+    rw (p.1, p.2) (refused unframed unframed-keeps a.table.now a.count a.source.now a.out.now c.prepare.ensures c.in_err-n.was)
 
-pub returns-in-Length : goal.returns-in-Length
-returns-in-Length c = encoded-unframed c.args.out.now (planned _ _ _ c.prepare.ensures c.in-Length.is) c.encode_into.ensures
+pub returns : goal.returns
+returns c = encoded-unframed c.args.out.now (planned _ _ _ c.prepare.ensures c.in_ok-n.was) c.encode_into.ensures

@@ -13,8 +13,8 @@ decreases-decode_packet l = length l.input.now
 abbrev pub decreases-read_bundle_element : goal.decreases-read_bundle_element
 decreases-read_bundle_element l = length l.input.now
 
-abbrev pub invariant-decode_bundle-loop-n : goal.invariant-decode_bundle-loop-n
-invariant-decode_bundle-loop-n l = Filling l.base l.start l.input l.pos l.index l.initial.table l.table l.rest l.at l.count
+abbrev pub invariant-decode_bundle-loop-element : goal.invariant-decode_bundle-loop-element
+invariant-decode_bundle-loop-element l = Filling l.base l.start l.input l.pos l.index l.initial.table l.table l.rest l.at l.count
 
-abbrev pub decreases-decode_bundle-loop-n : goal.decreases-decode_bundle-loop-n
-decreases-decode_bundle-loop-n l = length l.rest
+abbrev pub decreases-decode_bundle-loop-element : goal.decreases-decode_bundle-loop-element
+decreases-decode_bundle-loop-element l = length l.rest

@@ -1,7 +1,7 @@
 -- While fewer records than the bundle has are written, the next element is accepted, and what is left is one element shorter.
 use mathlib.Core.Path.{refl}
 use native.Mathlib.Omega.{arith}
-use Rattle.fill.proofs.Contents.{known-long, filling-start, filling-fits, rest-is-shorter, next_fits, next-accepted}
+use Rattle.fill.proofs.Contents.{known-long, filling-start, next_fits, next-accepted}
 use Rattle.fill.proofs.Contents.{turn-fits, turn-falls, filling-on, filling-all}
 use Rattle.fill.proofs.write_bundle.Goals as goal
 

@@ -1,8 +1,7 @@
 -- A packet is its message or its bundle, after the first text; an accepted one is not refused.
 use mathlib.Core.Path.{refl}
 use native.Mathlib.Omega.{arith}
-use Rattle.packet.proofs.Knot.{starts-refused}
-use Rattle.fill.proofs.Fills.{accepted-not, accepted-start, fills-writes, fills-some, past_room, past-accepted, past-writes}
+use Rattle.fill.proofs.Fills.{accepted-start, fills-writes, fills-some, past_room, past-accepted, past-writes}
 use Rattle.fill.proofs.Fills.{past-fills, message-in, message-past, bundle-in, bundle-past}
 use Rattle.fill.proofs.write_held.Goals as goal
 
@@ -56,14 +55,11 @@ returns-in-Message c =
     past-writes (message-past (message-in c.in-Message.ensures c.requires.input_bound) c.message_item-item.ensures)
     c.write_held_message.ensures
 
-pub returns-in-Wrote : goal.returns-in-Wrote
-returns-in-Wrote c =
-    fills-writes (past-fills (bundle-past (bundle-in c.in-Bundle.ensures c.requires.input_bound)) c.in-Wrote.ensures) refl
+pub returns-in-Some : goal.returns-in-Some
+returns-in-Some c =
+    fills-writes (past-fills (bundle-past (bundle-in c.in-Bundle.ensures c.requires.input_bound)) c.in-Some.ensures) refl
 
-pub returns-in-Nothing : goal.returns-in-Nothing
-returns-in-Nothing c =
+pub returns-in-None : goal.returns-in-None
+returns-in-None c =
     absurd (fills-some c.requires.packet_accepted (past-fills (bundle-past
-    (bundle-in c.in-Bundle.ensures c.requires.input_bound)) c.in-Nothing.ensures) refl)
-
-pub returns-in-Refused : goal.returns-in-Refused
-returns-in-Refused c = absurd (accepted-not c.requires.packet_accepted (starts-refused _ _ _ c.in-Refused.ensures))
+    (bundle-in c.in-Bundle.ensures c.requires.input_bound)) c.in-None.ensures) refl)

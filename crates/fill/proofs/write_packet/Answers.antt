@@ -1,7 +1,6 @@
 -- A packet is a message or a bundle, after its first text.
 use native.Mathlib.Omega.{arith}
-use Rattle.packet.proofs.Knot.{starts-refused}
-use Rattle.fill.proofs.Fills.{known-refused, known-accepted, accepted-start, past_room, past-known, past-stored}
+use Rattle.fill.proofs.Fills.{known-accepted, accepted-start, past_room, past-known, past-stored}
 use Rattle.fill.proofs.Fills.{message-in, message-past, bundle-in, bundle-past}
 use Rattle.fill.proofs.write_packet.Goals as goal
 
@@ -59,6 +58,3 @@ returns-in-Message c =
 
 pub returns-in-Bundle : goal.returns-in-Bundle
 returns-in-Bundle c = past-stored (bundle-past (bundle-in c.in-Bundle.ensures c.requires.input_bound)) _ _ c.write_bundle.ensures
-
-pub returns-in-Refused : goal.returns-in-Refused
-returns-in-Refused c = absurd (known-refused c.requires.known (starts-refused _ _ _ c.in-Refused.ensures))

@@ -9,7 +9,7 @@ use borrow.Author.Tests.{le-leb}
 use lib.ListN.{length, take, drop}
 use lib.Seq.{length-take-le}
 use Rattle.wire.specs.Number.{number}
-use Rattle.wire.specs.Part.{part, inside}
+use Rattle.wire.specs.Part.{part}
 use Rattle.utf8.specs.Derive.{utf8}
 use Rattle.node.specs.Forest.{Forest, nil, node, snoc}
 use Rattle.node.specs.Tags.{message_kind, bundle_kind, array_kind, among, is_scalar, class_of, sort_of}
@@ -20,12 +20,12 @@ use Rattle.node.specs.declared.tags.Class.TheVariants.{Four, Eight, Bare, Text a
 use Rattle.node.specs.declared.tags.Sort.{Sort}
 use Rattle.node.specs.declared.tags.Sort.TheVariants.{Opens, Closes, Leaf}
 use Rattle.text.specs.Text.{reach, read_text}
-use Rattle.text.specs.declared.Text.{Text}
-use Rattle.text.specs.declared.Text.TheVariants.{Found, Lacks}
+use Rattle.argument.specs.Results.{Arg}
+use Rattle.std.specs.Prelude.{Err, Ok}
+use Rattle.text.specs.Results.{Text}
+use Rattle.argument.specs.Results as arg
 use Rattle.argument.specs.Argument.{arg_item, text_arg, read_arg}
 use Rattle.arguments.specs.Arguments.{Args, refused, args, later, arg_taken, array_item, Open, waits, act, read_tags, read_args}
-use Rattle.argument.specs.declared.Arg.{Arg}
-use Rattle.argument.specs.declared.Arg.TheVariants as arg
 use Rattle.table.specs.Formed.{range_ok, allowed}
 use Rattle.table.specs.Tree.{Obeys, FieldsFit}
 use Rattle.osc10.specs.Words.{Bytes}
@@ -92,8 +92,8 @@ in-message (node item f rest) w =
 
 -- the rules of an argument that was read
 abbrev LeafSound : List ℕ → Class → Arg → Type 0
-LeafSound s class (arg.Given item used) = (leaf_rules class item ≡ true) × (range_ok s item ≡ true)
-LeafSound s class (arg.Refused k) = Unit {0}
+LeafSound s class (Ok given) = (leaf_rules class given.item ≡ true) × (range_ok s given.item ≡ true)
+LeafSound s class (Err k) = Unit {0}
 
 -- a text that was found is one of the source
 pub text-range : {s l : List ℕ} {q n : ℕ} (tag : ℕ) → among tag (message_kind ∷ 115 ∷ []) ≡ true → At s q l → n ≤ length l
@@ -124,10 +124,10 @@ module _ {s : List ℕ} (base : ℕ) {l : List ℕ} (p : ℕ) (at : At s (base +
   leaf-sound String tag t = by-text (read_text l p) refl
     where
       by-text : (x : Text) → x ≡ read_text l p → LeafSound s String (text_arg tag (base + p) p x)
-      by-text (Found n used) e =
+      by-text (Ok text) e =
           let w = found_in l p e in
           (refl, text-range tag (ap (λ (k : ℕ). among k (message_kind ∷ 115 ∷ [])) t) at (omega arith) w.2)
-      by-text (Lacks k) e = tt
+      by-text (Err k) e = tt
   leaf-sound Blob tag t =
       let n = number 4 l in
       by_le (LeafSound s Blob) 4 (length l)
@@ -215,11 +215,11 @@ module _ {s : List ℕ} (small : Bytes s) (low : length s < 256 ^ 4) (base : ℕ
   act-sound (Leaf class) tag e t go {l} p frame below at w v h = by-arg (read_arg tag class base l p) refl
     where
       by-arg : (x : Arg) → x ≡ read_arg tag class base l p → ArgsSound s (arg_taken (λ m q f. go m q f below) l p frame x)
-      by-arg (arg.Refused k) g = tt
-      by-arg (arg.Given item used) g =
+      by-arg (Err k) g = tt
+      by-arg (Ok given) g =
           let n = given-within tag class base l p g in
-          later-sound s used (go (drop used l) (p + used) (snoc frame item nil) below)
-          (h (drop used l) (p + used) (snoc frame item nil) below (at_on base p used n at)
+          later-sound s given.used (go (drop given.used l) (p + given.used) (snoc frame given.item nil) below)
+          (h (drop given.used l) (p + given.used) (snoc frame given.item nil) below (at_on base p given.used n at)
           (sound-snoc frame (leaf-node p at class tag e t.1 g) w) v)
 
   read-sound : (ts : List ℕ) {l : List ℕ} (p : ℕ) (frame : Forest) (below : List Open) → At s (base + p) l → SoundIn s array_kind frame

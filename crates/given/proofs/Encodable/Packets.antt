@@ -6,14 +6,15 @@ use Prim.Native.Nat.{ℕ, zero, suc, ◌+◌, ◌^◌, ◌≤◌, ◌<◌}
 use native.Mathlib.Omega.{arith}
 use lib.Dec.{eqb}
 use lib.ListN.{length, get_or, take, drop}
-use Rattle.wire.specs.Number.{number}
 use Rattle.node.specs.Forest.{Forest}
 use Rattle.node.specs.Tags.{message_kind, bundle_kind}
 use Rattle.node.specs.declared.record.Item.{Item}
 use Rattle.node.specs.Rules.{own_rules}
 use Rattle.text.specs.Text.{read_text}
-use Rattle.text.specs.declared.Text.{Text}
-use Rattle.text.specs.declared.Text.TheVariants.{Found, Lacks}
+use Rattle.heads.specs.Results.{ElementSize}
+use Rattle.packet.specs.Results.{Start}
+use Rattle.std.specs.Prelude.{Err, None, Some, Ok}
+use Rattle.text.specs.Results.{Text}
 use Rattle.arguments.specs.Arguments.{Args, refused, args, read_args}
 use Rattle.heads.specs.Heads.{tags_in, size_of}
 use Rattle.packet.specs.FirstText.{bundle_word, start_by, start_of}
@@ -22,9 +23,6 @@ use Rattle.packet.specs.Packet.{Out, fault, one, Elements, upto, after, message_
 use Rattle.heads.specs.Heads.{message_item, bundle_item}
 use Rattle.packet.specs.Packet.{bundle_with, bundle_by, filling}
 use Rattle.packet.specs.Packet.{held_by, element_by, joined, go_on, elements_by, started_by, packet_by, packet_at, elements_at, read_packet}
-use Rattle.packet.specs.declared.Start.{Start}
-use Rattle.heads.specs.declared.ElementSize.{ElementSize}
-use Rattle.heads.specs.declared.ElementSize.TheVariants as size
 use Rattle.heads.proofs.Heads.{size_in}
 use Rattle.table.specs.Formed.{range_ok, allowed}
 use Rattle.osc10.specs.Words.{Bytes}
@@ -68,12 +66,13 @@ module _ {s : List ℕ} (small : Bytes s) (low : length s < 256 ^ 4) (base : ℕ
 
     types-sound : (l : List ℕ) (p : ℕ) (t : Text) → At s (base + p) l → t ≡ read_text l p
         → OutSound s (types_then base (message_item q n) l p t)
-    types-sound l p (Lacks k) at e = tt
-    types-sound l p (Found m used) at e =
+    types-sound l p (Err k) at e = tt
+    types-sound l p (Ok text) at e =
         let w = found_in l p e in
-        let o = read_args base (tags_in (take m l)) (drop used l) (p + used) in
-        after-sound s used (message_with (message_item q n) o)
-        (with-sound o (λ kept v g. args-sound small low base (tags_in (take m l)) (p + used) (at_on base p used w.1 at) g))
+        let o = read_args base (tags_in (take text.length l)) (drop text.used l) (p + text.used) in
+        after-sound s text.used (message_with (message_item q n) o)
+        (with-sound o (λ kept v g. args-sound small low base (tags_in (take text.length l)) (p + text.used)
+        (at_on base p text.used w.1 at) g))
 
     message-sound : (l : List ℕ) (p : ℕ) → At s (base + p) l → OutSound s (read_message base (message_item q n) l p)
     unfolding read_message
@@ -109,18 +108,18 @@ module _ {s : List ℕ} (small : Bytes s) (low : length s < 256 ^ 4) (base : ℕ
       by-test (λ x. OutSound s (started_by base es l p x)) (eqb (length l) 0) (λ _. tt) (λ _. by-text (read_text l p) refl)
     where
       by-text : (t : Text) → t ≡ read_text l p → OutSound s (started_by base es l p (start_by l p t))
-      by-text (Lacks k) e = tt
-      by-text (Found n used) e =
+      by-text (Err k) e = tt
+      by-text (Ok text) e =
           let w = found_in l p e in
-          let next = at_on base p used w.1 at in
+          let next = at_on base p text.used w.1 at in
           let P : Start → Type 0 = λ x. OutSound s (started_by base es l p x) in
           by-test P (eqb (get_or l 0 0) message_kind)
-          (λ _. after-sound s used (read_message base (message_item (base + p) n) (drop used l) (p + used))
-          (message-sound (base + p) n (text-range message_kind refl at (omega arith) w.2) (omega (arith, at.within))
-          (drop used l) (p + used) next))
-          (λ _. by-test P (same_bytes (take n l) bundle_word)
-          (λ _. after-sound s used (bundle_by (base + p) es (drop used l) (p + used))
-          (bundle-sound (base + p) (omega (arith, at.within)) es (p + used) next h))
+          (λ _. after-sound s text.used (read_message base (message_item (base + p) text.length) (drop text.used l) (p + text.used))
+          (message-sound (base + p) text.length (text-range message_kind refl at (omega arith) w.2) (omega (arith, at.within))
+          (drop text.used l) (p + text.used) next))
+          (λ _. by-test P (same_bytes (take text.length l) bundle_word)
+          (λ _. after-sound s text.used (bundle_by (base + p) es (drop text.used l) (p + text.used))
+          (bundle-sound (base + p) (omega (arith, at.within)) es (p + text.used) next h))
           (λ _. tt))
 
   -- ---- elements
@@ -138,11 +137,11 @@ module _ {s : List ℕ} (small : Bytes s) (low : length s < 256 ^ 4) (base : ℕ
     elements-by-sound {l} p at = by_size (size_of l) refl
       where
         by_size : (x : ElementSize) → x ≡ size_of l → ElementsSound s (go_on es l p (held_by pk l p x))
-        by_size (size.Holds n) e =
+        by_size (Some n) e =
             let h = size_in l e in
             filled-sound p n (pk (take n (drop 4 l)) (p + 4)) h at
             (hp (take n (drop 4 l)) (p + 4) (at_take n (at_on base p 4 (omega arith) at)))
-        by_size size.RunsOut e = sound-nil
+        by_size None e = sound-nil
 
   mutual
     unfolding packet_at

@@ -14,8 +14,9 @@ use Rattle.node.specs.Tags.{bundle_kind}
 use Rattle.node.specs.Records.{item_at, capacity}
 use Rattle.node.specs.declared.record.Item.{Item}
 use Rattle.heads.specs.Heads.{prefix_of, length_of}
-use Rattle.heads.specs.declared.Length.{Length}
-use Rattle.heads.specs.declared.Length.TheVariants as cut
+use Rattle.heads.specs.Results.{Length}
+use Rattle.results.specs.Results.{DecodeAnswer}
+use Rattle.heads.specs.Results as cut
 use Rattle.packet.specs.Packet.{Out, fault, one, after, read_packet}
 use Rattle.heads.specs.declared.Prefix.{Prefix}
 use Rattle.heads.specs.declared.Prefix.TheVariants as prefix
@@ -26,7 +27,6 @@ use Rattle.framing.specs.Framing.{rule_of}
 use Rattle.edition.specs.declared.Framing.{Framing}
 use Rattle.edition.specs.declared.Framing.TheVariants.{Udp, Tcp, TcpVec}
 use Rattle.answering.specs.Limits.{decoded, forest_of}
-use Rattle.results.specs.declared.Decoded.{Decoded}
 use Rattle.calls.specs.Words.{Gives}
 use Rattle.calls.specs.Demands.{table_after}
 use Rattle.osc10.specs.Words.{Bytes}
@@ -164,7 +164,8 @@ module _ (s : List ℕ) (small : Bytes s) (low : length s < 256 ^ 4) where
 gives-short : (count dirty : ℕ) (rule : List ℕ → Whole) (capacity limit : ℕ) (msg : List ℕ)
     → Gives (decoded rule capacity limit msg) count dirty → length msg ≤ longest
 gives-short count dirty rule capacity limit msg =
-    by-decoded (λ (r : Decoded). Gives r count dirty → length msg ≤ longest) rule capacity limit msg (λ _ q. absurd q) (λ _ q. absurd q)
+    by-decoded (λ (r : DecodeAnswer). Gives r count dirty → length msg ≤ longest) rule capacity limit msg
+    (λ _ q. absurd q) (λ _ q. absurd q)
     (λ h k q. k)
 
 -- ---- the table

@@ -21,12 +21,12 @@ use Rattle.node.specs.declared.tags.Class.TheVariants.{Four, Eight, Bare, Text a
 use Rattle.node.specs.declared.tags.Sort.{Sort}
 use Rattle.node.specs.declared.tags.Sort.TheVariants.{Opens, Closes, Leaf}
 use Rattle.text.specs.Text.{reach, read_text}
-use Rattle.text.specs.declared.Text.{Text}
-use Rattle.text.specs.declared.Text.TheVariants.{Found, Lacks}
+use Rattle.argument.specs.Results.{Arg}
+use Rattle.std.specs.Prelude.{Err, Ok}
+use Rattle.text.specs.Results.{Text}
+use Rattle.argument.specs.Results as arg
 use Rattle.text.proofs.Within.{found-ends}
 use Rattle.argument.specs.Argument.{arg_item, text_arg, read_arg}
-use Rattle.argument.specs.declared.Arg.{Arg}
-use Rattle.argument.specs.declared.Arg.TheVariants as arg
 use Rattle.argument.proofs.Within.{given-start, given-within, given-kind}
 use Rattle.arguments.specs.Arguments.{Args, refused, args, later, arg_taken, array_item, Open, waits, act, read_tags, read_args}
 use Rattle.arguments.specs.Arguments.{Balanced, nothing, another, matched}
@@ -58,8 +58,9 @@ plain item h n =
 
 -- an argument that was read begins at its own data, takes its size with its padding, and is no packet
 abbrev LeafLaid : List ℕ → Class → Arg → Type 0
-LeafLaid msg class (arg.Given item used) = Own msg item × (used ≡ padded (data_size class item)) × (is_packet item.kind ≡ false)
-LeafLaid msg class (arg.Refused k) = Unit {0}
+LeafLaid msg class (Ok given) =
+    Own msg given.item × (given.used ≡ padded (data_size class given.item)) × (is_packet given.item.kind ≡ false)
+LeafLaid msg class (Err k) = Unit {0}
 
 module _ {msg : List ℕ} (base : ℕ) {l : List ℕ} (p : ℕ) (at : At msg (base + p) l) (four : p % 4 ≡ 0) where
   -- four bytes that are read are those of their number
@@ -108,17 +109,17 @@ module _ {msg : List ℕ} (base : ℕ) {l : List ℕ} (p : ℕ) (at : At msg (ba
   leaf-laid String tag t c = by-text (read_text l p) refl
     where
       by-text : (x : Text) → x ≡ read_text l p → LeafLaid msg String (text_arg tag (base + p) p x)
-      by-text (Found n used) e = (
+      by-text (Ok text') e = (
         λ _. record {
           bundle = λ q. absurd (omega arith);
           text = λ _. refl;
           blob = λ q. absurd (omega arith);
-          number = number-here String tag (base + p) n c refl;
+          number = number-here String tag (base + p) text'.length c refl;
         },
         omega (arith, (found-ends l p e).1),
         ap is_packet t,
       )
-      by-text (Lacks k) e = tt
+      by-text (Err k) e = tt
   leaf-laid Blob tag t c =
       let n = number 4 l in
       by_le (LeafLaid msg Blob) 4 (length l)
@@ -225,15 +226,15 @@ module _ {msg : List ℕ} (base low : ℕ) where
 
       by-arg : (x : Arg) → x ≡ read_arg tag class base l p
           → ArgsLaid msg low base p (arg_taken (λ m q f. go m q f below) l p frame x)
-      by-arg (arg.Refused k) g = tt
-      by-arg (arg.Given item used) g =
+      by-arg (Err k) g = tt
+      by-arg (Ok given) g =
           let t = (subst (HasSort tag) e (has-sort tag)).1 in
           let v = leaf-given base p at a class tag t (class-is (eqb tag array_kind) (eqb tag 93) e) g in
           let n = given-within tag class base l p g in
-          later-laid msg low base p used (go (drop used l) (p + used) (snoc frame item nil) below)
-          (h (drop used l) (p + used) (snoc frame item nil) below (at_on base p used n at) v.3 (omega arith)
-          (frames-map low (base + p) (base + (p + used)) frame (snoc frame item nil) below
-          (λ q x. laid-snoc x v.4 v.1 v.0 (subst (Laid msg (data_end item) nil) v.2 done)) w))
+          later-laid msg low base p given.used (go (drop given.used l) (p + given.used) (snoc frame given.item nil) below)
+          (h (drop given.used l) (p + given.used) (snoc frame given.item nil) below (at_on base p given.used n at) v.3 (omega arith)
+          (frames-map low (base + p) (base + (p + given.used)) frame (snoc frame given.item nil) below
+          (λ q x. laid-snoc x v.4 v.1 v.0 (subst (Laid msg (data_end given.item) nil) v.2 done)) w))
 
   read-laid : (ts : List ℕ) {l : List ℕ} (p : ℕ) (frame : Forest) (below : List Open) → At msg (base + p) l → p % 4 ≡ 0 → low ≤ base + p
       → FramesLaid msg low frame below (base + p)
@@ -263,13 +264,13 @@ module _ {msg : List ℕ} (base : ℕ) (Q : ℕ → Args → Type 0) (stop : (p 
   leaf-on tag e go {l} p from frame at a w h = by-arg (read_arg tag (class_of tag) base l p) refl
     where
       by-arg : (x : Arg) → x ≡ read_arg tag (class_of tag) base l p → Q p (arg_taken go l p frame x)
-      by-arg (arg.Refused k) g = stop p k
-      by-arg (arg.Given item used) g =
+      by-arg (Err k) g = stop p k
+      by-arg (Ok given) g =
           let v = leaf-given base p at a (class_of tag) tag (subst (HasSort tag) e (has-sort tag)).1 refl g in
           let n = given-within tag (class_of tag) base l p g in
-          step p used (go (drop used l) (p + used) (snoc frame item nil))
-          (h (drop used l) (p + used) (snoc frame item nil) (at_on base p used n at) v.3
-          (laid-snoc w v.4 v.1 v.0 (subst (Laid msg (data_end item) nil) v.2 done)))
+          step p given.used (go (drop given.used l) (p + given.used) (snoc frame given.item nil))
+          (h (drop given.used l) (p + given.used) (snoc frame given.item nil) (at_on base p given.used n at) v.3
+          (laid-snoc w v.4 v.1 v.0 (subst (Laid msg (data_end given.item) nil) v.2 done)))
 
   -- where it holds of the rest, it holds with tags before it that close every array: the frame that is filled is the same one then
   balanced-laid : {ts : List ℕ} → Balanced ts → (rest : List ℕ) {l : List ℕ} (p from : ℕ) (frame : Forest) (below : List Open)

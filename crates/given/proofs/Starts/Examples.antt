@@ -14,7 +14,7 @@ use Rattle.arguments.specs.Arguments.{read_tags, nothing, another}
 use Rattle.packet.specs.FirstText.{start_of}
 use Rattle.packet.specs.Packet.{read_message, packet_by, packet_at, read_packet}
 use Rattle.answering.specs.Limits.{decoded}
-use Rattle.results.specs.declared.Decoded.TheVariants.{Packets}
+use Rattle.results.specs.Results.{Packets}
 use Rattle.framing.specs.Framing.{udp, tcp_vec}
 use Rattle.edition.specs.declared.Framing.TheVariants.{Udp, TcpVec}
 use Rattle.table.proofs.Examples.{small_bytes, nested, two}

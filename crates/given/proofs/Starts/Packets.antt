@@ -15,8 +15,10 @@ use Rattle.node.specs.Forest.{Forest, nil, node}
 use Rattle.node.specs.Tags.{message_kind, class_of}
 use Rattle.node.specs.declared.record.Item.{Item}
 use Rattle.text.specs.Text.{until_nul, read_text}
-use Rattle.text.specs.declared.Text.{Text}
-use Rattle.text.specs.declared.Text.TheVariants.{Found, Lacks}
+use Rattle.heads.specs.Results.{ElementSize}
+use Rattle.packet.specs.Results.{Start}
+use Rattle.std.specs.Prelude.{Err, None, Some, Ok}
+use Rattle.text.specs.Results.{Found, Text}
 use Rattle.text.proofs.Within.{found_in, found-ends}
 use Rattle.text.proofs.Nuls.{nul-longer}
 use Rattle.argument.specs.Dirt.{types_at}
@@ -27,9 +29,6 @@ use Rattle.packet.specs.Packet.{Out, fault, one, Elements, upto, after, message_
 use Rattle.heads.specs.Heads.{message_item, bundle_item}
 use Rattle.packet.specs.Packet.{bundle_with, bundle_by, filling, held_by, element_by, joined, go_on, elements_by, started_by, packet_by}
 use Rattle.packet.specs.Packet.{packet_at, elements_at, read_packet}
-use Rattle.packet.specs.declared.Start.{Start}
-use Rattle.heads.specs.declared.ElementSize.{ElementSize}
-use Rattle.heads.specs.declared.ElementSize.TheVariants as size
 use Rattle.heads.proofs.Heads.{size_in}
 use Rattle.packet.proofs.Within.{Within, packet-at-in}
 use Rattle.osc10.proofs.Placed.{At, at_take, at_on, range_at}
@@ -108,18 +107,18 @@ module _ {msg : List ℕ} (base : ℕ) where
   message-packed q n {l} p at le types = by-text (read_text l p) refl
     where
       by-text : (t : Text) → t ≡ read_text l p → OutPacked msg q base p (types_then base (message_item q n) l p t)
-      by-text (Lacks k) e = tt
-      by-text (Found m used) e =
-          let tags = tags_in (take m l) in
-          let o = read_args base tags (drop used l) (p + used) in
-          let fours : (p + used) % 4 ≡ 0 = omega (arith, (found-ends l p e).1) in
-          let next = at_on base p used (found_in l p e).1 at in
-          after-packed msg q base p used (message_with (message_item q n) o)
-          (with-packed q n (p + used) o (omega arith)
+      by-text (Err k) e = tt
+      by-text (Ok text) e =
+          let tags = tags_in (take text.length l) in
+          let o = read_args base tags (drop text.used l) (p + text.used) in
+          let fours : (p + text.used) % 4 ≡ 0 = omega (arith, (found-ends l p e).1) in
+          let next = at_on base p text.used (found_in l p e).1 at in
+          after-packed msg q base p text.used (message_with (message_item q n) o)
+          (with-packed q n (p + text.used) o (omega arith)
           (λ kept v g. (
-            args-laid base tags (p + used) next fours g,
-            λ b. subst (λ (x : ℕ). Laid msg x kept (base + (p + used + v))) (sym (data-here q n p at types e))
-                (args-closed base tags (p + used) next fours g (subst Balanced (tags-here q n p at types e) b)),
+            args-laid base tags (p + text.used) next fours g,
+            λ b. subst (λ (x : ℕ). Laid msg x kept (base + (p + text.used + v))) (sym (data-here q n p at types e))
+                (args-closed base tags (p + text.used) next fours g (subst Balanced (tags-here q n p at types e) b)),
           )))
 
   -- ---- bundles
@@ -165,18 +164,20 @@ module _ {msg : List ℕ} (base : ℕ) where
       (λ _. by-text (read_text l p) refl)
     where
       by-text : (t : Text) → t ≡ read_text l p → OutPacked msg (base + p) base p (started_by base es l p (start_by l p t))
-      by-text (Lacks k) e = tt
-      by-text (Found n used) e =
+      by-text (Err k) e = tt
+      by-text (Ok text) e =
           let w = found_in l p e in
-          let next = at_on base p used w.1 at in
+          let next = at_on base p text.used w.1 at in
           let P : Start → Type 0 = λ x. OutPacked msg (base + p) base p (started_by base es l p x) in
           by-test P (eqb (get_or l 0 0) message_kind)
-          (λ _. after-packed msg (base + p) base p used (read_message base (message_item (base + p) n) (drop used l) (p + used))
-          (message-packed (base + p) n (p + used) next (omega arith) (omega (arith, (found-ends l p e).1))))
-          (λ _. by-test P (same_bytes (take n l) bundle_word)
-          (λ s. after-packed msg (base + p) base p used (bundle_by (base + p) es (drop used l) (p + used))
-          (bundle-packed (base + p) (word-here l p at n (found-ends l p e).0 (omega arith) (same-one (take n l) bundle_word s))
-          es (p + used) next (omega arith) h))
+          (λ _. after-packed msg (base + p) base p text.used
+          (read_message base (message_item (base + p) text.length) (drop text.used l) (p + text.used))
+          (message-packed (base + p) text.length (p + text.used) next (omega arith) (omega (arith, (found-ends l p e).1))))
+          (λ _. by-test P (same_bytes (take text.length l) bundle_word)
+          (λ s. after-packed msg (base + p) base p text.used (bundle_by (base + p) es (drop text.used l) (p + text.used))
+          (bundle-packed (base + p) (word-here l p at text.length (found-ends l p e).0 (omega arith)
+          (same-one (take text.length l) bundle_word s))
+          es (p + text.used) next (omega arith) h))
           (λ _. tt))
 
   -- ---- elements
@@ -210,12 +211,12 @@ module _ {msg : List ℕ} (base : ℕ) where
     elements-by-packed {l} p at = by_size (size_of l) refl
       where
         by_size : (x : ElementSize) → x ≡ size_of l → ElementsPacked msg base p (go_on es l p (held_by pk l p x))
-        by_size (size.Holds n) e =
+        by_size (Some n) e =
             let m = take n (drop 4 l) in
             let same : length m ≡ n = omega (arith, size_in l e, length-take n (drop 4 l), length-drop 4 l) in
             filled-packed p n (pk m (p + 4)) (size_in l e) at (subst (λ (k : ℕ). Within k (pk m (p + 4))) same (hw m (p + 4)))
             (hp m (p + 4) (at_take n (at_on base p 4 (omega (arith, size_in l e)) at)))
-        by_size size.RunsOut e = no_element p
+        by_size None e = no_element p
 
   mutual
     unfolding packet_at

@@ -9,8 +9,8 @@ use Rattle.wire.proofs.Choices.{by_le, by-test}
 use Rattle.node.specs.Forest.{Forest, nil, node, depth}
 use Rattle.node.specs.declared.record.Item.{Item}
 use Rattle.heads.specs.Heads.{prefix_of, length_of}
-use Rattle.heads.specs.declared.Length.{Length}
-use Rattle.heads.specs.declared.Length.TheVariants as cut
+use Rattle.heads.specs.Results.{Length}
+use Rattle.heads.specs.Results as cut
 use Rattle.packet.specs.Packet.{Out, fault, one, after, read_packet}
 use Rattle.heads.specs.declared.Prefix.{Prefix}
 use Rattle.heads.specs.declared.Prefix.TheVariants as prefix
@@ -32,7 +32,7 @@ use Rattle.osc10.proofs.Placed.{At, at_all, at_take, at_drop}
 use Rattle.given.specs.Starts.{GivesStarts}
 use Rattle.given.proofs.Encodable.Tables.{gives_trees}
 use Rattle.given.proofs.Starts.Forests.{Packed, packed-from, packed-to, Rooted, none, also}
-use Rattle.given.proofs.Starts.Forests.{rooted-from, rooted-to, rooted-begun, rooted-follows}
+use Rattle.given.proofs.Starts.Forests.{rooted-to, rooted-begun, rooted-follows}
 use Rattle.given.proofs.Starts.Forests.{rooted-opens, Begun, BegunAt, each-begun, begun-rise}
 use Rattle.given.proofs.Starts.Packets.{OutPacked, packet-packed}
 

@@ -5,8 +5,9 @@ use Prim.Native.Nat.{ℕ, ◌<◌}
 use native.Mathlib.Omega.{arith}
 use lib.ListN.{length}
 use Rattle.cues.specs.Checks.{compared, numbered_from}
-use Rattle.results.specs.declared.Checked.{Checked}
-use Rattle.results.specs.declared.Checked.TheVariants as checked
+use Rattle.results.specs.Results.{Checked}
+use Rattle.std.specs.Prelude.{Ok, Err}
+use Rattle.results.specs.Results as checked
 use Rattle.told.specs.Answers.{checked_number}
 use Rattle.apart.specs.Boundary.{most_checked}
 use Rattle.apart.proofs.Bounds.{fits-checked, differs-checked}
@@ -21,8 +22,8 @@ number-low : (f g : List ℕ) (n : ℕ) → n < most_checked → length f < most
 number-low f g n low short brief = by_answer (compared f g) refl
   where
     by_answer : (r : Checked) → compared f g ≡ r → Small (numbered_from n r)
-    by_answer (checked.Fits k) e = omega (arith, fits-checked f g e)
-    by_answer (checked.Differs k) e = omega (arith, differs-checked f g e)
+    by_answer (Ok k) e = omega (arith, fits-checked f g e)
+    by_answer (Err differs) e = omega (arith, differs-checked f g e)
 
 pub checked-requires : goal.checked-requires
 checked-requires c =

@@ -6,9 +6,9 @@ use Rattle.told.proofs.Seen.{in_table, kind-told}
 use Rattle.osc.proofs.osc_look.Goals as goal
 
 pub kind_at-requires : goal.kind_at-requires
-kind_at-requires c = in_table _ _ (sym c.in-Value.is ∙ c.look.ensures)
+kind_at-requires c = in_table _ _ (sym c.in-Ok.is ∙ c.look.ensures)
 
-pub returns-in-Value : goal.returns-in-Value
-returns-in-Value c =
+pub returns-in-Ok : goal.returns-in-Ok
+returns-in-Ok c =
     c.low.ensures ∙ ap (λ (k : ℕ). answer_of (told_answer 0 k 0)) c.kind_at.ensures
-    ∙ ap answer_of (kind-told _ _ (sym c.in-Value.is ∙ c.look.ensures))
+    ∙ ap answer_of (kind-told _ _ (sym c.in-Ok.is ∙ c.look.ensures))

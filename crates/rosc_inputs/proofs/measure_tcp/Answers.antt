@@ -7,7 +7,7 @@ use Rattle.argument.proofs.Stands.{stands-rest}
 use Rattle.measure.specs.CodeMeasure.{node_dirt}
 use Rattle.framing.specs.Framing.{read_frame}
 use Rattle.rosc_inputs.specs.CodeTotals.{frame_extent}
-use Rattle.rosc_inputs.specs.declared.FrameExtent.{FrameExtent}
+use Rattle.rosc_inputs.specs.Results.{FrameExtent}
 use Rattle.rosc_inputs.proofs.Totals.{tcp-total, tcp-ends}
 use Rattle.rosc_inputs.proofs.measure_tcp.Goals as goal
 
@@ -20,12 +20,12 @@ found depth msg w e = sym e ∙ w 0 msg (stands-rest msg 0)
 pub measure_one-requires : goal.measure_one-requires
 measure_one-requires c =
     let a = c.args in
-    tcp-ends a.depth a.msg.now (found a.depth a.msg.now c.measure_frame.ensures c.in-Packet.is)
+    tcp-ends a.depth a.msg.now (found a.depth a.msg.now c.measure_frame.ensures c.in-Some.is)
 
-pub returns-in-Waiting : goal.returns-in-Waiting
-returns-in-Waiting c = let a = c.args in tcp-total _ _ (found a.depth a.msg.now c.measure_frame.ensures c.in-Waiting.is)
+pub returns-in-None : goal.returns-in-None
+returns-in-None c = let a = c.args in tcp-total _ _ (found a.depth a.msg.now c.measure_frame.ensures c.in-None.is)
 
-pub returns-in-Packet : goal.returns-in-Packet
-returns-in-Packet c =
+pub returns-in-Some : goal.returns-in-Some
+returns-in-Some c =
     let a = c.args in
-    c.measure_one.ensures ∙ tcp-total _ _ (found a.depth a.msg.now c.measure_frame.ensures c.in-Packet.is)
+    c.measure_one.ensures ∙ tcp-total _ _ (found a.depth a.msg.now c.measure_frame.ensures c.in-Some.is)

@@ -10,8 +10,8 @@ use Rattle.argument.specs.CodeParts.{StandsAt}
 use Rattle.measure.specs.CodeMeasure.{node_dirt}
 use Rattle.framing.specs.Framing.{read_frame}
 use Rattle.rosc_inputs.specs.CodeTotals.{frame_extent}
-use Rattle.rosc_inputs.specs.declared.FrameExtent.{FrameExtent}
-use Rattle.rosc_inputs.specs.declared.FrameExtent.TheVariants.{Packet}
+use Rattle.rosc_inputs.specs.Results.{FrameExtent}
+use Rattle.std.specs.Prelude.{Some, Ok}
 use Rattle.rosc_inputs.proofs.ListTotals.{FramesCounted, Turn, empty-list, none-counted, all-counted}
 use Rattle.rosc_inputs.proofs.ListTotals.{tree-passed, deep-passed, waits-here, fault-low, refused-here}
 use Rattle.rosc_inputs.proofs.measure_tcp_vec.Goals as goal
@@ -44,69 +44,69 @@ loop-at-init c = none-counted _ _ c.if-msg-eq0.false
 pub returns : goal.returns
 returns c = all-counted c.loop-at.invariant (search rules) c.counted-2.ensures
 
-pub returns-in-Waiting : goal.returns-in-Waiting
-returns-in-Waiting c =
+pub returns-in-None : goal.returns-in-None
+returns-in-None c =
     let t = turn c.args.depth c.args.msg.now c.loop-at.at c.loop-at.count c.loop-at.dirt c.loop-at.deep c.loop-at.invariant c.loop-at-test.true
     c.measure_frame.result c.measure_frame.ensures in
-    waits-here t c.in-Waiting.is c.counted.ensures
+    waits-here t c.in-None.is c.counted.ensures
 
 pub overflow_add-count : goal.overflow_add-count
 overflow_add-count c =
     let t = turn c.args.depth c.args.msg.now c.loop-at.at c.loop-at.count c.loop-at.dirt c.loop-at.deep c.loop-at.invariant c.loop-at-test.true
     c.measure_frame.result c.measure_frame.ensures in
-    omega (arith, tree-passed t (c.in-Packet.is ∙ ap Packet c.in-Tree.is))
+    omega (arith, tree-passed t (c.in-Some-Ok-Tree.is ∙ ap Some (c.in-Some-Ok-Tree.field-0-is ∙ ap Ok c.in-Some-Ok-Tree.field-0-0-is)))
 
 pub overflow_add-dirt : goal.overflow_add-dirt
 overflow_add-dirt c =
     let t = turn c.args.depth c.args.msg.now c.loop-at.at c.loop-at.count c.loop-at.dirt c.loop-at.deep c.loop-at.invariant c.loop-at-test.true
     c.measure_frame.result c.measure_frame.ensures in
-    omega (arith, tree-passed t (c.in-Packet.is ∙ ap Packet c.in-Tree.is))
+    omega (arith, tree-passed t (c.in-Some-Ok-Tree.is ∙ ap Some (c.in-Some-Ok-Tree.field-0-is ∙ ap Ok c.in-Some-Ok-Tree.field-0-0-is)))
 
 pub overflow_add-at : goal.overflow_add-at
 overflow_add-at c =
     let t = turn c.args.depth c.args.msg.now c.loop-at.at c.loop-at.count c.loop-at.dirt c.loop-at.deep c.loop-at.invariant c.loop-at-test.true
     c.measure_frame.result c.measure_frame.ensures in
-    omega (arith, tree-passed t (c.in-Packet.is ∙ ap Packet c.in-Tree.is))
+    omega (arith, tree-passed t (c.in-Some-Ok-Tree.is ∙ ap Some (c.in-Some-Ok-Tree.field-0-is ∙ ap Ok c.in-Some-Ok-Tree.field-0-0-is)))
 
-pub loop-at-smaller-in-Tree : goal.loop-at-smaller-in-Tree
-loop-at-smaller-in-Tree c =
+pub loop-at-smaller-in-Some-Ok-Tree : goal.loop-at-smaller-in-Some-Ok-Tree
+loop-at-smaller-in-Some-Ok-Tree c =
     let t = turn c.args.depth c.args.msg.now c.loop-at.at c.loop-at.count c.loop-at.dirt c.loop-at.deep c.loop-at.invariant c.loop-at-test.true
     c.measure_frame.result c.measure_frame.ensures in
-    omega (arith, tree-passed t (c.in-Packet.is ∙ ap Packet c.in-Tree.is))
+    omega (arith, tree-passed t (c.in-Some-Ok-Tree.is ∙ ap Some (c.in-Some-Ok-Tree.field-0-is ∙ ap Ok c.in-Some-Ok-Tree.field-0-0-is)))
 
-pub loop-at-preserved-in-Tree : goal.loop-at-preserved-in-Tree
-loop-at-preserved-in-Tree c =
+pub loop-at-preserved-in-Some-Ok-Tree : goal.loop-at-preserved-in-Some-Ok-Tree
+loop-at-preserved-in-Some-Ok-Tree c =
     let t = turn c.args.depth c.args.msg.now c.loop-at.at c.loop-at.count c.loop-at.dirt c.loop-at.deep c.loop-at.invariant c.loop-at-test.true
     c.measure_frame.result c.measure_frame.ensures in
-    (tree-passed t (c.in-Packet.is ∙ ap Packet c.in-Tree.is)).1
+    (tree-passed t (c.in-Some-Ok-Tree.is ∙ ap Some (c.in-Some-Ok-Tree.field-0-is ∙ ap Ok c.in-Some-Ok-Tree.field-0-0-is))).1
 
-pub overflow_add-at-in-Deep : goal.overflow_add-at-in-Deep
-overflow_add-at-in-Deep c =
+pub overflow_add-at-in-Some-Ok-Deep : goal.overflow_add-at-in-Some-Ok-Deep
+overflow_add-at-in-Some-Ok-Deep c =
     let t = turn c.args.depth c.args.msg.now c.loop-at.at c.loop-at.count c.loop-at.dirt c.loop-at.deep c.loop-at.invariant c.loop-at-test.true
     c.measure_frame.result c.measure_frame.ensures in
-    omega (arith, deep-passed t (c.in-Packet.is ∙ ap Packet c.in-Deep.is))
+    omega (arith, deep-passed t (c.in-Some-Ok-Deep.is ∙ ap Some (c.in-Some-Ok-Deep.field-0-is ∙ ap Ok c.in-Some-Ok-Deep.field-0-0-is)))
 
 pub loop-at-smaller : goal.loop-at-smaller
 loop-at-smaller c =
     let t = turn c.args.depth c.args.msg.now c.loop-at.at c.loop-at.count c.loop-at.dirt c.loop-at.deep c.loop-at.invariant c.loop-at-test.true
     c.measure_frame.result c.measure_frame.ensures in
-    omega (arith, deep-passed t (c.in-Packet.is ∙ ap Packet c.in-Deep.is))
+    omega (arith, deep-passed t (c.in-Some-Ok-Deep.is ∙ ap Some (c.in-Some-Ok-Deep.field-0-is ∙ ap Ok c.in-Some-Ok-Deep.field-0-0-is)))
 
 pub loop-at-preserved : goal.loop-at-preserved
 loop-at-preserved c =
     let t = turn c.args.depth c.args.msg.now c.loop-at.at c.loop-at.count c.loop-at.dirt c.loop-at.deep c.loop-at.invariant c.loop-at-test.true
     c.measure_frame.result c.measure_frame.ensures in
-    (deep-passed t (c.in-Packet.is ∙ ap Packet c.in-Deep.is)).1
+    (deep-passed t (c.in-Some-Ok-Deep.is ∙ ap Some (c.in-Some-Ok-Deep.field-0-is ∙ ap Ok c.in-Some-Ok-Deep.field-0-0-is))).1
 
 pub moved-requires : goal.moved-requires
 moved-requires c =
     let t = turn c.args.depth c.args.msg.now c.loop-at.at c.loop-at.count c.loop-at.dirt c.loop-at.deep c.loop-at.invariant c.loop-at-test.true
     c.measure_frame.result c.measure_frame.ensures in
-    let low = fault-low t (c.in-Packet.is ∙ ap Packet c.in-Refused.is) in
+    let low = fault-low t (c.in-Some-Err.is ∙ ap Some c.in-Some-Err.field-0-is) in
     omega arith
 
-pub returns-in-Refused : goal.returns-in-Refused
-returns-in-Refused c =
+pub returns-in-Some-Err : goal.returns-in-Some-Err
+returns-in-Some-Err c =
     let t = turn c.args.depth c.args.msg.now c.loop-at.at c.loop-at.count c.loop-at.dirt c.loop-at.deep c.loop-at.invariant c.loop-at-test.true
     c.measure_frame.result c.measure_frame.ensures in
-    refused-here t (c.in-Packet.is ∙ ap Packet c.in-Refused.is) c.moved.ensures
+    refused-here t (c.in-Some-Err.is ∙ ap Some c.in-Some-Err.field-0-is) c.moved.ensures

@@ -2,13 +2,9 @@
 -- there is one.
 use mathlib.Core.Path.{◌≡◌}
 use mathlib.Core.Bool.{◌||◌}
-use Prim.Native.Nat.{◌≤◌, ◌-◌}
-use lib.ListN.{length, drop}
+use lib.ListN.{drop}
 use Rattle.scan.specs.CodeScans.{brackets}
 use Rattle.scan.proofs.any_bracket.Given as goal
 
-abbrev pub invariant-loop-i : goal.invariant-loop-i
-invariant-loop-i l = (l.i ≤ length l.tags) × (l.any || brackets (drop l.i l.tags) ≡ brackets l.tags)
-
-abbrev pub decreases-loop-i : goal.decreases-loop-i
-decreases-loop-i l = length l.tags - l.i
+abbrev pub invariant-loop-tag : goal.invariant-loop-tag
+invariant-loop-tag l = l.any || brackets (drop l.tag-index l.tags) ≡ brackets l.tags

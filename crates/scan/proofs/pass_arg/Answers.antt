@@ -6,14 +6,14 @@ use Rattle.node.specs.declared.tags.Class.TheVariants.{Four, Eight}
 use Rattle.argument.specs.Argument.{read_arg, arg_item}
 use Rattle.argument.proofs.Dirt.{padding-begins}
 use Rattle.argument.proofs.Within.{given-within}
-use Rattle.scan.specs.declared.Scanned.TheVariants.{Used}
+use Rattle.scan.specs.Results.{Used}
 use Rattle.scan.proofs.Passed.{used-of-class, none_between}
 use Rattle.scan.proofs.pass_arg.Goals as goal
 
 pub dirty_of-requires : goal.dirty_of-requires
 dirty_of-requires c =
     let a = c.args in
-    let e = sym c.in-Given-read_checked.is ∙ c.read_checked-in_default.ensures in
+    let e = sym c.in_ok-given-in_default.was ∙ c.read_checked-in_default.ensures in
     let b = padding-begins a.tag a.class 0 a.input.now a.pos e in
     (b.0, b.1, given-within a.tag a.class 0 a.input.now a.pos e)
 

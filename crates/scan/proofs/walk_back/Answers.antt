@@ -22,7 +22,7 @@ returns-then-closed-eq0 c =
 pub loop-at-preserved-in-Opens : goal.loop-at-preserved-in-Opens
 loop-at-preserved-in-Opens c =
     let t = turn c.loop-at.invariant c.loop-at-test.true c.sort_of.result c.sort_of.ensures in
-    looking-opens t c.in-Opens.is c.if-closed-eq0.false c.larger-depth.ensures
+    looking-opens t c.in-Opens.is c.if-closed-eq0.false c.max-depth.ensures
 
 pub loop-at-preserved-in-Closes : goal.loop-at-preserved-in-Closes
 loop-at-preserved-in-Closes c =

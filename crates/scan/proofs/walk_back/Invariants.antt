@@ -4,6 +4,3 @@ use Rattle.scan.proofs.walk_back.Given as goal
 
 abbrev pub invariant-loop-at : goal.invariant-loop-at
 invariant-loop-at l = Looking l.tags l.at l.closed l.count l.depth
-
-abbrev pub decreases-loop-at : goal.decreases-loop-at
-decreases-loop-at l = l.at

@@ -1,19 +1,15 @@
-use Rattle.std.proofs.Common.{sym, refl, ◌∙◌, rules}
-use borrow.Author.Tests.{not-true, not-false}
-use Rattle.shifts.specs.Shifts.{lookable}
-use Rattle.shifts.proofs.Lookable.{lookable-more, not-lookable}
+-- `all` over the numbers of the records says of each whether it has a value.
+use Rattle.std.proofs.Common.{◌≡◌, true, false, rules, refl, arith}
+use Rattle.std.proofs.lemmas.Iterator.{cases_from_all, YieldsList-from_range}
+use Rattle.values.specs.Look.{look_at}
+use Rattle.shifts.specs.Shifts.{is_value}
+use Rattle.shifts.proofs.Lookable.{all_lookable}
 use Rattle.shifts.proofs.is_lookable.Goals as goal
 
-pub loop-i-init : goal.loop-i-init
-unfolding lookable
-loop-i-init c = (search rules, refl)
-
-pub returns-then-not-is_value : goal.returns-then-not-is_value
-returns-then-not-is_value c =
-    sym (not-lookable _ _ _ (sym c.is_value.ensures ∙ c.if-not-is_value.true) c.loop-i-test.true)
-
-pub loop-i-preserved : goal.loop-i-preserved
-loop-i-preserved c = (
-  search rules,
-  lookable-more _ _ c.loop-i.invariant.1 (sym c.is_value.ensures ∙ c.if-not-is_value.false),
-)
+pub returns : goal.returns
+returns c =
+    let t = c.args.table.now in
+    let n = c.args.count in
+    all_lookable t n c.all.result
+    (cases_from_all _ _ _ (λ i. is_value (look_at t i) ≡ true) (λ i. is_value (look_at t i) ≡ false) c.all.ensures.ran
+    (YieldsList-from_range 0 n n refl (omega arith)) (λ x q k. search rules) (λ x q k. search rules))

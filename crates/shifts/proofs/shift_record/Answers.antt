@@ -1,4 +1,3 @@
-use borrow.Author.Tests.{not-false}
 use Rattle.shifts.proofs.Records.{record-moved}
 use Rattle.shifts.proofs.shift_record.Goals as goal
 

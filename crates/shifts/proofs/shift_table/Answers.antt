@@ -1,5 +1,4 @@
 use Rattle.std.proofs.Common.{sym, ◌∙◌}
-use borrow.Author.Tests.{not-false}
 use Rattle.shifts.proofs.Lookable.{lookable-fits}
 use Rattle.shifts.proofs.shift_table.Goals as goal
 

@@ -1,6 +1,8 @@
 -- `slide_steps::slide_frames` meets its contract: what the answer on the frame at the front says of the fold of what is left.
 use native.Mathlib.Omega.{arith}
 use borrow.Author.Rules.{rules}
+use mathlib.Core.Path.{ap, ◌∙◌}
+use Rattle.std.specs.Prelude.{Ok}
 use Rattle.slide_steps.proofs.Frames.{now-long, lent_is, going_end}
 use Rattle.slide_steps.proofs.Frames.{going-waits, going-refused, going-in, going_on}
 use Rattle.slide_steps.proofs.slide_frames.Goals as goal
@@ -10,7 +12,7 @@ overflow_add-at c =
     let i = c.loop-at in
     let e = lent_is c.args.by c.args.bytes.now i.at i.bytes i.table i.invariant in
     let v = going-in c.args.by c.args.bytes.now i.at i.bytes i.table i.invariant e (search rules) c.slide_front.ensures
-    c.in-Done.is in
+    (c.in-Ok-Some.is ∙ ap Ok c.in-Ok-Some.field-0-is) in
     let n = now-long c.args.by c.args.bytes.now i.at i.bytes i.table i.invariant in
     omega (arith, v.0, v.1, n)
 
@@ -19,7 +21,7 @@ loop-at-smaller c =
     let i = c.loop-at in
     let e = lent_is c.args.by c.args.bytes.now i.at i.bytes i.table i.invariant in
     let v = going-in c.args.by c.args.bytes.now i.at i.bytes i.table i.invariant e (search rules) c.slide_front.ensures
-    c.in-Done.is in
+    (c.in-Ok-Some.is ∙ ap Ok c.in-Ok-Some.field-0-is) in
     let n = now-long c.args.by c.args.bytes.now i.at i.bytes i.table i.invariant in
     omega (arith, v.0, v.1, n)
 
@@ -28,21 +30,21 @@ loop-at-preserved c =
     let i = c.loop-at in
     let e = lent_is c.args.by c.args.bytes.now i.at i.bytes i.table i.invariant in
     going_on c.args.by c.args.bytes.now i.at i.bytes i.table i.invariant e (search rules) c.slide_front.ensures
-    c.in-Done.is (search rules)
+    (c.in-Ok-Some.is ∙ ap Ok c.in-Ok-Some.field-0-is) (search rules)
 
-pub returns-in-Waiting : goal.returns-in-Waiting
-returns-in-Waiting c =
+pub returns-in-Ok-None : goal.returns-in-Ok-None
+returns-in-Ok-None c =
     let i = c.loop-at in
     let e = lent_is c.args.by c.args.bytes.now i.at i.bytes i.table i.invariant in
     going-waits c.args.by c.args.bytes.now i.at i.bytes i.table i.invariant e (search rules) c.slide_front.ensures
-    c.requires.0 c.in-Waiting.is c.requires.1
+    c.requires.0 (c.in-Ok-None.is ∙ ap Ok c.in-Ok-None.field-0-is) c.requires.1
 
-pub returns-in-Refused : goal.returns-in-Refused
-returns-in-Refused c =
+pub returns-in-Err : goal.returns-in-Err
+returns-in-Err c =
     let i = c.loop-at in
     let e = lent_is c.args.by c.args.bytes.now i.at i.bytes i.table i.invariant in
     going-refused c.args.by c.args.bytes.now i.at i.bytes i.table i.invariant e (search rules) c.slide_front.ensures
-    c.requires.0 c.in-Refused.is c.requires.1
+    c.requires.0 c.in-Err.is c.requires.1
 
 pub returns : goal.returns
 returns c =

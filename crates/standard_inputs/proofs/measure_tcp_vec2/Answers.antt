@@ -1,5 +1,6 @@
 -- A turn: the frame at `at` is measured, and counted or refused.
-use mathlib.Core.Path.{◌≡◌}
+use Rattle.std.specs.Prelude.{Ok, Err}
+use mathlib.Core.Path.{◌≡◌, ap, ◌∙◌}
 use mathlib.Core.Bool.{false}
 use mathlib.Core.List.{List}
 use Prim.Native.Nat.{ℕ, ◌-◌, ◌<◌}
@@ -10,7 +11,7 @@ use Rattle.argument.specs.CodeParts.{StandsAt}
 use Rattle.measure.specs.CodeMeasure.{node_dirt}
 use Rattle.framing.specs.Framing.{cut_frame}
 use Rattle.standard_inputs.specs.CodeStreams.{cut_extent}
-use Rattle.standard_inputs.specs.declared.CutExtent.{CutExtent}
+use Rattle.standard_inputs.specs.Results.{CutExtent}
 use Rattle.standard_inputs.proofs.Cuts.{FramesCounted, Turn, none-counted, all-counted, only-counted, stop-counted}
 use Rattle.standard_inputs.proofs.Cuts.{tree-passed, waits-here, fault-low, unreadable-here, refused-here}
 use Rattle.standard_inputs.proofs.measure_tcp_vec2.Goals as goal
@@ -40,56 +41,56 @@ loop-at-init c = none-counted _ _
 pub returns : goal.returns
 returns c = all-counted c.loop-at.invariant (search rules)
 
-pub returns-in-Waiting : goal.returns-in-Waiting
-returns-in-Waiting c =
+pub returns-in-Ok-None : goal.returns-in-Ok-None
+returns-in-Ok-None c =
     let t = turn c.args.depth c.args.msg.now c.loop-at.at c.loop-at.count c.loop-at.dirt c.loop-at.invariant c.loop-at-test.true
     c.measure_cut.result c.measure_cut.ensures in
-    waits-here t c.in-Waiting.is (only-counted _ _ _)
+    waits-here t (c.in-Ok-None.is ∙ ap Ok c.in-Ok-None.field-0-is) (only-counted _ _ _)
 
 pub overflow_add-count : goal.overflow_add-count
 overflow_add-count c =
     let t = turn c.args.depth c.args.msg.now c.loop-at.at c.loop-at.count c.loop-at.dirt c.loop-at.invariant c.loop-at-test.true
     c.measure_cut.result c.measure_cut.ensures in
-    omega (arith, tree-passed t c.in-Tree.is)
+    omega (arith, tree-passed t (c.in-Ok-Some.is ∙ ap Ok c.in-Ok-Some.field-0-is))
 
 pub overflow_add-dirt : goal.overflow_add-dirt
 overflow_add-dirt c =
     let t = turn c.args.depth c.args.msg.now c.loop-at.at c.loop-at.count c.loop-at.dirt c.loop-at.invariant c.loop-at-test.true
     c.measure_cut.result c.measure_cut.ensures in
-    omega (arith, tree-passed t c.in-Tree.is)
+    omega (arith, tree-passed t (c.in-Ok-Some.is ∙ ap Ok c.in-Ok-Some.field-0-is))
 
 pub overflow_add-at : goal.overflow_add-at
 overflow_add-at c =
     let t = turn c.args.depth c.args.msg.now c.loop-at.at c.loop-at.count c.loop-at.dirt c.loop-at.invariant c.loop-at-test.true
     c.measure_cut.result c.measure_cut.ensures in
-    omega (arith, tree-passed t c.in-Tree.is)
+    omega (arith, tree-passed t (c.in-Ok-Some.is ∙ ap Ok c.in-Ok-Some.field-0-is))
 
 pub loop-at-smaller : goal.loop-at-smaller
 loop-at-smaller c =
     let t = turn c.args.depth c.args.msg.now c.loop-at.at c.loop-at.count c.loop-at.dirt c.loop-at.invariant c.loop-at-test.true
     c.measure_cut.result c.measure_cut.ensures in
-    omega (arith, tree-passed t c.in-Tree.is)
+    omega (arith, tree-passed t (c.in-Ok-Some.is ∙ ap Ok c.in-Ok-Some.field-0-is))
 
 pub loop-at-preserved : goal.loop-at-preserved
 loop-at-preserved c =
     let t = turn c.args.depth c.args.msg.now c.loop-at.at c.loop-at.count c.loop-at.dirt c.loop-at.invariant c.loop-at-test.true
     c.measure_cut.result c.measure_cut.ensures in
-    (tree-passed t c.in-Tree.is).1
+    (tree-passed t (c.in-Ok-Some.is ∙ ap Ok c.in-Ok-Some.field-0-is)).1
 
 pub moved-requires : goal.moved-requires
 moved-requires c =
     let t = turn c.args.depth c.args.msg.now c.loop-at.at c.loop-at.count c.loop-at.dirt c.loop-at.invariant c.loop-at-test.true
     c.measure_cut.result c.measure_cut.ensures in
-    omega (arith, fault-low t c.in-Unreadable.is)
+    omega (arith, fault-low t (c.in-Err-Unreadable.is ∙ ap Err c.in-Err-Unreadable.field-0-is))
 
-pub returns-in-Unreadable : goal.returns-in-Unreadable
-returns-in-Unreadable c =
+pub returns-in-Err-Unreadable : goal.returns-in-Err-Unreadable
+returns-in-Err-Unreadable c =
     let t = turn c.args.depth c.args.msg.now c.loop-at.at c.loop-at.count c.loop-at.dirt c.loop-at.invariant c.loop-at-test.true
     c.measure_cut.result c.measure_cut.ensures in
-    unreadable-here t c.in-Unreadable.is c.moved.ensures (stop-counted c.stop.ensures)
+    unreadable-here t (c.in-Err-Unreadable.is ∙ ap Err c.in-Err-Unreadable.field-0-is) c.moved.ensures (stop-counted c.stop.ensures)
 
-pub returns-in-Refused : goal.returns-in-Refused
-returns-in-Refused c =
+pub returns-in-Err-Refused : goal.returns-in-Err-Refused
+returns-in-Err-Refused c =
     let t = turn c.args.depth c.args.msg.now c.loop-at.at c.loop-at.count c.loop-at.dirt c.loop-at.invariant c.loop-at-test.true
     c.measure_cut.result c.measure_cut.ensures in
-    refused-here t c.in-Refused.is (stop-counted c.stop-in-Refused.ensures)
+    refused-here t (c.in-Err-Refused.is ∙ ap Err c.in-Err-Refused.field-0-is) (stop-counted c.stop-in-Err-Refused.ensures)

@@ -15,7 +15,7 @@ use Rattle.heads.specs.Heads.{prefix_of}
 use Rattle.heads.specs.declared.Prefix.TheVariants as prefix
 use Rattle.framing.specs.Framing.{Whole, trees, udp, read_frame, tcp}
 use Rattle.answering.specs.Limits.{decoded}
-use Rattle.results.specs.declared.Decoded.TheVariants as decoder
+use Rattle.results.specs.Results as decoder
 use Rattle.osc10.specs.Osc10.{Packet, Allowed, deep, osc_int32, StandsFor}
 use Rattle.standards.specs.Standards.{osc_frame, AcceptedAs, Osc10Accepted, FrameAccepted}
 use Rattle.wire.proofs.Numbers.{length-bytes, read-written}

@@ -19,7 +19,7 @@ use Rattle.node.specs.declared.record.Item.{Item}
 use Rattle.values.specs.Look.{look_at}
 use Rattle.values.specs.declared.value.OscType.{OscType}
 use Rattle.values.specs.declared.value.OscType.TheVariants.{Int}
-use Rattle.values.specs.declared.look.Looked.TheVariants.{Value}
+use Rattle.std.specs.Prelude.{Ok}
 use Rattle.text.specs.Text.{read_text}
 use Rattle.argument.specs.Argument.{arg_item, read_arg}
 use Rattle.argument.specs.Dirt.{dirty_in}
@@ -215,9 +215,9 @@ i-seen : {l : List ℕ} {x : ℕ} {v : OscType} → Seen l (argument (word 105 x
 i-seen as_i = refl
 
 -- so record 4 is -1
-minus_one : look_at (table_after udp deepest mixed-bytes (replicate 120 0)) 4 ≡ Value (Int (negsuc 0))
+minus_one : look_at (table_after udp deepest mixed-bytes (replicate 120 0)) 4 ≡ Ok (Int (negsuc 0))
 unfolding LookAs entries_of argument_entries
-minus_one = let r = mixed-seen.looks.1.1.1.1.0 in r.looked ∙ ap (λ (v : OscType). Value v) (i-seen r.seen)
+minus_one = let r = mixed-seen.looks.1.1.1.1.0 in r.looked ∙ ap (λ (v : OscType). Ok v) (i-seen r.seen)
 
 -- its tree over its own bytes
 abbrev address : Item

@@ -22,7 +22,7 @@ use Rattle.answering.specs.Limits.{forest_of}
 use Rattle.edition.specs.declared.Framing.{Framing}
 use Rattle.edition.specs.declared.Edition.TheVariants.{Rosc}
 use Rattle.edition.specs.declared.Framing.TheVariants.{Udp, Tcp}
-use Rattle.results.specs.declared.Decoded.TheVariants.{Packets}
+use Rattle.results.specs.Results.{Packets}
 use Rattle.calls.specs.Demands.{table_after, answer_to}
 use Rattle.osc10.specs.Osc10.{Atom, word, long, bare, string, blob, char, OscArguments, end, atom, array, Packet, message, bundle, none}
 use Rattle.osc10.specs.Osc10.{also, words, longs, bares, AtomAllowed, ArgumentsAllowed, Allowed, AllAllowed, RangeHolds, AtomIs, ArrayIs}

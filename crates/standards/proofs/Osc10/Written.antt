@@ -16,7 +16,7 @@ use Rattle.table.specs.Tree.{Obeys, IsTree, FieldsFit}
 use Rattle.writers.specs.Osc.{write_packet}
 use Rattle.encoder.specs.Outcome.{Outcome, Encodes, formed, unframed, framed_by, prefixed, tree_outcome, bytes_outcome}
 use Rattle.edition.specs.declared.Edition.TheVariants.{Standard}
-use Rattle.results.specs.declared.Encoded.TheVariants.{Written}
+use Rattle.std.specs.Prelude.{Ok}
 use Rattle.osc10.specs.Words.{Bytes}
 use Rattle.osc10.specs.Strict.{StrictTree}
 use Rattle.osc10.specs.Osc10.{Spelled}
@@ -30,7 +30,7 @@ use Rattle.standards.proofs.Trip.Tables.{spans_fit}
 
 -- what is answered as written stands at the front of the output
 abbrev Holds : List ℕ → Outcome → Type 0
-Holds bs o = (n : ℕ) → o.answer ≡ Written n → take n o.out ≡ bs
+Holds bs o = (n : ℕ) → o.answer ≡ Ok n → take n o.out ≡ bs
 
 held : (bs out : List ℕ) → Holds bs (bytes_outcome bs out)
 unfolding bytes_outcome
@@ -61,7 +61,7 @@ pub written_all : (frame : ℕ → List ℕ → List ℕ) (source out : List ℕ
     → depth (node item inside nil) ≤ deepest
     → length (frame item.kind (write_packet source item inside)) ≤ longest
     → length (frame item.kind (write_packet source item inside)) ≤ length out
-    → (tree_outcome frame source out item inside).answer ≡ Written (length (frame item.kind (write_packet source item inside)))
+    → (tree_outcome frame source out item inside).answer ≡ Ok (length (frame item.kind (write_packet source item inside)))
 unfolding tree_outcome bytes_outcome
 written_all frame source out item inside d n h =
     let bs = frame item.kind (write_packet source item inside) in
@@ -80,7 +80,7 @@ module _ (Given : List ℕ → Item → Forest → Type 0) (Is : List ℕ → It
   -- holds of what is written
   pub of-written : (frame : ℕ → List ℕ → List ℕ) → OfBytes frame Given Is → OfWritten frame Given Is
   of-written frame is t count source item inside small bytes w g out r e n q =
-      let q' : (tree_outcome frame source out item inside).answer ≡ Written n = rw (outcome-is frame w e) at q in
+      let q' : (tree_outcome frame source out item inside).answer ≡ Ok n = rw (outcome-is frame w e) at q in
       rw (outcome-is frame w e, written_held frame source out item inside n q')
       (is source bytes item inside w.obeys (spans_fit t small 0 count (node item inside nil) w.spans) g)
 

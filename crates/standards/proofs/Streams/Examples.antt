@@ -4,7 +4,7 @@ use mathlib.Core.Path.{refl}
 use mathlib.Core.List.{List, [], ◌++◌}
 use Prim.Native.Nat.{ℕ}
 use native.Mathlib.Omega.{arith}
-use lib.ListN.{length, take, replicate}
+use lib.ListN.{take, replicate}
 use Rattle.edition.specs.declared.Edition.TheVariants.{Standard}
 use Rattle.wire.specs.Limits.{deepest}
 use Rattle.wire.specs.Number.{bytes}
@@ -15,7 +15,7 @@ use Rattle.strings.specs.Atomic.{osc_string}
 use Rattle.writers.specs.Osc.{write_element, write_data, write_tags, write_message, write_packet}
 use Rattle.encoder.specs.Outcome.{formed, framed_by, tree_outcome, bytes_outcome}
 use Rattle.table.proofs.Examples as p3
-use Rattle.osc10.specs.Osc10.{Packets, none, also, AllAllowed, deep, arguments_deep, Spelled}
+use Rattle.osc10.specs.Osc10.{none, also, AllAllowed, deep, arguments_deep, Spelled}
 use Rattle.osc10.specs.Strict.{StrictNode, StrictForest}
 use Rattle.osc10.proofs.Strict.{strict_allowed}
 use Rattle.standards.specs.Standards.{osc_frame, AcceptedAs, SeenIn, SpelledStrictly, FrameOf}

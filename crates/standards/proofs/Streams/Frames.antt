@@ -13,24 +13,23 @@ use Rattle.wire.proofs.Numbers.{length-bytes, read-written}
 use Rattle.node.specs.Forest.{Forest, nil, node, depth}
 use Rattle.node.specs.declared.record.Item.{Item}
 use Rattle.heads.specs.Heads.{length_of}
-use Rattle.heads.specs.declared.Length.TheVariants as cut
+use Rattle.heads.specs.Results as cut
 use Rattle.heads.proofs.Heads.{length-known, length-cuts}
 use Rattle.packet.specs.Packet.{read_packet, one}
-use Rattle.framing.specs.Framing.{trees, read, cut_with, cut_frame, tcp2}
+use Rattle.framing.specs.Framing.{trees, read, cut_frame, tcp2}
 use Rattle.edition.specs.declared.Framing.TheVariants.{Tcp}
 use Rattle.writers.specs.Osc.{write_element, write_packet}
 use Rattle.writers.proofs.Lengths.{packet-even, element-even}
 use Rattle.encoder.specs.Outcome.{framed_by, tree_outcome}
-use Rattle.osc10.specs.Osc10.{Packet, Packets, Allowed, deep, osc_int32, Spells, as_message, as_bundle, ElementsSpell, no_element, element}
+use Rattle.osc10.specs.Osc10.{Packet, Packets, osc_int32, Spells, as_message, as_bundle, ElementsSpell, no_element, element}
 use Rattle.osc10.specs.Osc10.{Spelled}
 use Rattle.osc10.specs.Strict.{StrictTree}
 use Rattle.osc10.proofs.Arguments.{arguments-even}
-use Rattle.osc10.proofs.Placed.{At, at_all, at_back}
 use Rattle.osc10.proofs.Packets.{packet-read}
 use Rattle.osc10.proofs.Clean.{call_clean}
 use Rattle.osc10.proofs.Depth.{tree-deep}
 use Rattle.osc10.proofs.Spelled.{packet-is}
-use Rattle.standards.specs.Standards.{osc_frame, AcceptedAs, CleanTree, SpelledStrictly, FrameOf}
+use Rattle.standards.specs.Standards.{osc_frame, CleanTree, SpelledStrictly, FrameOf}
 use Rattle.standards.specs.Streams.{CutAccepted, CutSeen, CutWritten, StrictCutWritten, CutTrip}
 use Rattle.standards.proofs.Osc10.Accepted.{accept, frame_at}
 use Rattle.standards.proofs.Osc10.Seen.{seen_as}

@@ -1,22 +1,21 @@
 -- A stream of frames in edition 2: it is accepted as its packets; and frames that were written one after another are read back as the same
 -- trees.
-use mathlib.Core.Path.{◌≡◌, refl, sym, ap, subst, ◌∙◌}
+use mathlib.Core.Path.{◌≡◌, refl, ◌∙◌}
 use mathlib.Core.List.{List, [], ◌++◌}
-use Prim.Native.Nat.{ℕ, ◌+◌, ◌^◌, ◌≤◌, ◌<◌, max}
+use Prim.Native.Nat.{ℕ, ◌+◌, ◌^◌, ◌≤◌, ◌<◌}
 use native.Mathlib.Omega.{arith}
 use lib.ListN.{length, drop, length-append}
 use lib.Seq.{drop_at}
 use Rattle.wire.specs.Limits.{longest, deepest}
 use Rattle.wire.proofs.Numbers.{length-bytes}
-use Rattle.node.specs.Forest.{Forest, nil, node, size, depth}
-use Rattle.node.specs.declared.record.Item.{Item}
+use Rattle.node.specs.Forest.{Forest, nil, node, depth}
 use Rattle.argument.specs.Dirt.{packets_padding, dirty_in}
 use Rattle.argument.proofs.Pads.{packets-join, one-packet}
 use Rattle.framing.specs.Framing.{trees, tcp_vec2}
 use Rattle.framing.proofs.Lists.{vec2-remaining}
 use Rattle.decoder.proofs.Cuts.{rest_of, rest-tree}
 use Rattle.writers.specs.Osc.{write_packet}
-use Rattle.osc10.specs.Osc10.{Packets, none, also, AllAllowed, deep, osc_int32, StandFor, no_packet, packet, Spelled}
+use Rattle.osc10.specs.Osc10.{Packets, none, also, AllAllowed, osc_int32, StandFor, no_packet, packet, Spelled}
 use Rattle.osc10.proofs.Placed.{At, at_all, at_front, at_back}
 use Rattle.osc10.proofs.Packets.{packet-read}
 use Rattle.osc10.proofs.Clean.{call_clean}

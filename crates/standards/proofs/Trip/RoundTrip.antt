@@ -9,11 +9,11 @@ use Rattle.wire.specs.Limits.{longest, deepest}
 use Rattle.node.specs.Forest.{Forest, nil, node, size, depth}
 use Rattle.node.specs.Records.{capacity}
 use Rattle.node.specs.declared.record.Item.{Item}
-use Rattle.framing.specs.Framing.{udp, rule_of}
+use Rattle.framing.specs.Framing.{rule_of}
 use Rattle.edition.specs.declared.Framing.{Framing}
-use Rattle.answering.specs.Limits.{decoded, forest_of}
+use Rattle.answering.specs.Limits.{forest_of}
 use Rattle.edition.specs.declared.Framing.TheVariants.{Udp}
-use Rattle.results.specs.declared.Decoded.TheVariants.{Packets}
+use Rattle.results.specs.Results.{Packets}
 use Rattle.table.specs.Tree.{IsTree, FieldsFit}
 use Rattle.writers.specs.Osc.{write_packet}
 use Rattle.encoder.specs.Outcome.{unframed, tree_outcome}

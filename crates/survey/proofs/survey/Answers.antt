@@ -2,14 +2,24 @@
 use native.Mathlib.Omega.{arith}
 use Rattle.survey.proofs.Packets.{no-tree, tree-surveyed}
 use Rattle.survey.proofs.survey.Goals as goal
+use Rattle.survey.proofs.survey.Goals.{then-count-eq0-via-then-count-eq0}
+use Rattle.survey.proofs.survey.Goals.{then-count-eq0-via-else-count-eq0+then-count-gt-MOST_RECORDS}
+use Rattle.survey.proofs.survey.Goals.{then-count-eq0-via-else-count-eq0+else-count-gt-MOST_RECORDS+then-capacity_of-count}
+use Rattle.survey.proofs.survey.Goals.{
+  then-count-eq0-via-else-count-eq0+else-count-gt-MOST_RECORDS+else-capacity_of-count+then-field_at-count,
+}
 
 pub returns-then-count-eq0 : goal.returns-then-count-eq0
 returns-then-count-eq0 c =
-    no-tree (λ w. omega (arith, w.some, c.if-count-eq0.true))
-
-pub returns-then-field_at-count : goal.returns-then-field_at-count
-returns-then-field_at-count c =
-    no-tree (λ w. omega (arith, w.whole, c.if-field_at-count.true, c.field_at.ensures))
+    elim c.then-count-eq0.branch [
+      | then-count-eq0-via-then-count-eq0 w ↦ no-tree (λ f. omega (arith, f.some, w.if-count-eq0.true))
+      | then-count-eq0-via-else-count-eq0+then-count-gt-MOST_RECORDS w ↦
+          no-tree (λ f. omega (arith, f.few, w.if-count-gt-MOST_RECORDS.true))
+      | then-count-eq0-via-else-count-eq0+else-count-gt-MOST_RECORDS+then-capacity_of-count w ↦
+          no-tree (λ f. omega (arith, f.fits, w.if-capacity_of-count.true, w.capacity_of.ensures))
+      | then-count-eq0-via-else-count-eq0+else-count-gt-MOST_RECORDS+else-capacity_of-count+then-field_at-count w ↦
+          no-tree (λ f. omega (arith, f.whole, w.if-field_at-count.true, w.field_at.ensures))
+    ]
 
 pub returns : goal.returns
 returns c =

@@ -21,6 +21,5 @@ returns c =
         c.field_at-end.ensures,
         c.requires.1.on,
         c.requires.1.low,
-        c.type_inv,
       ),
     )

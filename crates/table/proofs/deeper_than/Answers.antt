@@ -7,12 +7,12 @@ use Rattle.table.proofs.deeper_than.Goals.{then-is_level+else-levels-limit, else
 pub loop-at-init : goal.loop-at-init
 loop-at-init c = passed_none _ c.requires.0 refl refl
 
-pub loop-at-preserved-then-ends-levels : goal.loop-at-preserved-then-ends-levels
-loop-at-preserved-then-ends-levels c = passed-end c.loop-at.invariant c.if-ends-levels.true c.loop-at-test.true
+pub loop-levels-preserved : goal.loop-levels-preserved
+loop-levels-preserved c = passed-end c.loop-levels.invariant c.loop-levels-test.true c.loop-at-test.true
 
 pub returns-then-levels-limit : goal.returns-then-levels-limit
 returns-then-levels-limit c =
-    found c.loop-at.invariant c.kind_at.ensures c.if-ends-levels.false (sym c.is_level.ensures ∙ c.if-is_level.true)
+    found c.loop-levels.invariant c.kind_at.ensures c.loop-levels-test.false (sym c.is_level.ensures ∙ c.if-is_level.true)
     c.if-levels-limit.true
 
 pub loop-at-preserved : goal.loop-at-preserved
@@ -21,10 +21,10 @@ loop-at-preserved c =
     let is = c.is_level.ensures in
     elim c.if-is_level.branch [
       | then-is_level+else-levels-limit w ↦
-          rw (w.ends-is, w.levels-is) (passed-level c.loop-at.invariant kind c.if-ends-levels.false (sym is ∙ w.if-is_level.true)
+          rw (w.ends-is, w.levels-is) (passed-level c.loop-levels.invariant kind c.loop-levels-test.false (sym is ∙ w.if-is_level.true)
           w.field_at.ensures w.if-levels-limit.false c.requires.1)
       | else-is_level w ↦
-          rw (w.ends-is, w.levels-is) (passed-into c.loop-at.invariant kind c.if-ends-levels.false (sym is ∙ w.if-is_level.false))
+          rw (w.ends-is, w.levels-is) (passed-into c.loop-levels.invariant kind c.loop-levels-test.false (sym is ∙ w.if-is_level.false))
     ]
 
 pub returns : goal.returns

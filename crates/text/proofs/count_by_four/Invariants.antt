@@ -2,10 +2,12 @@
 use Prim.Native.Nat.{◌-◌}
 use lib.ListN.{length}
 use Rattle.text.specs.CodePlain.{stops_at, Passed}
+use denote.Param.{number}
+use Rattle.text.specs.contracts.count_by_four.{HIGH-type}
 use Rattle.text.proofs.count_by_four.Given as goal
 
 abbrev pub invariant-loop-at : goal.invariant-loop-at
-invariant-loop-at l = Passed (stops_at l.high) l.at l.input
+invariant-loop-at g l = Passed (stops_at (HIGH-type (number g.row.HIGH))) l.at l.input
 
 abbrev pub decreases-loop-at : goal.decreases-loop-at
-decreases-loop-at l = length l.input - l.at
+decreases-loop-at g l = length l.input - l.at

@@ -1,11 +1,9 @@
--- `text::count_few` meets its contract. The invariant: none of the bytes before `at` stops the scan.
-use Prim.Native.Nat.{◌-◌}
-use lib.ListN.{length}
+-- `text::count_few` meets its contract. The invariant: none of the bytes that were looked at stops the scan.
+use Prim.Native.Nat.{◌+◌}
 use Rattle.text.specs.CodePlain.{stops_at, Passed}
+use denote.Param.{number}
+use Rattle.text.specs.contracts.count_few.{HIGH-type}
 use Rattle.text.proofs.count_few.Given as goal
 
-abbrev pub invariant-loop-at : goal.invariant-loop-at
-invariant-loop-at l = Passed (stops_at l.high) l.at l.input
-
-abbrev pub decreases-loop-at : goal.decreases-loop-at
-decreases-loop-at l = length l.input - l.at
+abbrev pub invariant-loop-i : goal.invariant-loop-i
+invariant-loop-i g l = Passed (stops_at (HIGH-type (number g.row.HIGH))) (l.start + l.i) l.input

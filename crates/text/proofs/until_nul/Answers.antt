@@ -3,4 +3,4 @@ use Rattle.text.proofs.Passing.{nul-count}
 use Rattle.text.proofs.until_nul.Goals as goal
 
 pub returns : goal.returns
-returns c = omega (arith, nul-count c.args.input.now, c.count_by_four.ensures)
+returns c = omega (arith, nul-count c.args.input.now, c.count_to.ensures)

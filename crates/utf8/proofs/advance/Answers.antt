@@ -1,16 +1,16 @@
 use mathlib.Core.Path.{◌∙◌}
-use borrow.Author.Rules.{rules}
 use Rattle.utf8.proofs.Steps.{entry-within, turn}
 use Rattle.utf8.proofs.advance.Goals as goal
 
-pub loop-i-preserved : goal.loop-i-preserved
-loop-i-preserved c =
-    let l = c.loop-i in
-    let (row, same) = turn _ _ c.requires.0 c.requires.1 l.state c.args.s.now l.i l.invariant.1
-    (c.type_inv.s l.i).fits c.loop-i-test.true in
-    (search rules, row, λ rest. same rest ∙ l.invariant.2 rest)
+pub loop-byte-preserved : goal.loop-byte-preserved
+loop-byte-preserved c =
+    let l = c.loop-byte in
+    let (row, same) = turn _ _ c.requires.0 c.requires.1 l.state c.args.s.now l.byte-index l.invariant.0
+    (c.type_inv.s l.byte-index).fits c.loop-byte-test.true in
+    (row, λ rest. same rest ∙ l.invariant.1 rest)
 
 -- The entry of this turn stands in the table.
 pub bounds-next-state : goal.bounds-next-state
 bounds-next-state c =
-    entry-within _ _ c.requires.0 c.requires.1 c.loop-i.state _ c.loop-i.invariant.1 (c.type_inv.s c.loop-i.i).fits
+    let l = c.loop-byte in
+    entry-within _ _ c.requires.0 c.requires.1 l.state _ l.invariant.0 (c.type_inv.s l.byte-index).fits

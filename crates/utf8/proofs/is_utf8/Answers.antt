@@ -8,9 +8,7 @@ returns-then-n-le64 c = none-high _ (sym c.high_in_few.ensures ∙ c.if-high_in_
 
 pub returns-then-highest-lt128 : goal.returns-then-highest-lt128
 returns-then-highest-lt128 c =
-    all-passed _ _ c.plain_front-at.ensures (omega arith) c.if-n-at-le64.true
-    (rw c.highest.ensures at c.if-highest-lt128.true)
+    all-passed _ _ c.after_plain-rest.ensures (omega arith) c.if-rest-le64.true (rw c.highest.ensures at c.if-highest-lt128.true)
 
 pub returns : goal.returns
-returns c =
-    judged _ _ c.plain_front-at.ensures.1 c.walk-2.ensures
+returns c = judged _ c.after_plain-rest.result.now c.after_plain-rest.ensures c.walk-2.ensures

@@ -1,11 +1,10 @@
--- `utf8::skip` meets its contract. The invariant: the bytes before `at` are below 0x80. The measure is how many are left.
-use Prim.Native.Nat.{◌≤◌, ◌<◌, ◌-◌}
-use lib.ListN.{length, take}
-use Rattle.utf8.specs.CodeHighest.{highest_of}
+-- `utf8::skip` meets its contract. The invariant: the bytes before those that are left are below 0x80. The measure is how many are left.
+use lib.ListN.{length}
+use Rattle.utf8.proofs.Plain.{After}
 use Rattle.utf8.proofs.skip.Given as goal
 
-abbrev pub invariant-loop-at : goal.invariant-loop-at
-invariant-loop-at l = (l.at ≤ length l.s) × (highest_of 0 (take l.at l.s) < 0x80)
+abbrev pub invariant-loop-rest : goal.invariant-loop-rest
+invariant-loop-rest l = After l.s l.rest
 
-abbrev pub decreases-loop-at : goal.decreases-loop-at
-decreases-loop-at l = length l.s - l.at
+abbrev pub decreases-loop-rest : goal.decreases-loop-rest
+decreases-loop-rest l = length l.rest

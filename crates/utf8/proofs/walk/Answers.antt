@@ -1,14 +1,15 @@
-use borrow.Author.Rules.{rules}
 use Rattle.utf8.proofs.Steps.{onward, answer}
 use Rattle.utf8.proofs.walk.Goals as goal
 
-pub loop-at-preserved : goal.loop-at-preserved
-loop-at-preserved c =
-    let l = c.loop-at in
-    let r = c.across-state.ensures in
-    (search rules, r.0, onward l.state _ _ l.at 32 r l.invariant.2)
-
 pub returns : goal.returns
 returns c =
-    let l = c.loop-at in
-    answer l.state _ _ l.at c.advance.ensures l.invariant.2
+    let l = c.loop-block in
+    answer l.state _ l.left.now c.args.s.now c.advance.ensures l.invariant.1
+
+pub loop-block-preserved : goal.loop-block-preserved
+loop-block-preserved c =
+    let l = c.loop-block in
+    let parts = c.in-Some.ensures.cases in (
+      c.across-state.ensures.0,
+      onward l.state _ 32 l.left.now c.in-Some.block.now c.in-Some.later.now parts.0 parts.1 c.across-state.ensures l.invariant.1,
+    )

@@ -1,5 +1,6 @@
 -- The loop keeps which of the bundle's elements are written and which are left. The number of records falls, and a packet stands above
 -- the bundle at the same record.
+use mathlib.Core.Path.{◌≡◌}
 use Prim.Native.Nat.{◌+◌, ◌-◌, ◌*◌}
 use Rattle.node.specs.Records.{end_at}
 use Rattle.writers.specs.Osc.{write_elements}
@@ -15,8 +16,6 @@ decreases-encode_packet l = 2 * (end_at l.table.now l.at - l.at) + 1
 
 abbrev pub invariant-encode_bundle-loop-next : goal.invariant-encode_bundle-loop-next
 invariant-encode_bundle-loop-next l =
-    Going (SoundIn l.source) (packet_at l.source l.table l.at) (write_elements l.source) l.table (l.at + 1) l.end l.initial.out l.out l.next
-    l.written
-
-abbrev pub decreases-encode_bundle-loop-next : goal.decreases-encode_bundle-loop-next
-decreases-encode_bundle-loop-next l = l.end - l.next
+    (l.next-iterator.table.now ≡ l.table) × (l.next-iterator.hi ≡ l.end)
+    × Going (SoundIn l.source) (packet_at l.source l.table l.at) (write_elements l.source) l.table (l.at + 1) l.end l.initial.out l.out
+    l.next-iterator.at l.written

@@ -1,22 +1,31 @@
 -- The first record that differs is told; where none does, all of them fit.
-use borrow.Author.Rules.{rules}
-use mathlib.Core.Path.{sym, ◌∙◌}
-use mathlib.Core.Bool.{false≢true}
+use Rattle.std.proofs.Common.{◌≡◌, ◌<◌, ◌≤◌, ◌*◌, length, max, sym, ◌∙◌, arith}
+use Rattle.std.proofs.lemmas.Grind.{common_steps}
+use Rattle.std.specs.Cmp.Lexicographic.{same_text, other_text}
+use Rattle.cues.specs.Cues.{entry_size}
 use Rattle.cues.proofs.Checks.{differs_at, passed-at, all_fit}
 use Rattle.cues.proofs.checked.compare.Goals as goal
 
-pub returns-then-not-same : goal.returns-then-not-same
-returns-then-not-same c =
-    differs_at c.args.fresh.now c.args.given.now c.loop-k.k c.loop-k.invariant.1 (search rules)
-    (λ z. false≢true (sym c.if-not-same.true ∙ c.same.ensures.1 (c.entry_at.ensures ∙ z ∙ sym c.entry_at-in-loop-k.ensures)))
+pub returns-then-ne : goal.returns-then-ne
+returns-then-ne c =
+    let f = c.args.fresh.now in
+    let g = c.args.given.now in
+    let within : entry_size * c.loop-k.k < max (length f) (length g) = omega arith in
+    let differ : (c.entry_at.result.now ≡ c.entry_at-in-loop-k.result.now → ⊥) = grind (arith, common_steps, other_text) in
+    differs_at f g c.loop-k.k c.loop-k.invariant within (λ z. differ (c.entry_at.ensures ∙ z ∙ sym c.entry_at-in-loop-k.ensures))
 
 pub loop-k-preserved : goal.loop-k-preserved
-loop-k-preserved c = (
-  search rules,
-  passed-at c.args.fresh.now c.args.given.now c.loop-k.k c.loop-k.invariant.1 (search rules)
-      (sym c.entry_at.ensures ∙ c.same.ensures.0 c.if-not-same.false ∙ c.entry_at-in-loop-k.ensures),
-)
+loop-k-preserved c =
+    let f = c.args.fresh.now in
+    let g = c.args.given.now in
+    let within : entry_size * c.loop-k.k < max (length f) (length g) = omega arith in
+    let same : c.entry_at.result.now ≡ c.entry_at-in-loop-k.result.now = grind (arith, common_steps, same_text) in
+    passed-at f g c.loop-k.k c.loop-k.invariant within (sym c.entry_at.ensures ∙ same ∙ c.entry_at-in-loop-k.ensures)
 
 pub returns : goal.returns
 returns c =
-    all_fit c.args.fresh.now c.args.given.now c.loop-k.k c.loop-k.invariant.1 (search rules)
+    let f = c.args.fresh.now in
+    let g = c.args.given.now in
+    let e : c.loop-k.k ≡ c.div_ceil-count.result = omega arith in
+    let beyond : max (length f) (length g) ≤ entry_size * c.loop-k.k = omega arith in
+    rw (sym e) (all_fit f g c.loop-k.k c.loop-k.invariant beyond)

@@ -23,7 +23,7 @@ overflow_add-written c =
       arith,
       cut_written (cut-turn a.depth a.msg.now a.table.now l.table l.from l.written l.invariant.1 c.requires.msg_value
           c.loop-written-test.true
-          c.in-Wrote.ensures) refl,
+          c.in-Some.ensures) refl,
     )
 
 pub overflow_add-from : goal.overflow_add-from
@@ -34,7 +34,7 @@ overflow_add-from c =
       arith,
       cut_written (cut-turn a.depth a.msg.now a.table.now l.table l.from l.written l.invariant.1 c.requires.msg_value
           c.loop-written-test.true
-          c.in-Wrote.ensures) refl,
+          c.in-Some.ensures) refl,
     )
 
 pub loop-written-smaller : goal.loop-written-smaller
@@ -45,7 +45,7 @@ loop-written-smaller c =
       arith,
       cut_written (cut-turn a.depth a.msg.now a.table.now l.table l.from l.written l.invariant.1 c.requires.msg_value
           c.loop-written-test.true
-          c.in-Wrote.ensures) refl,
+          c.in-Some.ensures) refl,
     )
 
 pub loop-written-preserved : goal.loop-written-preserved
@@ -54,16 +54,16 @@ loop-written-preserved c =
     let l = c.loop-written in
     let w = cut_written (cut-turn a.depth a.msg.now a.table.now l.table l.from l.written l.invariant.1 c.requires.msg_value
     c.loop-written-test.true
-    c.in-Wrote.ensures) refl in
+    c.in-Some.ensures) refl in
     (w.within, w.listing)
 
-pub returns-in-Nothing : goal.returns-in-Nothing
-returns-in-Nothing c =
+pub returns-in-None : goal.returns-in-None
+returns-in-None c =
     let a = c.args in
     let l = c.loop-written in
     absurd (cut-not-nothing a.depth a.msg.now a.table.now l.table l.from l.written l.invariant.1 c.requires.msg_value
     c.loop-written-test.true
-    c.in-Nothing.ensures refl)
+    c.in-None.ensures refl)
 
 pub returns : goal.returns
 returns c = cuts-end c.args.depth c.args.msg.now c.loop-written.invariant.1 c.requires.msg_value (search rules)

@@ -13,21 +13,21 @@ pub decode_frame-requires-clause-table_room : goal.decode_frame-requires-clause-
 decode_frame-requires-clause-table_room c = frame-fits c.args.msg.now c.loop-at.invariant.1 c.loop-at-test.true
 
 pub overflow_add-count : goal.overflow_add-count
-overflow_add-count c = omega (arith, rosc-written (rosc_turn c.loop-at.invariant.1 c.loop-at-test.true c.in-Wrote.ensures) refl)
+overflow_add-count c = omega (arith, rosc-written (rosc_turn c.loop-at.invariant.1 c.loop-at-test.true c.in-Some.ensures) refl)
 
 pub overflow_add-at : goal.overflow_add-at
-overflow_add-at c = omega (arith, rosc-written (rosc_turn c.loop-at.invariant.1 c.loop-at-test.true c.in-Wrote.ensures) refl)
+overflow_add-at c = omega (arith, rosc-written (rosc_turn c.loop-at.invariant.1 c.loop-at-test.true c.in-Some.ensures) refl)
 
 pub loop-at-smaller : goal.loop-at-smaller
-loop-at-smaller c = omega (arith, rosc-written (rosc_turn c.loop-at.invariant.1 c.loop-at-test.true c.in-Wrote.ensures) refl)
+loop-at-smaller c = omega (arith, rosc-written (rosc_turn c.loop-at.invariant.1 c.loop-at-test.true c.in-Some.ensures) refl)
 
 pub loop-at-preserved : goal.loop-at-preserved
 loop-at-preserved c =
-    let w = rosc-written (rosc_turn c.loop-at.invariant.1 c.loop-at-test.true c.in-Wrote.ensures) refl in
+    let w = rosc-written (rosc_turn c.loop-at.invariant.1 c.loop-at-test.true c.in-Some.ensures) refl in
     (w.within, w.listing)
 
-pub returns-in-Nothing : goal.returns-in-Nothing
-returns-in-Nothing c = rosc-waits (rosc_turn c.loop-at.invariant.1 c.loop-at-test.true c.in-Nothing.ensures) refl
+pub returns-in-None : goal.returns-in-None
+returns-in-None c = rosc-waits (rosc_turn c.loop-at.invariant.1 c.loop-at-test.true c.in-None.ensures) refl
 
 pub returns : goal.returns
 returns c =

@@ -2,15 +2,12 @@
 use mathlib.Core.Path.{◌≡◌, ap, sym, ◌∙◌}
 use mathlib.Core.List.{List}
 use Prim.Native.Nat.{ℕ}
-use lib.ListN.{length}
-use Rattle.edition.specs.declared.Edition.TheVariants.{Rosc, Standard}
 use Rattle.edition.specs.declared.Framing.{Framing}
 use Rattle.edition.specs.declared.Framing.TheVariants.{Tcp}
 use Rattle.node.specs.Forest.{Forest}
 use Rattle.node.specs.Records.{stored}
 use Rattle.framing.specs.Framing.{rule_of}
 use Rattle.answering.specs.Limits.{forest_of}
-use Rattle.decoder.specs.CodeFrames.{Fillable}
 use Rattle.decoder.proofs.Answers.{fillable-by, stored-by, room_for, udp-tree, udp-known, tcp-tree}
 use Rattle.decoder.proofs.FrameFills.{tcp2-tree}
 use Rattle.decoder.proofs.frames.write.Goals as goal

@@ -1,5 +1,5 @@
 use mathlib.Core.Path.{◌∙◌, sym, ap}
-use Rattle.values.specs.declared.look.Looked.TheVariants.{Value}
+use Rattle.std.specs.Prelude.{Ok}
 use Rattle.values.proofs.Looks.{no_record, not-zero, breaks-rules, is-value}
 use Rattle.values.proofs.look.look.Goals as goal
 
@@ -12,7 +12,7 @@ returns-then-zeros_at-ne0 c =
 
 pub returns-then-own_rules : goal.returns-then-own_rules
 returns-then-own_rules c =
-    ap Value c.value_of.ensures
+    ap Ok c.value_of.ensures
     ∙ is-value _ _ c.zeros_at.ensures (rw c.capacity_of.ensures at c.if-capacity_of-index.false) c.if-zeros_at-ne0.false
     c.item_at-item.ensures (sym c.own_rules.ensures ∙ c.if-own_rules.true)
 

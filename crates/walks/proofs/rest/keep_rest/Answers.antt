@@ -1,20 +1,20 @@
-use Rattle.std.proofs.Common.{rules, refl, arith}
-use borrow.Author.Count.{below_none}
-use Rattle.walks.proofs.Moved.{moved_more, moved_all}
+-- What `copy_within` pastes over the front of the buffer is what stood from `from` up to `to`.
+use Rattle.std.proofs.Common.{◌≡◌, ℕ, ◌+◌, ◌-◌, ◌≤◌, List, length, take, drop, refl, sym, ◌∙◌, ap, arith}
+use Rattle.std.proofs.lemmas.List.{drop-take, length-drop}
+use Rattle.std.proofs.lemmas.List.Edits.{take-paste}
+use Rattle.std.specs.List.{copy_within}
 use Rattle.walks.proofs.rest.keep_rest.Goals as goal
 
-pub loop-j-init : goal.loop-j-init
-loop-j-init c = (refl, c.requires.0, omega arith, (below_none _, λ k h. refl))
-
-pub loop-j-preserved : goal.loop-j-preserved
-loop-j-preserved c =
-    let a = c.args in
-    let l = c.loop-j in
-    let more = moved_more a.from a.buf.now l.buf l.i l.j (search rules) l.invariant.2 l.invariant.3 in
-    (search rules, search rules, search rules, more)
+moved : (buf : List ℕ) (from to : ℕ) → from ≤ to → to ≤ length buf → take (to - from) (copy_within buf from to 0) ≡ drop from (take to buf)
+moved buf from to h i =
+    let n = to - from in
+    let e : to ≡ from + n = omega arith in
+    let z : n ≡ 0 + n = omega arith in
+    ap (λ (k : ℕ). take k (copy_within buf from to 0)) z
+    ∙ take-paste buf 0 (drop from buf) n (omega arith) (omega (arith, length-drop from buf))
+    ∙ sym (drop-take from n buf) ∙ ap (λ (k : ℕ). drop from (take k buf)) (sym e)
 
 pub returns : goal.returns
 returns c =
     let a = c.args in
-    let l = c.loop-j in
-    moved_all a.from a.to a.buf.now l.buf l.i l.invariant.0 c.requires.1 (search rules) l.invariant.3
+    record { count = refl; bytes = rw c.copy_within.ensures.after (moved a.buf.now a.from a.to c.requires.0 c.requires.1) }
