@@ -7,8 +7,6 @@ ghost use Rattle.clock.specs.Nearest.{fraction_of};
 ghost use Rattle.amounts.specs.Amounts.{joined_as, opposite_of, amount_of};
 
 use time_words::{Plain, plain_of, tag_in};
-use words::line::front;
-use words::numeral::Numeral;
 
 // The nearest fraction of a second, halves up.
 fn fraction_of(nanos: u64) -> u64
@@ -19,42 +17,37 @@ fn fraction_of(nanos: u64) -> u64
 }
 
 // Seconds and nanoseconds as one number: the seconds are at most 4,294,967,295.
-fn joined(plain: Plain) -> Numeral
+fn joined(plain: Option<Plain>) -> Option<u64>
     ensures { result ≡ joined_as plain }
 {
-    let Plain::Of(seconds, nanos) = plain else {
-        return Numeral::Unclear;
-    };
+    let Plain { seconds, nanos } = plain?;
     if 0xffff_ffff < seconds {
-        return Numeral::Unclear;
+        return None;
     }
     if 999_999_999 < nanos {
-        return Numeral::Unclear;
+        return None;
     }
-    Numeral::Is(seconds * 0x1_0000_0000 + fraction_of(nanos))
+    Some(seconds * 0x1_0000_0000 + fraction_of(nanos))
 }
 
 // The opposite of a number, modulo 2^64.
-fn opposite_of(amount: Numeral) -> Numeral
+fn opposite_of(amount: Option<u64>) -> Option<u64>
     ensures { result ≡ opposite_of amount }
 {
-    match amount {
-        Numeral::Is(x) => Numeral::Is(std::num::wrapping_sub_u64(0, x)),
-        Numeral::Unclear => Numeral::Unclear,
-    }
+    amount.map(|x| 0u64.wrapping_sub(x))
 }
 
 // The amount that a word says.
 //
 // Ruled out: seconds read as fractions of a second; a fraction rounded down; the sign of `-0.5` lost.
-pub fn amount_of(word: &[u8]) -> Numeral
+pub fn amount_of(word: &[u8]) -> Option<u64>
     ensures { result ≡ amount_of word.now }
 {
-    if check::same(front(word, 4), b"hex:") {
-        return tag_in(&word[4..]);
+    match word.strip_prefix(b"hex:") {
+        Some(digits) => tag_in(digits),
+        None => match word.strip_prefix(b"-") {
+            Some(rest) => opposite_of(joined(plain_of(rest))),
+            None => joined(plain_of(word)),
+        },
     }
-    if check::same(front(word, 1), b"-") {
-        return opposite_of(joined(plain_of(&word[1..])));
-    }
-    joined(plain_of(word))
 }

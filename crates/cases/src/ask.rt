@@ -1,18 +1,18 @@
 // One case: `CALL NUMBER RECORDS BYTES INPUT TABLE = ANSWER`. What is lent has room for so many records and so many bytes more.
 ghost use Rattle.std.specs.Prelude.{◌≤◌};
 
-use crate::call::Outcome;
+use crate::call::{Call, Outcome};
 use crate::{call, expected};
 use spelled::listed::{is_table, put_table, size_of};
 use spelled::{is_bytes, put_bytes};
 use words::line::{front, start, word};
 use words::numeral::number;
 
-// What a case met: whether it is right, what was answered, and the sum of what was lent.
-#[derive(Clone, Copy)]
+// What a case met: whether it is right, what was answered (none: the case is not understood), and the sum of what was lent.
+#[derive(Clone, Copy, Debug, PartialEq, Eq)]
 pub struct Found {
     pub is_right: bool,
-    pub outcome: Outcome,
+    pub outcome: Option<Outcome>,
     pub sum: u64,
 }
 
@@ -20,28 +20,19 @@ pub struct Found {
 fn unclear() -> Found {
     Found {
         is_right: false,
-        outcome: call::empty(call::UNKNOWN),
+        outcome: None,
         sum: 0,
     }
 }
 
 // Whether an answer is the one that is wanted, and is known.
-fn is_same(found: Outcome, wanted: Outcome) -> bool {
-    if found.answer == call::UNKNOWN {
-        return false;
-    }
-    found.answer == wanted.answer
-        && found.count == wanted.count
-        && found.left == wanted.left
-        && found.dirty == wanted.dirty
-        && found.number == wanted.number
-        && found.offset == wanted.offset
-        && found.frame == wanted.frame
+fn is_same(found: Option<Outcome>, wanted: Option<Outcome>) -> bool {
+    found.is_some() && found == wanted
 }
 
 // Compares an answer, and every byte of what was lent, with what is expected, which is put into `space`: what is not given is to be as
 // it was.
-fn judged(outcome: Outcome, lent: &[u8], expected: &[u8], space: &mut [u8]) -> Found {
+fn judged(outcome: Option<Outcome>, lent: &[u8], expected: &[u8], space: &mut [u8]) -> Found {
     let n = expected::put_given(expected, space);
     let is_right = runs::holds(lent, front(space, n))
         && is_same(outcome, expected::wanted(expected, n));
@@ -63,15 +54,21 @@ fn room(asked: &[u8]) -> usize
     size_of(number(asked, 2)) + more as usize
 }
 
-// Makes the call with these bytes lent, which are filled before.
-fn made(call: usize, asked: &[u8], input: &[u8], table: &[u8], lent: &mut [u8]) -> Outcome {
+// Makes the call, where there is one, with these bytes lent, which are filled before.
+fn made(
+    call: Option<Call>,
+    asked: &[u8],
+    input: &[u8],
+    table: &[u8],
+    lent: &mut [u8],
+) -> Option<Outcome> {
     runs::fill(lent);
-    call::make(call, number(asked, 1), input, table, lent)
+    Some(call::make(call?, number(asked, 1), input, table, lent))
 }
 
 // Makes the call, and compares. The table stands in `space` until the call is made.
 fn ask_in(
-    call: usize,
+    call: Option<Call>,
     asked: &[u8],
     input: &[u8],
     lent: &mut [u8],
@@ -86,16 +83,13 @@ fn ask_in(
 
 // Whether the input and the table of a case are understood.
 fn is_clear(asked: &[u8]) -> bool {
-    if !is_bytes(word(asked, 4)) {
-        return false;
-    }
     let from = start(asked, 5);
-    is_table(&asked[from..])
+    is_bytes(word(asked, 4)) && is_table(&asked[from..])
 }
 
 // A case: its input is put into `input`, what it lends is a part of `lent`, and its table and what it expects are put into `space`.
 pub fn ask(
-    call: usize,
+    call: Option<Call>,
     asked: &[u8],
     expected: &[u8],
     input: &mut [u8],

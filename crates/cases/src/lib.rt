@@ -9,7 +9,7 @@ mod ask; // ask.rt: one case
 mod met; // met.rt: what was met
 
 use met::Met;
-use words::line::{after, front, place_of, until, word};
+use words::line::{after, front, until, word};
 
 // Runs the case of a line.
 fn case(
@@ -22,12 +22,11 @@ fn case(
 ) {
     let equals = until(text, 0, b'=');
     let asked = front(text, equals);
-    let call = place_of(&call::NAMES, word(asked, 0));
+    let name = word(asked, 0);
+    let call = call::call_of(name);
     let found = ask::ask(call, asked, after(text, equals + 1), input, lent, space);
-    let outcome = found.outcome;
-    met::say_case(call, outcome);
-    met::count(met, call, outcome.answer, found.is_right);
-    met::add_sum(met, found.sum);
+    met::say_case(name, found.outcome);
+    met::count(met, call, found);
     if !found.is_right {
         met::tell(number, text);
     }
@@ -42,13 +41,10 @@ fn obey(
     space: &mut [u8],
     met: &mut Met,
 ) {
-    if text.len() == 0 {
+    if text.is_empty() || text[0] == b'#' {
         return;
     }
-    if text[0] == b'#' {
-        return;
-    }
-    if check::same(word(text, 0), b"about") {
+    if word(text, 0) == b"about".as_slice() {
         met::say_about(after(text, 5));
     } else {
         case(text, number, input, lent, space, met);
@@ -57,14 +53,9 @@ fn obey(
 
 // Runs the cases of a text. Inputs, what is lent, and tables with what is expected have as much room as the three slices.
 pub fn run(text: &[u8], input: &mut [u8], lent: &mut [u8], space: &mut [u8]) {
-    let mut met = [0u64; 563];
-    let mut at = 0;
-    let mut number = 0;
-    while at < text.len() {
-        let end = until(text, at, b'\n');
-        number += 1;
-        obey(&text[at..end], number, input, lent, space, &mut met);
-        at = end + 1;
+    let mut met = met::none();
+    for (i, line) in text.split(|b| *b == b'\n').enumerate() {
+        obey(line, i as u64 + 1, input, lent, space, &mut met);
     }
     met::report(&met);
 }

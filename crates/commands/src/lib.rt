@@ -5,14 +5,13 @@ mod options; // options.rt: the options of decode
 
 ghost use Rattle.std.specs.Prelude.{◌≡◌, ◌-◌};
 ghost use Rattle.commands.specs.Words.{command_of, framing_of, number_of_word, may_replace, worded_as};
-ghost use Rattle.wire.specs.Same.{same_bytes};
 ghost use Rattle.commands.specs.Asked.{decode_with, encode_with, encode_asked, look_asked, index_asked, check_asked, cue_asked};
 
 use edition::{Edition, Framing};
-pub use options::{Chosen, Options, no_options, options_of};
-use troubles::Trouble;
-use words::line::place_of;
-use words::numeral::{Numeral, decimal};
+pub use options::{Options, options_of};
+use troubles::{Blame, Trouble};
+use words::lookup::beside;
+use words::numeral::decimal;
 
 // The first word.
 #[derive(Clone, Copy)]
@@ -27,21 +26,13 @@ pub enum Command {
     Shift,
     Help,
     Version,
-    Unclear,
 }
 
-// How many words there are without --replace, and whether that is the last of them; or what is wrong with it.
+// How many words there are without --replace, and whether that is the last of them.
 #[derive(Clone, Copy)]
-pub enum Worded {
-    As(usize, bool),
-    Wrong(Trouble, usize),
-}
-
-// A word read as a framing.
-#[derive(Clone, Copy)]
-pub enum Framed {
-    As(Framing),
-    Unclear,
+pub struct Worded {
+    pub count: usize,
+    pub is_replacing: bool,
 }
 
 // How a packet is to be written.
@@ -53,74 +44,37 @@ pub enum Writing {
     Stream(Edition),
 }
 
-// What the words of decode ask; or what is wrong with them, and with which.
+// What decode is asked.
 #[derive(Clone, Copy)]
-pub enum DecodeAsked {
-    As(Framing, Options),
-    Wrong(Trouble, usize),
+pub struct Decoding {
+    pub framing: Framing,
+    pub options: Options,
 }
 
-// The same of encode.
-#[derive(Clone, Copy)]
-pub enum EncodeAsked {
-    As(Writing),
-    Wrong(Trouble, usize),
-}
+// The words of the commands.
+const COMMANDS: [(&[u8], Command); 12] = [
+    (b"decode", Command::Decode),
+    (b"encode", Command::Encode),
+    (b"look", Command::Look),
+    (b"index", Command::Index),
+    (b"check", Command::Check),
+    (b"cue", Command::Cue),
+    (b"time", Command::Time),
+    (b"shift", Command::Shift),
+    (b"help", Command::Help),
+    (b"--help", Command::Help),
+    (b"-h", Command::Help),
+    (b"--version", Command::Version),
+];
 
-// The same of look: the index of the record.
-#[derive(Clone, Copy)]
-pub enum LookAsked {
-    As(usize),
-    Wrong(Trouble, usize),
-}
-
-// The same of index and of check, whose words are all names of files.
-#[derive(Clone, Copy)]
-pub enum NamesAsked {
-    Good,
-    Wrong(Trouble, usize),
-}
-
-// The same of cue: the number of the cue.
-#[derive(Clone, Copy)]
-pub enum CueAsked {
-    As(u32),
-    Wrong(Trouble, usize),
-}
-
-// Whether a word is this one.
-fn is_word(word: &[u8], text: &[u8]) -> bool
-    ensures { result ≡ same_bytes text.now word.now }
-{
-    check::same(text, word)
-}
-
-// The command that a word names: the words, and beside them what they name, whose last stands for every other word.
+// The command that a word names.
 //
 // Ruled out: decode for the word encode; a command for a word that only begins with its name.
-pub fn command_of(word: &[u8]) -> Command
+#[tactic(auto, unfolding(crate::specs::Words::command_of))]
+pub fn command_of(word: &[u8]) -> Option<Command>
     ensures { result ≡ command_of word.now }
 {
-    let at = place_of(
-        b"decode encode look index check cue time shift help --help -h --version",
-        word,
-    );
-    let named = [
-        Command::Decode,
-        Command::Encode,
-        Command::Look,
-        Command::Index,
-        Command::Check,
-        Command::Cue,
-        Command::Time,
-        Command::Shift,
-        Command::Help,
-        Command::Help,
-        Command::Help,
-        Command::Version,
-        Command::Unclear,
-    ];
-    named[at]
+    beside(&COMMANDS, word)
 }
 
 // The place of the last of so many words.
@@ -129,62 +83,59 @@ pub fn command_of(word: &[u8]) -> Command
 pub fn last_of(count: usize) -> usize
     ensures { result ≡ count - 1 }
 {
-    if count == 0 {
-        return 0;
-    }
-    count - 1
+    count.saturating_sub(1)
 }
 
-// Whether the last word of a command may be --replace.
-fn may_replace(command: Command) -> bool
+// Whether the last word of a command may be --replace: of a word that is no command that is said, and nothing of --replace.
+fn may_replace(command: Option<Command>) -> bool
     ensures { result ≡ may_replace command }
 {
     match command {
-        Command::Decode => true,
-        Command::Encode => true,
-        Command::Look => false,
-        Command::Index => true,
-        Command::Check => false,
-        Command::Cue => true,
-        Command::Time => false,
-        Command::Shift => true,
-        Command::Help => false,
-        Command::Version => false,
-        Command::Unclear => true,
+        Some(Command::Look | Command::Check | Command::Time) => false,
+        Some(Command::Help | Command::Version) => false,
+        _ => true,
     }
 }
 
 // The words of a command, of which there are `count`, by the last of them.
 //
 // Ruled out: --replace counted among the words; files replaced where it is not the last word, or by a command that writes none.
-pub fn words_of(command: Command, count: usize, last: &[u8]) -> Worded
+#[tactic(auto, using(words::proofs::Beside::equal_turned))]
+pub fn words_of(command: Option<Command>, count: usize, last: &[u8]) -> Result<Worded, Blame>
     ensures { result ≡ worded_as command count last.now }
 {
-    if is_word(last, b"--replace") {
-        if may_replace(command) {
-            return Worded::As(last_of(count), true);
-        }
-        return Worded::Wrong(Trouble::NoReplace, 0);
+    if last != b"--replace".as_slice() {
+        return Ok(Worded {
+            count,
+            is_replacing: false,
+        });
     }
-    Worded::As(count, false)
+    if !may_replace(command) {
+        return Err(Trouble::NoReplace.at(0));
+    }
+    Ok(Worded {
+        count: last_of(count),
+        is_replacing: true,
+    })
 }
+
+// The words of the framings.
+const FRAMINGS: [(&[u8], Framing); 5] = [
+    (b"udp", Framing::Udp),
+    (b"tcp", Framing::Tcp(Edition::Rosc)),
+    (b"tcp-vec", Framing::TcpVec(Edition::Rosc)),
+    (b"tcp2", Framing::Tcp(Edition::Standard)),
+    (b"tcp2-vec", Framing::TcpVec(Edition::Standard)),
+];
 
 // The framing that a word names, in the same way.
 //
 // Ruled out: tcp for the word tcp-vec; edition 1 for the word tcp2; a framing for every word.
-fn framing_of(word: &[u8]) -> Framed
+#[tactic(auto, unfolding(crate::specs::Words::framing_of))]
+fn framing_of(word: &[u8]) -> Option<Framing>
     ensures { result ≡ framing_of word.now }
 {
-    let at = place_of(b"udp tcp tcp-vec tcp2 tcp2-vec", word);
-    let named = [
-        Framed::As(Framing::Udp),
-        Framed::As(Framing::Tcp(Edition::Rosc)),
-        Framed::As(Framing::TcpVec(Edition::Rosc)),
-        Framed::As(Framing::Tcp(Edition::Standard)),
-        Framed::As(Framing::TcpVec(Edition::Standard)),
-        Framed::Unclear,
-    ];
-    named[at]
+    beside(&FRAMINGS, word)
 }
 
 // The greatest number of nine digits.
@@ -193,106 +144,86 @@ const MOST: u64 = 999_999_999;
 // The number of a word, where it has at most nine digits.
 //
 // Ruled out: a number for 1000000000; none for 999999999.
-fn short_number(word: &[u8]) -> Numeral
+fn short_number(word: &[u8]) -> Option<u32>
     ensures { result ≡ number_of_word word.now }
 {
-    if let Numeral::Is(x) = decimal(word) {
-        if x <= MOST {
-            return Numeral::Is(x);
-        }
+    match decimal(word) {
+        Some(x) if x <= MOST => Some(x as u32),
+        _ => None,
     }
-    Numeral::Unclear
 }
 
 // What decode is asked: its options are read already, and word 2 is its framing.
 //
 // Ruled out: the options of before where a word is wrong; another framing than the word's.
-pub fn decode_asked(chosen: Chosen, word: &[u8]) -> DecodeAsked
+pub fn decode_asked(chosen: Result<Options, Blame>, word: &[u8]) -> Result<Decoding, Blame>
     ensures { result ≡ decode_with chosen (framing_of word.now) }
 {
-    match chosen {
-        Chosen::As(options) => match framing_of(word) {
-            Framed::As(framing) => DecodeAsked::As(framing, options),
-            Framed::Unclear => DecodeAsked::Wrong(Trouble::NoFraming, 2),
-        },
-        Chosen::Wrong(trouble, i) => DecodeAsked::Wrong(trouble, i),
-    }
-}
-
-// What a framing asks of encode.
-fn encode_with(framed: Framed) -> EncodeAsked
-    ensures { result ≡ encode_with framed }
-{
-    match framed {
-        Framed::As(framing) => match framing {
-            Framing::Udp => EncodeAsked::As(Writing::Alone),
-            Framing::Tcp(edition) => EncodeAsked::As(Writing::Stream(edition)),
-            Framing::TcpVec(_) => EncodeAsked::Wrong(Trouble::OnePacket, 2),
-        },
-        Framed::Unclear => EncodeAsked::Wrong(Trouble::NoFraming, 2),
-    }
+    let options = chosen?;
+    let framing = framing_of(word).ok_or(Trouble::NoFraming.at(2))?;
+    Ok(Decoding { framing, options })
 }
 
 // What encode is asked, of whose words there are `count`, and whose word 2 is its framing.
 //
 // Ruled out: the packet alone for the word tcp; the edition of tcp for the word tcp2; a word too many.
-pub fn encode_asked(count: usize, word: &[u8]) -> EncodeAsked
+pub fn encode_asked(count: usize, word: &[u8]) -> Result<Writing, Blame>
     ensures { result ≡ encode_asked count word.now }
 {
-    if count == 6 {
-        return encode_with(framing_of(word));
+    if count != 6 {
+        return Err(Trouble::EncodeWords.at(0));
     }
-    EncodeAsked::Wrong(Trouble::EncodeWords, 0)
+    match framing_of(word) {
+        Some(Framing::Udp) => Ok(Writing::Alone),
+        Some(Framing::Tcp(edition)) => Ok(Writing::Stream(edition)),
+        Some(Framing::TcpVec(_)) => Err(Trouble::OnePacket.at(2)),
+        None => Err(Trouble::NoFraming.at(2)),
+    }
 }
 
-// What look is asked, of whose words there are `count`, and whose word 3 is the index.
+// What look is asked, of whose words there are `count`, and whose word 3 is the index of the record.
 //
 // Ruled out: the record after the one that is asked for; a word too many.
-pub fn look_asked(count: usize, word: &[u8]) -> LookAsked
+pub fn look_asked(count: usize, word: &[u8]) -> Result<usize, Blame>
     ensures { result ≡ look_asked count word.now }
 {
-    if count == 4 {
-        return match short_number(word) {
-            Numeral::Is(x) => LookAsked::As(x as usize),
-            Numeral::Unclear => LookAsked::Wrong(Trouble::NoNumber, 3),
-        };
+    if count != 4 {
+        return Err(Trouble::LookWords.at(0));
     }
-    LookAsked::Wrong(Trouble::LookWords, 0)
+    let index = short_number(word).ok_or(Trouble::NoNumber.at(3))?;
+    Ok(index as usize)
 }
 
-// What index is asked, of whose words there are `count`.
+// What index is asked, of whose words, all of them names of files, there are `count`.
 //
 // Ruled out: a word too many.
-pub fn index_asked(count: usize) -> NamesAsked
+pub fn index_asked(count: usize) -> Result<(), Blame>
     ensures { result ≡ index_asked count }
 {
-    if count == 4 {
-        return NamesAsked::Good;
+    if count != 4 {
+        return Err(Trouble::IndexWords.at(0));
     }
-    NamesAsked::Wrong(Trouble::IndexWords, 0)
+    Ok(())
 }
 
 // The same of check.
-pub fn check_asked(count: usize) -> NamesAsked
+pub fn check_asked(count: usize) -> Result<(), Blame>
     ensures { result ≡ check_asked count }
 {
-    if count == 4 {
-        return NamesAsked::Good;
+    if count != 4 {
+        return Err(Trouble::CheckWords.at(0));
     }
-    NamesAsked::Wrong(Trouble::CheckWords, 0)
+    Ok(())
 }
 
 // What cue is asked, of whose words there are `count`, and whose word 4 is the number of the cue.
 //
 // Ruled out: the cue after the one that is asked for; a word too many.
-pub fn cue_asked(count: usize, word: &[u8]) -> CueAsked
+pub fn cue_asked(count: usize, word: &[u8]) -> Result<u32, Blame>
     ensures { result ≡ cue_asked count word.now }
 {
-    if count == 7 {
-        return match short_number(word) {
-            Numeral::Is(x) => CueAsked::As(x as u32),
-            Numeral::Unclear => CueAsked::Wrong(Trouble::NoNumber, 4),
-        };
+    if count != 7 {
+        return Err(Trouble::CueWords.at(0));
     }
-    CueAsked::Wrong(Trouble::CueWords, 0)
+    short_number(word).ok_or(Trouble::NoNumber.at(4))
 }

@@ -25,19 +25,11 @@ fn is_leap(year: u64) -> bool
 }
 
 // Whether a month has thirty days.
+#[tactic(auto, unfolding(crate::specs::Dates::has_thirty))]
 fn has_thirty(month: u64) -> bool
     ensures { result ≡ has_thirty month }
 {
-    if month == 4 {
-        return true;
-    }
-    if month == 6 {
-        return true;
-    }
-    if month == 9 {
-        return true;
-    }
-    month == 11
+    matches!(month, 4 | 6 | 9 | 11)
 }
 
 // How many days a month has.

@@ -4,7 +4,6 @@ ghost use Rattle.wire.specs.Wrote.{Filled};
 ghost use Rattle.files.specs.Beside.{beside_name, suffix_length};
 
 use wire::copy;
-use words::line::front;
 
 // Puts the name, which `digits` keep apart from those of other processes.
 pub fn put_name(path: &[u8], digits: &[u8; 16], out: &mut [u8]) -> usize
@@ -31,10 +30,7 @@ pub fn number_with(pid: u32, k: u64) -> u64
 
 // A number of the system's, which has none that is negative.
 pub fn number_of(x: i32) -> u64 {
-    if x < 0 {
-        return 0;
-    }
-    x as u64
+    u64::try_from(x).unwrap_or(0)
 }
 
 // The name that a file beside is to have.
@@ -43,9 +39,5 @@ pub fn number_of(x: i32) -> u64 {
 pub fn target_of(part: &[u8]) -> &[u8]
     ensures { result.now ≡ take (length part.now - suffix_length) part.now }
 {
-    let n = part.len();
-    if n < 21 {
-        return front(part, 0);
-    }
-    front(part, n - 21)
+    &part[..part.len().saturating_sub(21)]
 }

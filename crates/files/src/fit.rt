@@ -15,18 +15,11 @@ pub enum Kind {
     Packet,
 }
 
-// Whether a file could be one; or why not.
-#[derive(Clone, Copy)]
-pub enum Fit {
-    Yes,
-    No(Trouble),
-}
-
 // Whether bytes are these.
 fn is_same(bytes: &[u8], other: &[u8]) -> bool
     ensures { result ≡ same_bytes bytes.now other.now }
 {
-    check::same(bytes, other)
+    bytes == other
 }
 
 // Whether a table that has records begins so: with that of a message or of a bundle.
@@ -34,65 +27,58 @@ fn begins_table(head: &[u8]) -> bool
     ensures { result ≡ begins_table head.now }
 {
     let four = front(head, 4);
-    if is_same(&[b'/', 0, 0, 0], four) {
-        return true;
-    }
-    is_same(&[b'#', 0, 0, 0], four)
+    is_same(&[b'/', 0, 0, 0], four) || is_same(&[b'#', 0, 0, 0], four)
 }
 
 // Whether a file of `size` bytes, which begins with these, could be an index.
-fn index_fit(size: u64, head: &[u8]) -> Fit
+#[tactic(auto, unfolding(crate::specs::Fits::index_fit))]
+fn index_fit(size: u64, head: &[u8]) -> Result<(), Trouble>
     ensures { result ≡ index_fit size head.now }
 {
     if size % 16 != 0 {
-        return Fit::No(Trouble::IndexLength);
+        return Err(Trouble::IndexLength);
     }
-    if size == 0 {
-        return Fit::Yes;
+    if size == 0 || is_same(&[0, 0, 0, 0, 0, 0, 0, 0], front(head, 8)) {
+        return Ok(());
     }
-    if is_same(&[0, 0, 0, 0, 0, 0, 0, 0], front(head, 8)) {
-        return Fit::Yes;
-    }
-    Fit::No(Trouble::IndexFront)
+    Err(Trouble::IndexFront)
 }
 
 // The same of a table.
-fn table_fit(size: u64, head: &[u8]) -> Fit
+#[tactic(auto, unfolding(crate::specs::Fits::table_fit))]
+fn table_fit(size: u64, head: &[u8]) -> Result<(), Trouble>
     ensures { result ≡ table_fit size head.now }
 {
     if size % 20 != 0 {
-        return Fit::No(Trouble::TableLength);
+        return Err(Trouble::TableLength);
     }
-    if size == 0 {
-        return Fit::Yes;
+    if size == 0 || begins_table(head) {
+        return Ok(());
     }
-    if begins_table(head) {
-        return Fit::Yes;
-    }
-    Fit::No(Trouble::TableFront)
+    Err(Trouble::TableFront)
 }
 
 // Whether a file of `size` bytes, which begins with these, could be what a command writes.
 //
 // Ruled out: a recording taken for an index; a file whose length is no multiple of 20 taken for a table; any file taken for a packet.
-pub fn fit_of(kind: Kind, size: u64, head: &[u8]) -> Fit
+pub fn fit_of(kind: Kind, size: u64, head: &[u8]) -> Result<(), Trouble>
     ensures { result ≡ fit_of kind size head.now }
 {
     match kind {
         Kind::Index => index_fit(size, head),
         Kind::Table => table_fit(size, head),
-        Kind::Packet => Fit::No(Trouble::Exists),
+        Kind::Packet => Err(Trouble::Exists),
     }
 }
 
 // Whether such a file may be replaced or removed: it could be what the command writes, or --replace was given.
 //
 // Ruled out: a file that could not be one, without --replace; one that could, kept.
-pub fn allowed_by(is_replacing: bool, fit: Fit) -> Fit
+pub fn allowed_by(is_replacing: bool, fit: Result<(), Trouble>) -> Result<(), Trouble>
     ensures { result ≡ allowed_by is_replacing fit }
 {
     if is_replacing {
-        return Fit::Yes;
+        return Ok(());
     }
     fit
 }

@@ -15,11 +15,11 @@ mod shown; // shown.rt: a name as it is shown
 mod reason; // reason.rt: what is said of an error
 
 pub use fit::Kind;
-pub use input::{Got, read, read_apart};
+pub use input::{read, read_apart};
 pub use one::{is_beside, is_output};
-pub use output::{Begun, Stored, abandon, add, begin, finish, finish_both, remove, write};
-pub use pieces::{Opened, close, is_shorter, length_of, open, open_apart, read_at, read_on};
-pub use places::{Place, place_of};
+pub use output::{abandon, add, begin, finish, finish_both, remove, write};
+pub use pieces::{Unread, close, is_shorter, length_of, open, open_apart, read_at, read_on};
+pub use places::{Place, Refused, place_of};
 use reason::put_reason;
 pub use shown::show;
 use std::io::Error;

@@ -1,5 +1,6 @@
 // Calls of the system by a file's name. std takes a name as text, so one whose bytes are not UTF-8 is refused, as by a system that has no
 // such names.
+ghost use Rattle.std.specs.Prelude.{IfSome};
 ghost use Rattle.io.specs.Counts.{IsPrefixLen};
 
 use std::fs;
@@ -12,10 +13,7 @@ const NO_TEXT: i32 = 84;
 
 // A name as std takes it.
 fn text_of(path: &[u8]) -> Result<&str> {
-    match str::from_utf8(path) {
-        Ok(text) => Ok(text),
-        Err(_) => Err(Error::from_raw_os_error(NO_TEXT)),
-    }
+    str::from_utf8(path).map_err(|_| Error::from_raw_os_error(NO_TEXT))
 }
 
 // Opens a file to read it.
@@ -50,36 +48,28 @@ pub fn unlink(rt: &HostRuntime, path: &[u8]) -> Result<()> {
 
 // Whether a name is that of a link.
 pub fn is_link(rt: &HostRuntime, path: &[u8]) -> bool {
-    let Ok(name) = text_of(path) else {
-        return false;
-    };
-    match fs::symlink_metadata(rt, name) {
-        Ok(found) => found.is_symlink(),
-        Err(_) => false,
-    }
+    text_of(path)
+        .and_then(|name| fs::symlink_metadata(rt, name))
+        .is_ok_and(|found| found.is_symlink())
 }
 
-// Puts bytes at the start of `text`, and answers how many they are; 0 where it has no room for them.
-fn put(bytes: &[u8], text: &mut [u8]) -> usize
-    ensures { IsPrefixLen result text.new }
+// Puts bytes at the start of `text`, and answers how many they are; none where there are none, or no room for them.
+fn put(bytes: &[u8], text: &mut [u8]) -> Option<usize>
+    ensures { IfSome result (λ n. IsPrefixLen n text.new) }
 {
     let n = bytes.len();
-    if text.len() < n {
-        return 0;
+    if n == 0 || text.len() < n {
+        return None;
     }
     copy(bytes, text);
-    n
+    Some(n)
 }
 
-// Puts the text of a link at the start of `text`, and answers how long it is; 0 where the name is that of no link, or the text is not told.
-pub fn link_at(rt: &HostRuntime, path: &[u8], text: &mut [u8]) -> usize
-    ensures { IsPrefixLen result text.new }
+// Puts the text of a link at the start of `text`, and answers how long it is; none where the name is that of no link, or the text is not told.
+pub fn link_at(rt: &HostRuntime, path: &[u8], text: &mut [u8]) -> Option<usize>
+    ensures { IfSome result (λ n. IsPrefixLen n text.new) }
 {
-    let Ok(name) = text_of(path) else {
-        return 0;
-    };
-    match fs::read_link(rt, name) {
-        Ok(found) => put(found.into_string().as_bytes(), text),
-        Err(_) => 0,
-    }
+    let name = text_of(path).ok()?;
+    let found = fs::read_link(rt, name).ok()?;
+    put(found.into_string().as_bytes(), text)
 }

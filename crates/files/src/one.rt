@@ -1,6 +1,7 @@
 // Whether two open files are one: the system has a link for each descriptor, which holds the file's own name. So two names of one
 // file by links and by folders are told; two names that it has in its own right (hard links) are not, and there the other name keeps
 // the bytes.
+ghost use Rattle.std.specs.Prelude.{IfSome};
 ghost use Rattle.io.specs.Counts.{IsPrefixLen};
 ghost use Rattle.files.specs.Names.{Ended};
 
@@ -31,9 +32,9 @@ fn link_of(file: &File) -> [u8; 4096]
     link_with(&digits)
 }
 
-// Puts the name that the system has for an open file at the start of `name`, and answers how long it is; 0 where it is not told.
-fn own_name(rt: &HostRuntime, file: &File, name: &mut [u8]) -> usize
-    ensures { IsPrefixLen result name.new }
+// Puts the name that the system has for an open file at the start of `name`, and answers how long it is; none where it is not told.
+fn own_name(rt: &HostRuntime, file: &File, name: &mut [u8]) -> Option<usize>
+    ensures { IfSome result (λ n. IsPrefixLen n name.new) }
 {
     let link = link_of(file);
     let n = until(&link, 0, 0);
@@ -43,33 +44,25 @@ fn own_name(rt: &HostRuntime, file: &File, name: &mut [u8]) -> usize
 // Whether two open files are one, or cannot be told apart.
 fn is_one(rt: &HostRuntime, a: &File, b: &File) -> bool {
     let mut name = io::buffer();
-    let n = own_name(rt, a, &mut name);
     let mut other = io::buffer();
-    let m = own_name(rt, b, &mut other);
-    if n == 0 {
-        return true;
+    match (own_name(rt, a, &mut name), own_name(rt, b, &mut other)) {
+        (Some(n), Some(m)) => &name[..n] == &other[..m],
+        _ => true,
     }
-    if m == 0 {
-        return true;
-    }
-    check::same(&name[..n], &other[..m])
 }
 
 // Whether an open file is the one that would be written under a name, or cannot be told from it. A name that cannot be opened to be
 // written is none that will be.
 pub fn is_output(rt: &HostRuntime, file: &File, output: &[u8]) -> bool {
-    match open_update(rt, output) {
-        Ok(other) => is_one(rt, file, &other),
-        Err(_) => false,
-    }
+    open_update(rt, output).is_ok_and(|other| is_one(rt, file, &other))
 }
 
 // Whether two open files that are written beside others are beside the same one, or cannot be told apart: their names differ in their last
 // digits alone.
 pub fn is_beside(rt: &HostRuntime, a: &File, b: &File) -> bool {
     let mut name = io::buffer();
-    let n = own_name(rt, a, &mut name);
+    let n = own_name(rt, a, &mut name).unwrap_or(0);
     let mut other = io::buffer();
-    let m = own_name(rt, b, &mut other);
-    check::same(target_of(&name[..n]), target_of(&other[..m]))
+    let m = own_name(rt, b, &mut other).unwrap_or(0);
+    target_of(&name[..n]) == target_of(&other[..m])
 }

@@ -9,39 +9,12 @@ use crate::fit::Kind;
 use crate::links::follow;
 use crate::names::{create, rename, unlink};
 use crate::pieces::close;
-use crate::places::{Place, place_of};
+use crate::places::{Place, Refused, place_of};
 use crate::{beside, fail};
 use std::fs::File;
 use std::io::{Error, ErrorKind, Write};
 use std::process;
-use troubles::Trouble;
 use words::line::front;
-
-// How a write went.
-#[derive(Clone, Copy)]
-pub enum Stored {
-    Whole,
-    // The name leaves no room in a path for what is put after it.
-    LongName,
-    // What has the name is not a file that can be replaced.
-    NoFile,
-    // It is a file of so many bytes that may not be replaced, and why.
-    Unfit(Trouble, u64),
-    // A call of the system failed, and it was said why.
-    Failed,
-}
-
-// How a file was begun.
-#[derive(Drop)]
-pub enum Begun {
-    // The file beside, and how long its name is.
-    At(File, usize),
-    // As in `Stored`.
-    LongName,
-    NoFile,
-    Unfit(Trouble, u64),
-    Failed,
-}
 
 // How many names are tried for the file beside.
 const MOST_NAMES: u64 = 100;
@@ -61,44 +34,44 @@ fn put_beside(rt: &HostRuntime, target: &[u8], k: u64, name: &mut [u8]) -> usize
 }
 
 // Makes the file beside, by the first name that is free, and answers it and how long its name is, which is at the start of `part`.
-fn create_beside(rt: &HostRuntime, path: &[u8], target: &[u8], part: &mut [u8]) -> Begun
+fn create_beside(
+    rt: &HostRuntime,
+    path: &[u8],
+    target: &[u8],
+    part: &mut [u8],
+) -> Result<(File, usize), Refused>
     requires { (length path.now ≤ longest_name) × (length target.now ≤ longest_name) × (4095 ≤ length part.old) }
     ensures { ToldBegun path.now result }
 {
-    let mut k = 0;
     let mut n = 0;
-    while k < MOST_NAMES {
+    for k in 0..MOST_NAMES {
         n = put_beside(rt, target, k, part);
         match create(rt, front(part, n)) {
-            Ok(file) => return Begun::At(file, n),
+            Ok(file) => return Ok((file, n)),
             Err(error) => {
                 if error.kind() != ErrorKind::AlreadyExists {
                     fail(path, &error);
-                    return Begun::Failed;
+                    return Err(Refused::Failed);
                 }
             }
         }
-        k += 1;
     }
     fail(front(part, n), &Error::from_raw_os_error(TAKEN));
-    Begun::Failed
+    Err(Refused::Failed)
 }
 
 // The same of the file that the name leads to.
-fn begin_beside(rt: &HostRuntime, path: &[u8], part: &mut [u8]) -> Begun
+fn begin_beside(rt: &HostRuntime, path: &[u8], part: &mut [u8]) -> Result<(File, usize), Refused>
     requires { (length path.now ≤ longest_name) × (4095 ≤ length part.old) }
     ensures { ToldBegun path.now result }
 {
     let mut target = io::buffer();
-    let n = follow(rt, path, &mut target);
-    if n == 0 {
-        return Begun::NoFile;
-    }
+    let n = follow(rt, path, &mut target).ok_or(Refused::NoFile)?;
     create_beside(rt, path, &target[..n], part)
 }
 
 // Makes the file beside, in which a file is written, piece by piece, before it has its name: `finish` or `abandon` comes last. Its own name
-// is put at the start of `part`.
+// is put at the start of `part`, and how long that is is answered with the file.
 //
 // Ruled out: a name of 4,074 bytes refused for its length; one of 4,075 bytes taken.
 pub fn begin(
@@ -107,20 +80,15 @@ pub fn begin(
     kind: Kind,
     is_replacing: bool,
     part: &mut [u8],
-) -> Begun
+) -> Result<(File, usize), Refused>
     requires { 4095 ≤ length part.old }
     ensures { ToldBegun path.now result }
 {
     if LONGEST_NAME < path.len() {
-        return Begun::LongName;
+        return Err(Refused::LongName);
     }
-    match place_of(rt, path, kind, is_replacing) {
-        Place::Free => begin_beside(rt, path, part),
-        Place::Held => begin_beside(rt, path, part),
-        Place::NoFile => Begun::NoFile,
-        Place::Unfit(trouble, size) => Begun::Unfit(trouble, size),
-        Place::Failed => Begun::Failed,
-    }
+    place_of(rt, path, kind, is_replacing)?;
+    begin_beside(rt, path, part)
 }
 
 // Writes a piece after those before it, or says why it cannot.
@@ -159,10 +127,8 @@ fn take_name(rt: &HostRuntime, path: &[u8], part: &[u8]) -> bool {
 
 // Gives what was written its name. Where that fails, it says why, and nothing is left changed.
 pub fn finish(rt: &HostRuntime, file: File, path: &[u8], part: &[u8]) -> bool {
-    if settle(&file, path) {
-        if take_name(rt, path, part) {
-            return true;
-        }
+    if settle(&file, path) && take_name(rt, path, part) {
+        return true;
     }
     abandon(rt, file, part);
     false
@@ -220,43 +186,39 @@ fn write_begun(rt: &HostRuntime, file: File, path: &[u8], part: &[u8], bytes: &[
 // Writes a file whole or not at all.
 //
 // Ruled out: a file said to be written under a name of 4,075 bytes; a name of 4,074 bytes refused for its length.
-pub fn write(rt: &HostRuntime, path: &[u8], kind: Kind, is_replacing: bool, bytes: &[u8]) -> Stored
+pub fn write(
+    rt: &HostRuntime,
+    path: &[u8],
+    kind: Kind,
+    is_replacing: bool,
+    bytes: &[u8],
+) -> Result<(), Refused>
     ensures { ToldName path.now result }
 {
     let mut part = io::buffer();
-    match begin(rt, path, kind, is_replacing, &mut part) {
-        Begun::At(file, n) => {
-            if write_begun(rt, file, path, front(&part, n), bytes) {
-                return Stored::Whole;
-            }
-            Stored::Failed
-        }
-        Begun::LongName => Stored::LongName,
-        Begun::NoFile => Stored::NoFile,
-        Begun::Unfit(trouble, size) => Stored::Unfit(trouble, size),
-        Begun::Failed => Stored::Failed,
+    let (file, n) = begin(rt, path, kind, is_replacing, &mut part)?;
+    if write_begun(rt, file, path, front(&part, n), bytes) {
+        return Ok(());
     }
+    Err(Refused::Failed)
 }
 
 // Removes the file that a name leads to. A name that nothing has is as it should be; one of which it is not told where it leads is none
 // whose file can be removed.
-fn remove_file(rt: &HostRuntime, path: &[u8]) -> Stored
+fn remove_file(rt: &HostRuntime, path: &[u8]) -> Result<(), Refused>
     requires { length path.now ≤ longest_name }
     ensures { ToldName path.now result }
 {
     let mut target = io::buffer();
-    let n = follow(rt, path, &mut target);
-    if n == 0 {
-        return Stored::NoFile;
-    }
+    let n = follow(rt, path, &mut target).ok_or(Refused::NoFile)?;
     match unlink(rt, &target[..n]) {
-        Ok(()) => Stored::Whole,
+        Ok(()) => Ok(()),
         Err(error) => {
             if error.kind() == ErrorKind::NotFound {
-                return Stored::Whole;
+                return Ok(());
             }
             fail(path, &error);
-            Stored::Failed
+            Err(Refused::Failed)
         }
     }
 }
@@ -264,17 +226,14 @@ fn remove_file(rt: &HostRuntime, path: &[u8]) -> Stored
 // Removes a file, where the name has one that could be written and may be replaced.
 //
 // Ruled out: a name of 4,074 bytes refused for its length; one of 4,075 bytes removed.
-pub fn remove(rt: &HostRuntime, path: &[u8], kind: Kind, is_replacing: bool) -> Stored
+pub fn remove(rt: &HostRuntime, path: &[u8], kind: Kind, is_replacing: bool) -> Result<(), Refused>
     ensures { ToldName path.now result }
 {
     if LONGEST_NAME < path.len() {
-        return Stored::LongName;
+        return Err(Refused::LongName);
     }
-    match place_of(rt, path, kind, is_replacing) {
-        Place::Free => Stored::Whole,
+    match place_of(rt, path, kind, is_replacing)? {
+        Place::Free => Ok(()),
         Place::Held => remove_file(rt, path),
-        Place::NoFile => Stored::NoFile,
-        Place::Unfit(trouble, size) => Stored::Unfit(trouble, size),
-        Place::Failed => Stored::Failed,
     }
 }

@@ -22,14 +22,9 @@ fn put_said(error: &Error, out: &mut [u8]) -> usize
 fn words_end(said: &[u8]) -> usize
     ensures { result ≤ length said.now }
 {
-    let mut i = said.len();
-    while 0 < i {
-        i -= 1;
-        if said[i] == b'(' {
-            return i.saturating_sub(1);
-        }
-    }
-    said.len()
+    said.iter()
+        .rposition(|b| *b == b'(')
+        .map_or(said.len(), |i| i.saturating_sub(1))
 }
 
 // Puts what is said of an error at the start of `out`, and answers how long that is: the system's own words, where it is the system's.

@@ -4,16 +4,11 @@ ghost use Rattle.wire.specs.Wrote.{Filled};
 ghost use Rattle.files.specs.Shown.{shown_byte};
 
 // What is shown of a byte.
+#[tactic(auto, unfolding(crate::specs::Shown::shown_byte))]
 fn shown_byte(b: u8) -> u8
     ensures { result ≡ shown_byte b }
 {
-    if b < 32 {
-        return b'?';
-    }
-    if b == 127 {
-        return b'?';
-    }
-    b
+    if b < 32 || b == 127 { b'?' } else { b }
 }
 
 // Puts a name as it is shown at the start of `out`, and answers how long it is.
@@ -23,10 +18,8 @@ pub fn show(name: &[u8], out: &mut [u8]) -> usize
     requires { length name.now ≤ length out.old }
     ensures { Filled (map shown_byte name.now) out.old out.new result }
 {
-    let mut i = 0;
-    while i < name.len() {
-        out[i] = shown_byte(name[i]);
-        i += 1;
+    for (i, b) in name.iter().enumerate() {
+        out[i] = shown_byte(*b);
     }
-    i
+    name.len()
 }

@@ -2,7 +2,6 @@
 // `QUESTION = ANSWER`; an empty line, and one that begins with '#', has none.
 #![tactic(auto)]
 
-mod named; // named.rt: a word of an answer
 mod question; // question.rt: what a line asks
 mod answer; // answer.rt: what the leaves answer
 mod value; // value.rt: a value as text
@@ -12,8 +11,9 @@ ghost use Rattle.std.specs.Prelude.{◌<◌, ◌≤◌, length};
 use question::Question;
 use runs::said::{say, say_counts};
 use runs::tally::{add, say_met};
+use std::fmt::Write;
 use words::line;
-use words::written::filled;
+use words::written::Answer;
 
 // The tally has 25 numbers for each of the 11 questions: how many vectors there are, how many of them differ, the sum of the answers, and
 // how many answers begin with each of 22 words.
@@ -31,22 +31,13 @@ const FIRST_WORDS: usize = 3;
 const WORDS: [u8; 121] =
     *b"yes no found lacks message bundle int float string blob time long double char color midi bool nil inf array refused other";
 
-// The place of a question in the tally.
-fn place(question: Question) -> usize
+// The place of a question in the tally; the last is for what is none.
+fn place(question: Option<Question>) -> usize
     ensures { result < 11 }
 {
     match question {
-        Question::Utf8 => 0,
-        Question::Lead => 1,
-        Question::Pad => 2,
-        Question::U32 => 3,
-        Question::U64 => 4,
-        Question::Text => 5,
-        Question::Record => 6,
-        Question::Look => 7,
-        Question::Name => 8,
-        Question::Start => 9,
-        Question::Unclear => 10,
+        Some(question) => question as usize,
+        None => 10,
     }
 }
 
@@ -54,8 +45,7 @@ fn place(question: Question) -> usize
 fn word_place(answered: &[u8]) -> usize
     ensures { result ≤ 21 }
 {
-    let at = line::place_of(&WORDS, line::word(answered, 1));
-    if at < 21 { at } else { 21 }
+    line::place_of(&WORDS, line::word(answered, 1)).min(21)
 }
 
 // Counts an answer of the question whose numbers begin at a place.
@@ -64,7 +54,7 @@ fn count(tally: &mut Tally, from: usize, answered: &[u8])
 {
     add(tally, from);
     add(tally, from + FIRST_WORDS + word_place(answered));
-    tally[from + SUM] = std::num::wrapping_add_u64(tally[from + SUM], runs::sum_of(answered));
+    tally[from + SUM] = tally[from + SUM].wrapping_add(runs::sum_of(answered));
 }
 
 // Says what differs at a line.
@@ -79,10 +69,7 @@ fn tell(number: u64, expected: &[u8], answered: &[u8]) {
 
 // Whether a line holds no vector.
 fn is_comment(line: &[u8]) -> bool {
-    if line.len() == 0 {
-        return true;
-    }
-    line[0] == b'#'
+    line.is_empty() || line[0] == b'#'
 }
 
 // Asks one line's question, and compares the answer with the one that stands there.
@@ -92,26 +79,24 @@ fn vector(line: &[u8], number: u64, tally: &mut Tally) {
     let expected = line::after(line, equals);
     let question = question::question_of(asked);
     let from = EACH * place(question);
-    let mut out = [0u8; 256];
-    let n = answer::answer(question, asked, &mut out);
-    count(tally, from, filled(&out, n));
-    if !check::same(expected, filled(&out, n)) {
+    let mut out = Answer::new();
+    let _ = match question {
+        Some(question) => answer::answer(question, asked, &mut out),
+        None => write!(out, " not understood"),
+    };
+    count(tally, from, out.as_bytes());
+    if expected != out.as_bytes() {
         add(tally, from + DIFFER);
-        tell(number, expected, filled(&out, n));
+        tell(number, expected, out.as_bytes());
     }
 }
 
 // Asks every line of the input.
 fn run(input: &[u8], tally: &mut Tally) {
-    let mut at = 0;
-    let mut number = 0;
-    while at < input.len() {
-        let end = line::until(input, at, b'\n');
-        number += 1;
-        if !is_comment(&input[at..end]) {
-            vector(&input[at..end], number, tally);
+    for (i, line) in input.split(|b| *b == b'\n').enumerate() {
+        if !is_comment(line) {
+            vector(line, i as u64 + 1, tally);
         }
-        at = end + 1;
     }
 }
 
@@ -135,10 +120,8 @@ fn total(name: &[u8], tally: &[u64], from: usize)
 fn totals(tally: &[u64])
     requires { 275 ≤ length tally.now }
 {
-    let mut at = 0;
-    while at < 11 {
+    for at in 0..11 {
         total(line::word(&question::NAMES, at), tally, EACH * at);
-        at += 1;
     }
 }
 

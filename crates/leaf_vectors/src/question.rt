@@ -1,7 +1,6 @@
 // What a line asks: a name, numbers in decimal, then bytes in hexadecimal.
 ghost use Rattle.std.specs.Prelude.{◌≤◌};
 
-use words::numeral::Numeral;
 use words::{hex, line, numeral};
 
 // The names of the questions, in the order of the tally; the last is for what is none.
@@ -29,24 +28,30 @@ pub enum Question {
     Name,
     // `start INDEX TABLE`: where the data of a record begins.
     Start,
-    // Anything else.
-    Unclear,
 }
+
+// The questions, in the order of their names.
+const ALL: [Question; 10] = [
+    Question::Utf8,
+    Question::Lead,
+    Question::Pad,
+    Question::U32,
+    Question::U64,
+    Question::Text,
+    Question::Record,
+    Question::Look,
+    Question::Name,
+    Question::Start,
+];
 
 // Whether a word is a number.
 fn is_number(word: &[u8]) -> bool {
-    match numeral::decimal(word) {
-        Numeral::Is(_) => true,
-        Numeral::Unclear => false,
-    }
+    numeral::decimal(word).is_some()
 }
 
 // Whether a word is bytes, and no more than there is room for.
 fn is_short_bytes(word: &[u8]) -> bool {
-    if 512 < word.len() {
-        return false;
-    }
-    hex::is_bytes(word)
+    word.len() <= 512 && hex::is_bytes(word)
 }
 
 // Whether word `n` is a number, or for a later one bytes.
@@ -62,14 +67,8 @@ fn is_fitting(asked: &[u8], n: usize, numbers: usize) -> bool {
 fn has_shape(asked: &[u8], numbers: usize, parts: usize) -> bool
     requires { (numbers ≤ 5) × (parts ≤ 2) }
 {
-    let mut n = 1;
-    while n <= numbers + parts {
-        if !is_fitting(asked, n, numbers) {
-            return false;
-        }
-        n += 1;
-    }
-    line::start(asked, n) == asked.len()
+    let end = numbers + parts + 1;
+    (1..end).all(|n| is_fitting(asked, n, numbers)) && line::start(asked, end) == asked.len()
 }
 
 // How many numbers a question has.
@@ -99,28 +98,13 @@ fn parts(question: Question) -> usize
     }
 }
 
-// The question whose name has a place among the names.
-fn named(place: usize) -> Question {
-    match place {
-        0 => Question::Utf8,
-        1 => Question::Lead,
-        2 => Question::Pad,
-        3 => Question::U32,
-        4 => Question::U64,
-        5 => Question::Text,
-        6 => Question::Record,
-        7 => Question::Look,
-        8 => Question::Name,
-        9 => Question::Start,
-        _ => Question::Unclear,
-    }
-}
-
-// The question of a line.
-pub fn question_of(asked: &[u8]) -> Question {
-    let question = named(line::place_of(&NAMES, line::word(asked, 0)));
+// The question of a line, if it asks one.
+pub fn question_of(asked: &[u8]) -> Option<Question> {
+    let question = ALL
+        .get(line::place_of(&NAMES, line::word(asked, 0)))
+        .copied()?;
     if has_shape(asked, numbers(question), parts(question)) {
-        return question;
+        return Some(question);
     }
-    Question::Unclear
+    None
 }

@@ -5,7 +5,7 @@
 // and write files and hand lines on, and here the command is chosen.
 #![tactic(auto)]
 
-use commands::{Command, Worded, command_of, last_of, words_of};
+use commands::{Command, command_of, last_of, words_of};
 use tool_cues::{checking, cue, index};
 use tool_files::say;
 use tool_files::typed::{word, word_count};
@@ -25,7 +25,6 @@ fn run(rt: &HostRuntime, command: Command, count: usize, is_replacing: bool) {
         Command::Shift => tool_shifts::run(rt, count, is_replacing),
         Command::Help => say::help(rt),
         Command::Version => say::version(rt, version::MAJOR, version::MINOR, version::PATCH),
-        Command::Unclear => say::trouble(rt, Trouble::NoCommand, 1, 0),
     }
 }
 
@@ -37,7 +36,10 @@ fn main(rt: HostRuntime) {
     let mut last = io::buffer();
     let m = word(&rt, last_of(count), &mut last);
     match words_of(command, count, &last[..m]) {
-        Worded::As(count, is_replacing) => run(&rt, command, count, is_replacing),
-        Worded::Wrong(trouble, i) => say::trouble(&rt, trouble, i, 0),
+        Ok(worded) => match command {
+            Some(command) => run(&rt, command, worded.count, worded.is_replacing),
+            None => say::blame(&rt, Trouble::NoCommand.at(1)),
+        },
+        Err(blame) => say::blame(&rt, blame),
     }
 }

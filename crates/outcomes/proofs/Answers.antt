@@ -13,20 +13,21 @@ use Rattle.node.specs.Records.{record_size, most_records, records_of, capacity, 
 use Rattle.node.proofs.Recorded.{length-records}
 use Rattle.framing.specs.Framing.{Whole, trees, waiting, refusal, stopped}
 use Rattle.answering.specs.Limits.{bounded, limited, decoded, forest_of, tabled}
-use Rattle.results.specs.declared.Decoded.{Decoded}
-use Rattle.results.specs.declared.Decoded.TheVariants as answer
+use Rattle.results.specs.Results.{DecodeAnswer}
+use Rattle.std.specs.Prelude.{Err}
+use Rattle.results.specs.Results as answer
 use Rattle.decoder.proofs.Chosen.{by-decoded, by-bounded}
 use Rattle.telling.specs.Replies.{decoded_line}
 use Rattle.outcomes.specs.Kept.{roots_of, kept_trees, kept_count}
 use Rattle.outcomes.specs.CodeRoots.{StandAt}
 
 -- the records that are kept are as many as are counted, and no more than there is room for
-pub record Fits (capacity : ℕ) (f : Forest) (d : Decoded) : Type 0 where
+pub record Fits (capacity : ℕ) (f : Forest) (d : DecodeAnswer) : Type 0 where
   pub counts : size (kept_trees d f) ≡ kept_count d
   pub few : kept_count d ≤ capacity
 
 -- where the trees are too many or too deep, nothing is kept
-bounded-fits : (capacity limit : ℕ) (f : Forest) (given : Decoded) → (size f ≤ capacity → Fits capacity f given)
+bounded-fits : (capacity limit : ℕ) (f : Forest) (given : DecodeAnswer) → (size f ≤ capacity → Fits capacity f given)
     → Fits capacity f (bounded capacity limit f given)
 unfolding size
 bounded-fits capacity limit f given g =
@@ -53,19 +54,19 @@ decoded-fits rule capacity limit msg =
     (λ _ _. limited-fits capacity limit msg (rule msg))
 
 -- a table begins with the records that are kept
-pub record Leaves (d : Decoded) (f : Forest) (t : List ℕ) : Type 0 where
+pub record Leaves (d : DecodeAnswer) (f : Forest) (t : List ℕ) : Type 0 where
   pub more : List ℕ
   pub is : t ≡ records_of 0 (kept_trees d f) ++ more
 
-tabled-leaves : (d : Decoded) (f : Forest) (t : List ℕ) → Leaves d f (tabled d f t)
+tabled-leaves : (d : DecodeAnswer) (f : Forest) (t : List ℕ) → Leaves d f (tabled d f t)
 unfolding stored records_of
 tabled-leaves (answer.Packets count left dirty) f t = record { more = drop (record_size * size f) t; is = refl }
 tabled-leaves answer.Waiting f t = record { more = t; is = refl }
-tabled-leaves (answer.Refused r) f t = record { more = t; is = refl }
+tabled-leaves (Err r) f t = record { more = t; is = refl }
 tabled-leaves (answer.Stopped count left dirty r at) f t = record { more = drop (record_size * size f) t; is = refl }
 
 -- so does the one that a decoder leaves, whatever stands after the part that it was lent
-pub leaves : {p : List ℕ} (d : Decoded) (f : Forest) (t rest : List ℕ) → p ≡ tabled d f t → Leaves d f (p ++ rest)
+pub leaves : {p : List ℕ} (d : DecodeAnswer) (f : Forest) (t rest : List ℕ) → p ≡ tabled d f t → Leaves d f (p ++ rest)
 leaves {p} d f t rest e =
     let l = tabled-leaves d f t in
     record {
@@ -80,7 +81,7 @@ room-lent t records h =
     let l : length (take (records * record_size) t) ≡ records * record_size = length-take-le (records * record_size) t h in
     rw (z, l) (mul-div_cancel records (omega arith))
 
-module _ {d : Decoded} (rule : List ℕ → Whole) (limit : ℕ) (msg t : List ℕ) (records : ℕ) (h : records * record_size ≤ length t)
+module _ {d : DecodeAnswer} (rule : List ℕ → Whole) (limit : ℕ) (msg t : List ℕ) (records : ℕ) (h : records * record_size ≤ length t)
     (e : d ≡ decoded rule (capacity (mid_of 0 (records * record_size - 0) t)) limit msg) where
   -- so the answer is the one for so many records
   pub answered : d ≡ decoded rule records limit msg
@@ -90,7 +91,7 @@ module _ {d : Decoded} (rule : List ℕ → Whole) (limit : ℕ) (msg t : List �
   pub answer-fits : Fits records (forest_of (rule msg)) d
   answer-fits = rw answered (decoded-fits rule records limit msg)
 
-module _ {capacity' count : ℕ} {d : Decoded} {f : Forest} {t : List ℕ} (l : Leaves d f t) (x : Fits capacity' f d)
+module _ {capacity' count : ℕ} {d : DecodeAnswer} {f : Forest} {t : List ℕ} (l : Leaves d f t) (x : Fits capacity' f d)
     (e : count ≡ kept_count d) where
   same_size : size (kept_trees d f) ≡ count
   same_size = x.counts ∙ sym e
@@ -119,8 +120,8 @@ module _ {capacity' count : ℕ} {d : Decoded} {f : Forest} {t : List ℕ} (l : 
   bytes_counted = (bytes-in, sym (length-take-le (count * record_size) t bytes-in))
 
 -- the number of packets is told of packets alone
-pub packets-told : (d : Decoded) (f : Forest) (bytes : ℕ) → decoded_line (roots_of (kept_trees d f)) bytes d ≡ decoded_line (roots_of f) bytes d
+pub packets-told : (d : DecodeAnswer) (f : Forest) (bytes : ℕ) → decoded_line (roots_of (kept_trees d f)) bytes d ≡ decoded_line (roots_of f) bytes d
 packets-told (answer.Packets count left dirty) f bytes = refl
 packets-told answer.Waiting f bytes = refl
-packets-told (answer.Refused r) f bytes = refl
+packets-told (Err r) f bytes = refl
 packets-told (answer.Stopped count left dirty r at) f bytes = refl

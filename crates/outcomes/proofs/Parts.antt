@@ -5,8 +5,8 @@ use Prim.Native.Nat.{ℕ, ◌+◌}
 use native.Mathlib.Omega.{arith}
 use lib.ListN.{length}
 use Rattle.cues.specs.Checks.{compared, numbered_from}
-use Rattle.results.specs.declared.Checked.{Checked}
-use Rattle.results.specs.declared.Checked.TheVariants.{Fits, Differs}
+use Rattle.results.specs.Results.{Checked}
+use Rattle.std.specs.Prelude.{Ok, Err}
 use Rattle.cues.proofs.Checks.{fits_exactly}
 use Rattle.outcomes.specs.Cued.{AtMost, ChecksPart}
 
@@ -16,5 +16,5 @@ module _ (before : ℕ) (fresh given : List ℕ) where
   part-checks r e = record { answers = ap (numbered_from before) e; few = by_answer r e }
     where
       by_answer : (r : Checked) → r ≡ compared fresh given → AtMost (before + length fresh) (numbered_from before r)
-      by_answer (Fits n) e = omega (arith, ((fits_exactly fresh given).counts n (sym e)).1)
-      by_answer (Differs k) e = tt
+      by_answer (Ok n) e = omega (arith, ((fits_exactly fresh given).counts n (sym e)).1)
+      by_answer (Err differs) e = tt

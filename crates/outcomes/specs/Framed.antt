@@ -1,12 +1,11 @@
 -- What the program keeps and says of a frame of a recording: its packet, decoded alone, and where it lies.
-use Rattle.std.specs.Prelude.{false, ◌≡◌, List, ℕ, ◌-◌, length, take}
+use Rattle.std.specs.Prelude.{Some, None, ◌≡◌, List, ℕ, ◌-◌, length, take}
 use Rattle.io.specs.Counts.{IsPrefixLen}
 use Rattle.node.specs.Records.{records_of}
 use Rattle.edition.specs.declared.Framing.TheVariants.{Udp}
 use Rattle.telling.specs.Forms.{Says}
 use Rattle.telling.specs.Replies.{decoded_line, frame_line}
 use Rattle.commands.specs.declared.options.Options.{Options}
-use Rattle.wire.specs.Limits.{deepest}
 use Rattle.cues.specs.Cues.{most_in_a_cue}
 use Rattle.outcomes.specs.Kept.{roots_of, has_table, kept_trees}
 use Rattle.outcomes.specs.Told.{decoded_with, trees_with}
@@ -18,7 +17,7 @@ without_end l = take (length l - 1) l
 
 -- a frame is read as for the index, with depth 64 and 3,276 records (Ticket 10, "also in Ticket 5")
 abbrev pub as_indexed : Options
-as_indexed = record { depth = deepest; records = most_in_a_cue; has_depth = false; has_records = false }
+as_indexed = record { depth = None; records = Some most_in_a_cue }
 
 -- what is said of a packet alone
 abbrev pub packet_words : List ℕ → List ℕ

@@ -5,25 +5,25 @@ use Rattle.node.specs.Records.{records_of, most_records, capacity}
 use Rattle.node.specs.Forest.{Forest}
 use Rattle.framing.specs.Framing.{rule_of}
 use Rattle.answering.specs.Limits.{decoded, forest_of}
-use Rattle.results.specs.declared.Decoded.{Decoded}
+use Rattle.results.specs.Results.{DecodeAnswer, Encoded}
 use Rattle.edition.specs.declared.Framing.{Framing}
 use Rattle.encoder.specs.Outcome.{Encodes}
-use Rattle.results.specs.declared.Encoded.{Encoded}
 use Rattle.telling.specs.Forms.{Says}
 use Rattle.telling.specs.Replies.{decoded_line, encoded_line}
 use Rattle.commands.specs.declared.Writing.{Writing}
 use Rattle.commands.specs.declared.options.Options.{Options}
+use Rattle.commands.specs.Options.{depth_for, records_for}
 use Rattle.outcomes.specs.Kept.{roots_of, has_table, kept_trees, is_written, written_count, writing_of}
 use Rattle.outcomes.specs.declared.Told.{Told}
 
 -- what the library answers with the limits that the options say; a table has at most 65,535 records
-abbrev pub decoded_with : Framing → Options → List ℕ → Decoded
+abbrev pub decoded_with : Framing → Options → List ℕ → DecodeAnswer
 decoded_with framing options msg =
-    decoded (rule_of framing options.depth) (min options.records most_records) options.depth msg
+    decoded (rule_of framing (depth_for options)) (min (records_for options) most_records) (depth_for options) msg
 
 -- the trees that it reads
 abbrev pub trees_with : Framing → Options → List ℕ → Forest
-trees_with framing options msg = forest_of (rule_of framing options.depth msg)
+trees_with framing options msg = forest_of (rule_of framing (depth_for options) msg)
 
 -- decode: the records of the packets are kept, all of them and nothing else; of Waiting and a refusal nothing; the line is the answer's
 pub record DecodeTold (framing : Framing) (options : Options) (msg table line : List ℕ) (told : Told) : Type 0 where

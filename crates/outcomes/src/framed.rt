@@ -27,10 +27,8 @@ fn as_indexed() -> Options
     ensures { result ≡ as_indexed }
 {
     Options {
-        depth: wire::DEEPEST,
-        records: MOST_IN_A_CUE,
-        has_depth: false,
-        has_records: false,
+        records: Some(MOST_IN_A_CUE),
+        ..Options::default()
     }
 }
 

@@ -8,21 +8,23 @@ mod framed; // framed.rt: a frame of a recording
 mod tried; // tried.rt: a decoding in a room that may be too small
 
 ghost use Rattle.std.specs.Prelude.{◌≡◌, ◌*◌, ◌≤◌, min, length};
+ghost use Rattle.commands.specs.Options.{records_for};
 ghost use Rattle.node.specs.Records.{record_size, most_records, capacity};
 ghost use Rattle.encoder.specs.Outcome.{Encodes};
-ghost use Rattle.outcomes.specs.Kept.{has_table, kept_count, is_written, written_count, writing_of};
+ghost use Rattle.outcomes.specs.Kept.{has_table, kept_count, writing_of};
 ghost use Rattle.outcomes.specs.Told.{DecodeTold, EncodeTold};
 
 use commands::{Options, Writing};
-pub use cued::{Jump, check_part, cue_told};
+pub use cued::{check_part, cue_told};
 use decoder::decode;
 use edition::Framing;
 pub use framed::frame_told;
 use node::record::{MOST_RECORDS, RECORD_SIZE, capacity_of};
-use results::{Decoded, Encoded};
+use refusal::Refusal;
+use results::Decoded;
 use roots::root_count;
 use telling::{tell_decoded, tell_encoded};
-pub use tried::{Tried, decode_tried};
+pub use tried::decode_tried;
 
 // What is kept and said: whether bytes are kept, how many first ones of the slice that was lent for them, and how long the line is.
 #[derive(Clone, Copy)]
@@ -33,57 +35,23 @@ pub struct Told {
 }
 
 // Whether a table is kept of an answer.
-fn has_table(answer: Decoded) -> bool
+fn has_table(answer: Result<Decoded, Refusal>) -> bool
     ensures { result ≡ has_table answer }
 {
     match answer {
-        Decoded::Packets {
-            count: _,
-            left: _,
-            dirty: _,
-        } => true,
-        Decoded::Waiting => false,
-        Decoded::Refused(_) => false,
-        Decoded::Stopped {
-            count: _,
-            left: _,
-            dirty: _,
-            refusal: _,
-            frame: _,
-        } => true,
+        Ok(Decoded::Packets { .. }) | Ok(Decoded::Stopped { .. }) => true,
+        Ok(Decoded::Waiting) | Err(_) => false,
     }
 }
 
 // How many records are kept of an answer.
-fn kept_count(answer: Decoded) -> usize
+fn kept_count(answer: Result<Decoded, Refusal>) -> usize
     ensures { result ≡ kept_count answer }
 {
     match answer {
-        Decoded::Packets {
-            count,
-            left: _,
-            dirty: _,
-        } => count,
-        Decoded::Waiting => 0,
-        Decoded::Refused(_) => 0,
-        Decoded::Stopped {
-            count,
-            left: _,
-            dirty: _,
-            refusal: _,
-            frame: _,
-        } => count,
+        Ok(Decoded::Packets { count, .. }) | Ok(Decoded::Stopped { count, .. }) => count,
+        Ok(Decoded::Waiting) | Err(_) => 0,
     }
-}
-
-// The less of two numbers.
-fn least(a: usize, b: usize) -> usize
-    ensures { result ≡ min a b }
-{
-    if a < b {
-        return a;
-    }
-    b
 }
 
 // Decodes `msg` to `table`, with room for as many records as the options say, and puts the line for the answer into `line`.
@@ -96,12 +64,12 @@ pub fn decode_told(
     table: &mut [u8],
     line: &mut [u8],
 ) -> Told
-    requires { record_size * min options.records most_records ≤ length table.old }
+    requires { record_size * min (records_for options) most_records ≤ length table.old }
     ensures { DecodeTold framing options msg.now table.new line.new result }
 {
-    let records = least(options.records, MOST_RECORDS);
+    let records = options.records().min(MOST_RECORDS);
     let room = records * RECORD_SIZE;
-    let answer = decode(framing, msg, &mut table[0..room], options.depth);
+    let answer = decode(framing, msg, &mut table[0..room], options.depth());
     let count = kept_count(answer);
     let packets = root_count(table, count);
     let n = tell_decoded(packets, msg.len(), answer, line);
@@ -113,28 +81,8 @@ pub fn decode_told(
     }
 }
 
-// Whether a packet is kept of an answer.
-fn is_written(answer: Encoded) -> bool
-    ensures { result ≡ is_written answer }
-{
-    match answer {
-        Encoded::Written(_) => true,
-        Encoded::Refused(_) => false,
-    }
-}
-
-// How many bytes are kept of an answer.
-fn written_count(answer: Encoded) -> usize
-    ensures { result ≡ written_count answer }
-{
-    match answer {
-        Encoded::Written(n) => n,
-        Encoded::Refused(_) => 0,
-    }
-}
-
 // Calls the encoder of a packet alone, or that of a stream of an edition.
-fn encoded(writing: Writing, table: &[u8], source: &[u8], out: &mut [u8]) -> Encoded
+fn encoded(writing: Writing, table: &[u8], source: &[u8], out: &mut [u8]) -> Result<usize, Refusal>
     ensures { Encodes (writing_of writing) table.now (capacity table.now) source.now out.old
         (record { answer = result; out = out.new }) }
 {
@@ -160,8 +108,8 @@ pub fn encode_told(
     let answer = encoded(writing, table, source, out);
     let n = tell_encoded(answer, line);
     Told {
-        is_kept: is_written(answer),
-        bytes: written_count(answer),
+        is_kept: answer.is_ok(),
+        bytes: answer.unwrap_or(0),
         line: n,
     }
 }

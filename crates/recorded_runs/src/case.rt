@@ -1,20 +1,15 @@
 // The layout of a case in the file: its numbers, and where its slices end.
-ghost use Rattle.recorded_runs.specs.Layout.{CaseIn, EndIn};
+ghost use Rattle.std.specs.Prelude.{IfSome};
+ghost use Rattle.recorded_runs.specs.Layout.{Ends, Laid};
 
+use crate::operation::Operation;
 use wire::{be_u32, be_u64};
-
-// Where a slice ends, or that it is longer than it may be or than the file.
-#[derive(Clone, Copy)]
-pub enum End {
-    At(usize),
-    Damaged,
-}
 
 // A case: its first slice starts at 17, its second 4 after the first, and the bytes due 20 after the second. `more` is what a decoder
 // is to say beside its answer.
 #[derive(Clone, Copy)]
 pub struct Case {
-    pub operation: u8,
+    pub operation: Operation,
     pub number: u64,
     pub room: usize,
     pub first: usize,
@@ -24,60 +19,38 @@ pub struct Case {
     pub end: usize,
 }
 
-// What stands at the front of a part of the file.
-#[derive(Clone, Copy)]
-pub enum Found {
-    Whole(Case),
-    Broken,
-}
-
-// Where the bytes end whose length stands at `at`, of which there may be `most`.
-fn end_of(s: &[u8], at: usize, most: u32) -> End
-    ensures { EndIn s.now at result }
+// Where the bytes end whose length stands at `at`, of which there may be `most`; none where they are more, or more than there are.
+fn end_of(s: &[u8], at: usize, most: u32) -> Option<usize>
+    ensures { IfSome result (Ends s.now at) }
 {
-    if s.len() < at {
-        return End::Damaged;
-    }
-    if s.len() - at < 4 {
-        return End::Damaged;
+    if s.len() < at || s.len() - at < 4 {
+        return None;
     }
     let n = be_u32(s, at);
-    if most < n {
-        return End::Damaged;
+    if most < n || s.len() - at - 4 < n as usize {
+        return None;
     }
-    if s.len() - at - 4 < n as usize {
-        return End::Damaged;
-    }
-    End::At(at + 4 + n as usize)
+    Some(at + 4 + n as usize)
 }
 
-// The case at the front of a part of the file.
+// The case at the front of a part of the file, where one stands there whole.
 //
 // Ruled out: a number that is read a byte early; the second slice where the first is.
-pub fn find(s: &[u8]) -> Found
-    ensures { CaseIn s.now result }
+pub fn find(s: &[u8]) -> Option<Case>
+    ensures { IfSome result (Laid s.now) }
 {
-    let End::At(first) = end_of(s, 13, 4096) else {
-        return Found::Broken;
-    };
-    let End::At(second) = end_of(s, first, 4096) else {
-        return Found::Broken;
-    };
+    let first = end_of(s, 13, 4096)?;
+    let second = end_of(s, first, 4096)?;
     if s.len() - second < 16 {
-        return Found::Broken;
+        return None;
     }
-    let End::At(end) = end_of(s, second + 16, 65536) else {
-        return Found::Broken;
-    };
-    let operation = s[0];
+    let end = end_of(s, second + 16, 65536)?;
+    let operation = Operation::try_from(s[0]).ok()?;
     let room = be_u32(s, 9);
-    if 11 < operation {
-        return Found::Broken;
-    }
     if 65536 < room {
-        return Found::Broken;
+        return None;
     }
-    Found::Whole(Case {
+    Some(Case {
         operation,
         number: be_u64(s, 1),
         room: room as usize,

@@ -6,26 +6,34 @@
 #![tactic(auto)]
 
 mod case; // case.rt: the layout of a case
+mod operation; // operation.rt: the operations, and their numbers in the file
 mod replay; // replay.rt: the call of a case, and whether it leaves what is due
 mod tell; // tell.rt: what is said of the cases
 
-ghost use Rattle.std.specs.Prelude.{◌≡◌, ◌<◌, ◌≤◌, length};
+ghost use Rattle.std.specs.Prelude.{◌≡◌, ◌<◌, ◌≤◌, IfSome, length};
 
-use case::Found;
-use replay::{Met, Outcome};
+use operation::Operation;
+use replay::Met;
 use runs::tally::add;
 
-// The tally: for each of the 12 operations, 24 counts, one for each answer (given, waiting, refused with 0 to 21); then the answers, those
-// that differ, and the sums of what was answered and of what was lent.
-type Tally = [u64; 292];
+// The tally: for each operation 24 counts, one for each answer (given, waiting, refused with 0 to 21); then how many answers there are and
+// how many differ, and the sums of what was answered and of what was lent.
+#[derive(Clone, Copy, Debug, PartialEq, Eq)]
+struct Tally {
+    times: [[u64; 24]; 12],
+    answers: u64,
+    differences: u64,
+    answered: u64,
+    lent: u64,
+}
 
-const ANSWERS: usize = 288;
-
-const DIFFERENCES: usize = 289;
-
-const ANSWERED: usize = 290;
-
-const LENT: usize = 291;
+// How a call went, as its answer tells.
+#[derive(Clone, Copy, Debug, PartialEq, Eq)]
+enum Told {
+    Given,
+    Waiting,
+    Refused(u64),
+}
 
 // Room for a file of 1,048,576 bytes and one more, which tells that a file is longer.
 fn file_space() -> [u8; 1048577]
@@ -34,75 +42,65 @@ fn file_space() -> [u8; 1048577]
     [0; 1048577]
 }
 
-// The place of an answer among the 24 of its operation. A refusal stands in bits 56 to 63, but for `pad`, whose 14 is no multiple of 4;
-// `decode_tcp` of either edition waits where its count, in bits 32 to 55, is 0.
-fn place(operation: u8, answer: u64) -> usize
+// What an answer tells. A refusal stands in bits 56 to 63, but for `pad`, whose 14 is no multiple of 4; `decode_tcp` of either edition
+// waits where its count, in bits 32 to 55, is 0.
+fn meaning(operation: Operation, answer: u64) -> Told {
+    let refusal = answer / 0x100_0000_0000_0000;
+    match operation {
+        Operation::Pad => if answer == 14 {
+            Told::Refused(14)
+        } else {
+            Told::Given
+        },
+        _ if 0 < refusal => Told::Refused(refusal),
+        Operation::DecodeTcp | Operation::DecodeTcp2 if answer < 0x1_0000_0000 => Told::Waiting,
+        _ => Told::Given,
+    }
+}
+
+// The place of an answer among the 24 of its operation.
+fn place(told: Told) -> usize
     ensures { result < 24 }
 {
-    if operation == 6 {
-        return if answer == 14 { 16 } else { 0 };
+    match told {
+        Told::Given => 0,
+        Told::Waiting => 1,
+        Told::Refused(number) => 2 + (number % 22) as usize,
     }
-    let refusal = answer / 0x100_0000_0000_0000;
-    if 0 < refusal {
-        return 2 + (refusal % 22) as usize;
-    }
-    if (operation == 1 || operation == 9) && answer < 0x1_0000_0000 {
-        return 1;
-    }
-    0
-}
-
-// Adds to a sum of the tally.
-fn add_sum(tally: &mut Tally, at: usize, sum: u64)
-    requires { at < 292 }
-{
-    tally[at] = std::num::wrapping_add_u64(tally[at], sum);
-}
-
-// Counts a case that differs, and says in what.
-fn differs(tally: &mut Tally, operation: u8, outcome: Outcome) {
-    add(tally, DIFFERENCES);
-    tell::difference(tally[ANSWERS], operation, outcome);
 }
 
 // Counts a case, and says whether and in what it differs.
-fn judge(tally: &mut Tally, operation: u8, met: Met)
-    requires { operation < 12 }
-{
+fn judge(tally: &mut Tally, operation: Operation, met: Met) {
     add(
-        tally,
-        24 * operation as usize + place(operation, met.answer),
+        &mut tally.times[operation as usize],
+        place(meaning(operation, met.answer)),
     );
-    add(tally, ANSWERS);
-    add_sum(tally, ANSWERED, met.answer);
-    add_sum(tally, LENT, met.sum);
-    let outcome = met.outcome;
-    match outcome {
-        Outcome::Right => {}
-        _ => differs(tally, operation, outcome),
+    tally.answers = tally.answers.wrapping_add(1);
+    tally.answered = tally.answered.wrapping_add(met.answer);
+    tally.lent = tally.lent.wrapping_add(met.sum);
+    if let Err(difference) = met.outcome {
+        tally.differences = tally.differences.wrapping_add(1);
+        tell::difference(tally.answers, operation, difference);
     }
 }
 
-// Replays the case at the front of a part of the file, and says how many bytes it takes: 0 where it is damaged.
-fn step(rest: &[u8], tally: &mut Tally) -> usize
-    ensures { result ≤ length rest.now }
+// Replays the case at the front of a part of the file, and says how many bytes it takes; none where it is damaged.
+fn step(rest: &[u8], tally: &mut Tally) -> Option<usize>
+    ensures { IfSome result (λ n. (0 < n) × (n ≤ length rest.now)) }
 {
-    let Found::Whole(case) = case::find(rest) else {
-        return 0;
-    };
+    let case = case::find(rest)?;
     let met = replay::replay(rest, case);
     judge(tally, case.operation, met);
-    case.end
+    Some(case.end)
 }
 
 // Replays the cases one after the other, and says how many bytes they take: all, or up to the first that is damaged.
 fn replay_all(file: &[u8], tally: &mut Tally) -> usize {
     let mut at = 0;
     while at < file.len() {
-        let taken = step(&file[at..], tally);
-        if taken == 0 {
+        let Some(taken) = step(&file[at..], tally) else {
             return at;
-        }
+        };
         at += taken;
     }
     at
@@ -125,26 +123,30 @@ fn fault(len: usize, end: usize, answers: u64) {
 
 // Says what was met.
 fn say_all(tally: &Tally) {
-    tell::counts(tally);
-    tell::sums(tally[ANSWERED], tally[LENT]);
-    tell::total(tally[ANSWERS], tally[DIFFERENCES]);
+    tell::counts(&tally.times);
+    tell::sums(tally.answered, tally.lent);
+    tell::total(tally.answers, tally.differences);
 }
 
 // Replays a file, and says what came of it.
 fn report(file: &[u8]) {
-    let mut tally = [0u64; 292];
+    let mut tally = Tally {
+        times: [[0; 24]; 12],
+        answers: 0,
+        differences: 0,
+        answered: 0,
+        lent: 0,
+    };
     let end = replay_all(file, &mut tally);
     say_all(&tally);
-    fault(file.len(), end, tally[ANSWERS]);
+    fault(file.len(), end, tally.answers);
 }
 
 fn main(rt: HostRuntime) {
     let mut space = file_space();
-    let got = files::read(&rt, b"answers.bin", &mut space);
-    if !got.is_read {
+    let Ok(n) = files::read(&rt, b"answers.bin", &mut space) else {
         io::write_all(1, b"answers.bin cannot be read\n");
         return;
-    }
-    let n = got.count;
+    };
     report(&space[..n]);
 }

@@ -4,11 +4,11 @@ ghost use Rattle.recorded_runs.specs.Layout.{Laid};
 ghost use Rattle.recorded_runs.specs.Compared.{Compared};
 
 use crate::case::Case;
+use crate::operation::Operation;
 
-// How a case went: as it should, or what is the first that differs.
-#[derive(Clone, Copy)]
-pub enum Outcome {
-    Right,
+// What is the first that differs in a case.
+#[derive(Clone, Copy, Debug, PartialEq, Eq)]
+pub enum Difference {
     OtherAnswer,
     OtherField,
     OtherBytes,
@@ -16,16 +16,16 @@ pub enum Outcome {
 }
 
 // What a case met: what was answered, the sum of what was lent, and how the case went.
-#[derive(Clone, Copy)]
+#[derive(Clone, Copy, Debug, PartialEq, Eq)]
 pub struct Met {
     pub answer: u64,
     pub sum: u64,
-    pub outcome: Outcome,
+    pub outcome: Result<(), Difference>,
 }
 
 // Makes the call of an operation. A decoder says more beside its answer.
 fn answer(
-    operation: u8,
+    operation: Operation,
     number: u64,
     first: &[u8],
     second: &[u8],
@@ -33,18 +33,18 @@ fn answer(
     more: &mut u64,
 ) -> u64 {
     match operation {
-        0 => osc::osc_decode_udp(first, out, number, more),
-        1 => osc::osc_decode_tcp(first, out, number, more),
-        2 => osc::osc_decode_tcp_vec(first, out, number, more),
-        3 => osc::osc_encode(first, number, second, out),
-        4 => osc::osc_encode_tcp(first, number, second, out),
-        5 => osc::osc_encode_string(first, out),
-        6 => osc::osc_pad(number),
-        7 => osc::osc_look(first, number),
-        8 => osc::osc_start(first, number),
-        9 => osc::osc_decode_tcp2(first, out, number, more),
-        10 => osc::osc_decode_tcp_vec2(first, out, number, more),
-        _ => osc::osc_encode_tcp2(first, number, second, out),
+        Operation::DecodeUdp => osc::osc_decode_udp(first, out, number, more),
+        Operation::DecodeTcp => osc::osc_decode_tcp(first, out, number, more),
+        Operation::DecodeTcpVec => osc::osc_decode_tcp_vec(first, out, number, more),
+        Operation::Encode => osc::osc_encode(first, number, second, out),
+        Operation::EncodeTcp => osc::osc_encode_tcp(first, number, second, out),
+        Operation::EncodeString => osc::osc_encode_string(first, out),
+        Operation::Pad => osc::osc_pad(number),
+        Operation::Look => osc::osc_look(first, number),
+        Operation::StartOf => osc::osc_start(first, number),
+        Operation::DecodeTcp2 => osc::osc_decode_tcp2(first, out, number, more),
+        Operation::DecodeTcpVec2 => osc::osc_decode_tcp_vec2(first, out, number, more),
+        Operation::EncodeTcp2 => osc::osc_encode_tcp2(first, number, second, out),
     }
 }
 
@@ -52,22 +52,29 @@ fn answer(
 //
 // Ruled out: a case that is right where a later byte is changed; one that is right where another field is said to be short, or padding to
 // be less dirty.
-fn compare(answer: u64, due: u64, more: u64, field: u64, out: &[u8], written: &[u8]) -> Outcome
+fn compare(
+    answer: u64,
+    due: u64,
+    more: u64,
+    field: u64,
+    out: &[u8],
+    written: &[u8],
+) -> Result<(), Difference>
     ensures { Compared answer due more field out.now written.now result }
 {
     if answer != due {
-        return Outcome::OtherAnswer;
+        return Err(Difference::OtherAnswer);
     }
     if more != field {
-        return Outcome::OtherField;
+        return Err(Difference::OtherField);
     }
     if !runs::begins(out, written) {
-        return Outcome::OtherBytes;
+        return Err(Difference::OtherBytes);
     }
     if !runs::is_kept(out, written.len()) {
-        return Outcome::LaterByte;
+        return Err(Difference::LaterByte);
     }
-    Outcome::Right
+    Ok(())
 }
 
 // Replays a case in a buffer of just the room that it has.

@@ -1,58 +1,50 @@
 // What is said of the cases, on standard output.
-ghost use Rattle.std.specs.Prelude.{◌<◌, ◌≤◌, length};
-
-use crate::replay::Outcome;
+use crate::operation::Operation;
+use crate::replay::Difference;
 use runs::said::{say, say_counts};
 use runs::tally::say_met;
-use words::line::word;
 
-// The names of the operations, in the order of their numbers.
-const NAMES: [u8; 126] =
-    *b"decode_udp decode_tcp decode_tcp_vec encode encode_tcp encode_string pad look start_of decode_tcp2 decode_tcp_vec2 encode_tcp2";
+// The names of the operations, in their order.
+const NAMES: [&[u8]; 12] = [
+    b"decode_udp",
+    b"decode_tcp",
+    b"decode_tcp_vec",
+    b"encode",
+    b"encode_tcp",
+    b"encode_string",
+    b"pad",
+    b"look",
+    b"start_of",
+    b"decode_tcp2",
+    b"decode_tcp_vec2",
+    b"encode_tcp2",
+];
 
-// Says the name of an operation.
-fn name(operation: u8) {
-    io::write_all(1, word(&NAMES, operation as usize));
-}
-
-// Says in what a case differs, where it does.
-fn what(outcome: Outcome) {
-    match outcome {
-        Outcome::Right => false,
-        Outcome::OtherAnswer => io::write_all(1, b"the answer differs"),
-        Outcome::OtherField => io::write_all(1, b"what is said beside the answer differs"),
-        Outcome::OtherBytes => io::write_all(1, b"the bytes written differ"),
-        Outcome::LaterByte => io::write_all(1, b"a later byte is changed"),
+// Says in what a case differs.
+fn what(difference: Difference) {
+    match difference {
+        Difference::OtherAnswer => io::write_all(1, b"the answer differs"),
+        Difference::OtherField => io::write_all(1, b"what is said beside the answer differs"),
+        Difference::OtherBytes => io::write_all(1, b"the bytes written differ"),
+        Difference::LaterByte => io::write_all(1, b"a later byte is changed"),
     };
 }
 
 // Says which case differs, and in what.
-pub fn difference(number: u64, operation: u8, outcome: Outcome) {
+pub fn difference(number: u64, operation: Operation, difference: Difference) {
     say(b"case ", number);
     io::write_all(1, b", ");
-    name(operation);
+    io::write_all(1, NAMES[operation as usize]);
     io::write_all(1, b": ");
-    what(outcome);
+    what(difference);
     io::write_all(1, b"\n");
 }
 
-// Says how often an operation gave each answer.
-fn count(operation: u8, tally: &[u64])
-    requires { (operation < 12) × (288 ≤ length tally.now) }
-{
-    name(operation);
-    let from = 24 * operation as usize;
-    say_met(b"given waiting", &tally[from..from + 24]);
-}
-
-// Says it of every operation.
-pub fn counts(tally: &[u64])
-    requires { 288 ≤ length tally.now }
-{
-    let mut operation = 0;
-    while operation < 12 {
-        count(operation, tally);
-        operation += 1;
+// Says how often each operation gave each answer.
+pub fn counts(times: &[[u64; 24]; 12]) {
+    for (name, met) in NAMES.iter().zip(times.iter()) {
+        io::write_all(1, *name);
+        say_met(b"given waiting", met);
     }
 }
 

@@ -17,11 +17,7 @@ pub const FILL: u8 = 0x5A;
 pub fn fill(out: &mut [u8])
     ensures { (length out.new ≡ length out.old) × Kept out.new 0 }
 {
-    let mut i = 0;
-    while i < out.len() {
-        out[i] = FILL;
-        i += 1;
-    }
+    out.fill(FILL)
 }
 
 // Whether each byte from `from` on is as `fill` left it.
@@ -30,14 +26,7 @@ pub fn fill(out: &mut [u8])
 pub fn is_kept(out: &[u8], from: usize) -> bool
     ensures { TellsWhether result (Kept out.now from) }
 {
-    let mut i = from;
-    while i < out.len() {
-        if out[i] != FILL {
-            return false;
-        }
-        i += 1;
-    }
-    true
+    out.iter().skip(from).all(|b| *b == FILL)
 }
 
 // Whether a slice begins with the bytes.
@@ -46,11 +35,7 @@ pub fn is_kept(out: &[u8], from: usize) -> bool
 pub fn begins(out: &[u8], bytes: &[u8]) -> bool
     ensures { TellsWhether result (Begins bytes.now out.now) }
 {
-    let n = bytes.len();
-    if out.len() < n {
-        return false;
-    }
-    check::same(&out[..n], bytes)
+    out.starts_with(bytes)
 }
 
 // Whether a slice begins with the bytes, and the rest of it is as `fill` left it.
@@ -59,10 +44,7 @@ pub fn begins(out: &[u8], bytes: &[u8]) -> bool
 pub fn holds(out: &[u8], bytes: &[u8]) -> bool
     ensures { TellsWhether result (Holds bytes.now out.now) }
 {
-    if !begins(out, bytes) {
-        return false;
-    }
-    is_kept(out, bytes.len())
+    begins(out, bytes) && is_kept(out, bytes.len())
 }
 
 // One number for all bytes of a slice, in which each has its part by its value and its place: what a call left, told in short.
@@ -72,10 +54,8 @@ pub fn sum_of(bytes: &[u8]) -> u64
     ensures { result ≡ sum_of bytes.now 0 }
 {
     let mut sum = 0;
-    let mut at = 0;
-    while at < bytes.len() {
-        sum = (sum * 257 + bytes[at] as u64) % 4294967291;
-        at += 1;
+    for b in bytes {
+        sum = (sum * 257 + *b as u64) % 4294967291;
     }
     sum
 }

@@ -12,15 +12,9 @@ pub fn put_text(line: &mut [u8], at: usize, text: &[u8]) -> usize
     requires { at ≤ length line.old }
     ensures { Adds text.now at line.old result line.new }
 {
-    let mut i = 0;
-    while i < text.len() {
-        if line.len() - at <= i {
-            return at + i;
-        }
-        line[at + i] = text[i];
-        i += 1;
-    }
-    at + i
+    let end = at + text.len().min(line.len() - at);
+    line[at..end].copy_from_slice(&text[..end - at]);
+    end
 }
 
 // Puts a text and a number.

@@ -8,8 +8,8 @@ use words::line::{place_of, word};
 pub fn add(tally: &mut [u64], at: usize)
     ensures { length tally.new ≡ length tally.old }
 {
-    if at < tally.len() {
-        tally[at] = std::num::wrapping_add_u64(tally[at], 1);
+    if let Some(count) = tally.get_mut(at) {
+        *count = count.wrapping_add(1);
     }
 }
 
@@ -34,10 +34,8 @@ fn say_times(names: &[u8], answer: usize, times: u64) {
 
 // Says how often each answer was met, and ends the line.
 pub fn say_met(names: &[u8], tally: &[u64]) {
-    let mut answer = 0;
-    while answer < tally.len() {
-        say_times(names, answer, tally[answer]);
-        answer += 1;
+    for (answer, times) in tally.iter().enumerate() {
+        say_times(names, answer, *times);
     }
     io::write_all(1, b"\n");
 }

@@ -7,31 +7,15 @@ pub mod listed; // listed.rt: a table as a line lists it
 ghost use Rattle.spelled.specs.Put.{Put};
 
 use words::hex;
-use words::line::{after, front, until};
-use words::numeral::{Numeral, decimal, number};
+use words::numeral::{decimal, number};
 
 // A bundle's name and the immediate time tag.
 const BUNDLE: [u8; 32] = *b"2362756E646C65000000000000000001";
 
-// Where the '*' of a part stands that repeats; its end where it does not.
-fn star_of(part: &[u8]) -> usize {
-    until(part, 0, b'*')
-}
-
-// Whether a part is bundles: a number and '#'.
-fn is_nest(part: &[u8]) -> bool {
-    if part.len() == 0 {
-        return false;
-    }
-    part[part.len() - 1] == b'#'
-}
-
-// A part without its last byte.
-fn without_last(part: &[u8]) -> &[u8] {
-    if part.len() == 0 {
-        return part;
-    }
-    front(part, part.len() - 1)
+// What stands before the first `byte` of a word and after it, where it has one.
+fn parted(word: &[u8], byte: u8) -> Option<(&[u8], &[u8])> {
+    let at = word.iter().position(|b| *b == byte)?;
+    Some((&word[..at], &word[at + 1..]))
 }
 
 // Puts the bytes of the digits as often as `times` says.
@@ -39,9 +23,7 @@ fn put_times(times: u64, digits: &[u8], out: &mut [u8]) -> usize
     ensures { Put result out.old out.new }
 {
     let mut at = 0;
-    let mut left = times;
-    while 0 < left {
-        left -= 1;
+    for _ in 0..times {
         at += hex::bytes(digits, &mut out[at..]);
     }
     at
@@ -61,10 +43,8 @@ fn put_bundle(n: u64, out: &mut [u8]) -> usize
     if 3276 < n {
         return 0;
     }
-    out[16] = 0;
-    out[17] = 0;
-    out[18] = ((20 * n - 4) / 256 % 256) as u8;
-    out[19] = ((20 * n - 4) % 256) as u8;
+    let size = 20 * n as u32 - 4;
+    out[16..20].copy_from_slice(&size.to_be_bytes());
     20
 }
 
@@ -73,9 +53,7 @@ fn put_nested(n: u64, out: &mut [u8]) -> usize
     ensures { Put result out.old out.new }
 {
     let mut at = 0;
-    let mut left = n;
-    while 0 < left {
-        left -= 1;
+    for left in (0..n).rev() {
         at += put_bundle(left, &mut out[at..]);
     }
     at
@@ -85,12 +63,11 @@ fn put_nested(n: u64, out: &mut [u8]) -> usize
 fn put_part(part: &[u8], out: &mut [u8]) -> usize
     ensures { Put result out.old out.new }
 {
-    let star = star_of(part);
-    if star < part.len() {
-        return put_times(number(front(part, star), 0), after(part, star), out);
+    if let Some((times, digits)) = parted(part, b'*') {
+        return put_times(number(times, 0), digits, out);
     }
-    if is_nest(part) {
-        return put_nested(number(without_last(part), 0), out);
+    if let [bundles @ .., b'#'] = part {
+        return put_nested(number(bundles, 0), out);
     }
     hex::bytes(part, out)
 }
@@ -102,47 +79,30 @@ pub fn put_bytes(word: &[u8], out: &mut [u8]) -> usize
     ensures { Put result out.old out.new }
 {
     let mut done = 0;
-    let mut at = 0;
-    while at < word.len() {
-        let end = until(word, at, b'+');
-        done += put_part(&word[at..end], &mut out[done..]);
-        at = end + 1;
+    for part in word.split(|b| *b == b'+') {
+        done += put_part(part, &mut out[done..]);
     }
     done
 }
 
 // Whether a word is a number.
 pub fn is_number(word: &[u8]) -> bool {
-    match decimal(word) {
-        Numeral::Is(_) => true,
-        Numeral::Unclear => false,
-    }
+    decimal(word).is_some()
 }
 
 // Whether a part spells bytes.
 fn is_part(part: &[u8]) -> bool {
-    let star = star_of(part);
-    if star < part.len() {
-        return is_number(front(part, star)) && hex::is_bytes(after(part, star));
+    if let Some((times, digits)) = parted(part, b'*') {
+        return is_number(times) && hex::is_bytes(digits);
     }
-    if is_nest(part) {
-        return is_number(without_last(part));
+    if let [bundles @ .., b'#'] = part {
+        return is_number(bundles);
     }
     hex::is_bytes(part)
 }
 
-// Whether a word spells bytes.
+// Whether a word spells bytes. A last '+' may have nothing after it.
 pub fn is_bytes(word: &[u8]) -> bool {
-    if word.len() == 0 {
-        return false;
-    }
-    let mut at = 0;
-    while at < word.len() {
-        let end = until(word, at, b'+');
-        if !is_part(&word[at..end]) {
-            return false;
-        }
-        at = end + 1;
-    }
-    true
+    let parts = word.strip_suffix(b"+").unwrap_or(word);
+    !word.is_empty() && parts.split(|b| *b == b'+').all(is_part)
 }

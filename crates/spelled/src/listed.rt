@@ -5,10 +5,10 @@
 ghost use Rattle.std.specs.Prelude.{◌≤◌};
 ghost use Rattle.spelled.specs.Put.{Put};
 
-use crate::is_number;
+use crate::{is_number, parted};
 use wire::{be_u32, put_u32};
 use words::hex;
-use words::line::{after, front, until, word};
+use words::line::{front, until, word};
 use words::numeral::number;
 
 // The bytes of a record, five numbers of four bytes: document 01, "The node table".
@@ -27,14 +27,23 @@ struct Row {
     start_step: u32,
 }
 
+impl Row {
+    // The record after it.
+    fn next(self) -> Row {
+        Row {
+            end: self.end.wrapping_add(self.end_step),
+            a: self.a.wrapping_add(self.a_step),
+            start: self.start.wrapping_add(self.start_step),
+            ..self
+        }
+    }
+}
+
 // How many bytes so many records are; more than is ever lent where they are too many.
 pub fn size_of(records: u64) -> usize
     ensures { result ≤ 2621440 }
 {
-    if 131071 < records {
-        return 2621440;
-    }
-    records as usize * RECORD
+    records.min(131072) as usize * RECORD
 }
 
 // How many records stand in so many bytes.
@@ -44,10 +53,7 @@ pub fn records_in(bytes: usize) -> u64 {
 
 // The byte of a kind that is spelled by itself.
 pub fn kind_of(kind: &[u8]) -> u8 {
-    if kind.len() == 0 {
-        return 0;
-    }
-    kind[0]
+    kind.first().copied().unwrap_or(0)
 }
 
 // The first four bytes of a record, where a kind spells them.
@@ -77,11 +83,10 @@ fn value_of(field: &[u8]) -> u32 {
 
 // By how much it grows.
 fn step_of(field: &[u8]) -> u32 {
-    let plus = until(field, 0, b'+');
-    if plus < field.len() {
-        return narrow(number(after(field, plus), 0));
+    match parted(field, b'+') {
+        Some((_, step)) => narrow(number(step, 0)),
+        None => 0,
     }
-    0
 }
 
 // The numbers of a listed record of this kind.
@@ -98,18 +103,18 @@ fn row_of(kind: &[u8], record: &[u8]) -> Row {
     }
 }
 
-// Puts five numbers as a record, if there is room.
-fn put_record(first: u32, end: u32, a: u32, b: u32, start: u32, out: &mut [u8]) -> usize
+// Puts a record, if there is room.
+fn put_record(row: Row, out: &mut [u8]) -> usize
     ensures { Put result out.old out.new }
 {
     if out.len() < RECORD {
         return 0;
     }
-    put_u32(out, first);
-    put_u32(&mut out[4..], end);
-    put_u32(&mut out[8..], a);
-    put_u32(&mut out[12..], b);
-    put_u32(&mut out[16..], start);
+    put_u32(out, row.first);
+    put_u32(&mut out[4..], row.end);
+    put_u32(&mut out[8..], row.a);
+    put_u32(&mut out[12..], row.b);
+    put_u32(&mut out[16..], row.start);
     RECORD
 }
 
@@ -118,16 +123,10 @@ fn put_records(times: u64, row: Row, out: &mut [u8]) -> usize
     ensures { Put result out.old out.new }
 {
     let mut at = 0;
-    let mut end = row.end;
-    let mut a = row.a;
-    let mut start = row.start;
-    let mut left = times;
-    while 0 < left {
-        at += put_record(row.first, end, a, row.b, start, &mut out[at..]);
-        end = std::num::wrapping_add_u32(end, row.end_step);
-        a = std::num::wrapping_add_u32(a, row.a_step);
-        start = std::num::wrapping_add_u32(start, row.start_step);
-        left -= 1;
+    let mut row = row;
+    for _ in 0..times {
+        at += put_record(row, &mut out[at..]);
+        row = row.next();
     }
     at
 }
@@ -137,15 +136,10 @@ fn put_listed(record: &[u8], out: &mut [u8]) -> usize
     ensures { Put result out.old out.new }
 {
     let kind = word(record, 0);
-    let star = until(kind, 0, b'*');
-    if star < kind.len() {
-        return put_records(
-            number(front(kind, star), 0),
-            row_of(after(kind, star), record),
-            out,
-        );
+    match parted(kind, b'*') {
+        Some((times, kind)) => put_records(number(times, 0), row_of(kind, record), out),
+        None => put_records(1, row_of(kind, record), out),
     }
-    put_records(1, row_of(kind, record), out)
 }
 
 // Puts the records of a list at the front of `out`, and says how many bytes they are.
@@ -172,42 +166,32 @@ fn is_kind(kind: &[u8]) -> bool {
 
 // Whether a word is a kind, or a number of them.
 fn is_kinds(kind: &[u8]) -> bool {
-    let star = until(kind, 0, b'*');
-    if star < kind.len() {
-        return is_number(front(kind, star)) && is_kind(after(kind, star));
+    match parted(kind, b'*') {
+        Some((times, kind)) => is_number(times) && is_kind(kind),
+        None => is_kind(kind),
     }
-    is_kind(kind)
 }
 
 // Whether a word is a number, or two with '+' between them.
 fn is_field(field: &[u8]) -> bool {
-    let plus = until(field, 0, b'+');
-    if plus < field.len() {
-        return is_number(front(field, plus)) && is_number(after(field, plus));
+    match parted(field, b'+') {
+        Some((first, step)) => is_number(first) && is_number(step),
+        None => is_number(field),
     }
-    is_number(field)
 }
 
 // Whether a word is a start, or none.
 fn is_start(field: &[u8]) -> bool {
-    if field.len() == 0 {
-        return true;
-    }
-    is_field(field)
+    field.is_empty() || is_field(field)
 }
 
 // Whether a part of a list is a record.
 fn is_record(record: &[u8]) -> bool {
-    if !is_kinds(word(record, 0)) {
-        return false;
-    }
-    if !is_field(word(record, 1)) {
-        return false;
-    }
-    if !is_field(word(record, 2)) {
-        return false;
-    }
-    is_number(word(record, 3)) && is_start(word(record, 4))
+    is_kinds(word(record, 0))
+        && is_field(word(record, 1))
+        && is_field(word(record, 2))
+        && is_number(word(record, 3))
+        && is_start(word(record, 4))
 }
 
 // Whether bytes list records, or none.

@@ -17,16 +17,6 @@ use Rattle.values.specs.declared.value.OscType.{OscType}
 use Rattle.values.specs.declared.value.OscType.TheVariants as value
 use Rattle.values.specs.contracts.value.OscType as kinds
 use Rattle.telling.specs.Shown.{shown_as, sign_words, value_line}
-use Rattle.telling.specs.CodeTable.{said_by, Shows}
-use Rattle.telling.specs.declared.line.Line.{Line}
-
--- two lines that are one say the same
-pub same-said : {l m : Line} (text : List ℕ) → l ≡ m → said_by l text ≡ said_by m text
-same-said text e = ap (λ (l : Line). said_by l text) e
-
--- what a line says of a value it says of what is that value
-pub value-said : {v w : OscType} (l : Line) (i e : ℕ) → v ≡ w → Shows l (λ k. value_line i k e w) → Shows l (λ k. value_line i k e v)
-value-said l i e q p k = p k ∙ sym (ap (value_line i k e) q)
 
 -- ---- values that hold nothing
 

@@ -1,37 +1,35 @@
 -- A line that is put together piece by piece, in a slice that may be too short for it.
 use mathlib.Core.Path.{◌≡◌, refl, sym, ap, ◌∙◌}
 use mathlib.Core.List.{List, [], ◌∷◌, ◌++◌, append_assoc, append-nil}
-use Prim.Native.Nat.{ℕ, zero, suc, ◌+◌, ◌≤◌, ◌<◌}
+use Prim.Native.Nat.{ℕ, zero, suc, ◌+◌, ◌-◌, ◌≤◌, ◌<◌, min}
 use native.Mathlib.Nat.{add-zero}
 use native.Mathlib.Numerals.{add-one}
 use native.Mathlib.Omega.{arith}
-use lib.ListN.{length, get_or, take, drop, set, length-append}
-use lib.Seq.{take_all, take-suc, take-suc-set, length-take-le, take-append-add, drop-cons, drop-drop, get_or-drop, drop-length}
+use lib.ListN.{length, get_or, take, drop, length-append, length-drop}
+use Rattle.std.proofs.Math.Nat.{min_comm}
+use Rattle.std.proofs.lemmas.List.{take_min}
+use Rattle.std.proofs.lemmas.Slice.{take-put_mid}
+use borrow.Rule.Slice.PartMut.{put_mid}
+use lib.Seq.{take_all, length-take-le, take-append-add, drop-cons, drop-drop, get_or-drop, drop-length}
 use Rattle.telling.specs.Forms.{piece_of, taken_by, filled_in, Says}
 use Rattle.telling.specs.CodePut.{PutAfter}
 
 -- ---- one piece
 
--- one byte more
-pub byte_more : (o o₀ bs : List ℕ) (at i end : ℕ) → take end o ≡ take at o₀ ++ take i bs → end < length o → i < length bs
-    → take (end + 1) (set o end (get_or bs i 0)) ≡ take at o₀ ++ take (i + 1) bs
-byte_more o o₀ bs at i end e h l =
-    rw (add-one end, add-one i, take-suc-set o end (get_or bs i 0) h, take-suc bs i 0 l, e)
-    (append_assoc (take at o₀) (take i bs) (get_or bs i 0 ∷ []))
-
--- the slice is full
-pub put_full : {o o₀ bs : List ℕ} (at i end : ℕ) → at ≤ length o₀ → end ≡ at + i → end ≡ length o₀ → length o ≡ length o₀
-    → take end o ≡ take at o₀ ++ take i bs → PutAfter bs at o₀ o end
-put_full {o} {o₀} {bs} at i end h e f l w =
-    let n : length (take at o₀) + i ≡ length o₀ = rw (length-take-le at o₀ h) (omega arith) in
-    record { room = l; within = omega arith; left = w ∙ rw (← n, take-append-add (take at o₀) bs i) }
-
--- every byte is put
-pub put_all : {o o₀ bs : List ℕ} (at i end : ℕ) → at ≤ length o₀ → end ≡ at + i → end ≤ length o₀ → length bs ≡ i
-    → length o ≡ length o₀ → take end o ≡ take at o₀ ++ take i bs → PutAfter bs at o₀ o end
-put_all {o} {o₀} {bs} at i end h e f n l w =
-    let k : length (take at o₀ ++ bs) ≤ length o₀ = simp (length-append, length-take-le at o₀ h) (omega arith) in
-    record { room = l; within = f; left = w ∙ rw (take_all i bs (omega arith), take_all (length o₀) (take at o₀ ++ bs) k) }
+-- as many of the bytes as there is room for
+pub put-front : (o₀ bs : List ℕ) {p : List ℕ} (at k : ℕ) {n : ℕ} → at ≤ length o₀ → n ≡ min (length bs) (length o₀ - at) → k ≡ n
+    → p ≡ take n bs → PutAfter bs at o₀ (put_mid at k o₀ p) (at + n)
+put-front o₀ bs {p} at k {n} h m e q =
+    let l : length p ≡ n = ap length q ∙ length-take-le n bs (omega arith) in
+    let t : take n bs ≡ take (length o₀ - at) bs = rw (m, min_comm (length bs) (length o₀ - at)) (take_min (length o₀ - at) bs) in
+    let f : length (take at o₀) ≡ at = length-take-le at o₀ h in
+    let s : take (length o₀) (take at o₀ ++ bs) ≡ take at o₀ ++ take (length o₀ - at) bs
+    = ap (λ (j : ℕ). take j (take at o₀ ++ bs)) (omega arith) ∙ take-append-add (take at o₀) bs (length o₀ - at) in
+    record {
+      room = simp (length-append, length-drop, l, f) (omega arith);
+      within = omega arith;
+      left = take-put_mid at k o₀ p (at + n) (omega arith) h ∙ ap (λ (l : List ℕ). take at o₀ ++ l) (q ∙ t) ∙ sym s;
+    }
 
 -- what is put, by another name
 pub put_as : {bs cs o₀ o : List ℕ} {at r : ℕ} → bs ≡ cs → PutAfter bs at o₀ o r → PutAfter cs at o₀ o r
@@ -85,7 +83,3 @@ says_none out = record
 -- a line by another name
 pub says-as : {bs cs out : List ℕ} {r : ℕ} → bs ≡ cs → Says bs out r → Says cs out r
 says-as e w = rw e at w
-
--- the line of a case is the line of what is in that case
-pub says_of : {A : Type 0} {v w : A} {bs out : List ℕ} {r : ℕ} (f : A → List ℕ) → v ≡ w → bs ≡ f w → Says bs out r → Says (f v) out r
-says_of f q p s = says-as (p ∙ sym (ap f q)) s

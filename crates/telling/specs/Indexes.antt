@@ -1,13 +1,12 @@
 -- The line for a cue index, as the order of Ticket 5 has it: one that was written, and one that was checked. Both end alike.
-use Rattle.std.specs.Prelude.{List, [], ◌∷◌, ℕ}
+use Rattle.std.specs.Prelude.{List, [], ◌∷◌, ℕ, Ok, Err}
 use Prim.Native.String.{String, ◌++◌}
 use Rattle.refusal.specs.Refusal.{moved_refusal}
 use Rattle.results.specs.Differs.{index_differs}
 use Rattle.results.specs.Ends.{FieldUpTo}
 use Rattle.results.specs.declared.End.{End}
 use Rattle.results.specs.declared.End.TheVariants as end
-use Rattle.results.specs.declared.Checked.{Checked}
-use Rattle.results.specs.declared.Checked.TheVariants as checked
+use Rattle.results.specs.Results.{Checked}
 use Rattle.telling.specs.Forms.{line}
 use Rattle.telling.specs.Refusals.{refused_words, numbered_line}
 
@@ -60,8 +59,8 @@ differs_line k = numbered_line index_differs k
 
 -- one that was checked: where it fits, where and why the recording's ends
 abbrev pub checked_line : Checked → ℕ → End → List ℕ
-checked_line (checked.Fits records) at why = end_line (end_form fits_words why) records at (end_words at why)
-checked_line (checked.Differs k) at why = differs_line k
+checked_line (Ok records) at why = end_line (end_form fits_words why) records at (end_words at why)
+checked_line (Err differs) at why = differs_line differs.at
 
 -- every offset that is told has 63 bits
 abbrev pub Tellable : ℕ → End → Type 0

@@ -6,4 +6,3 @@ pub mod Shown
 pub mod Indexes
 pub mod Troubles
 pub mod CodePut
-pub mod CodeTable

@@ -1,10 +1,8 @@
 -- The line for an answer of the library.
-use Rattle.std.specs.Prelude.{cond, List, [], ◌∷◌, ℕ, eqb}
+use Rattle.std.specs.Prelude.{cond, List, [], ◌∷◌, ℕ, eqb, Err, Ok}
 use Prim.Native.String.{String}
-use Rattle.results.specs.declared.Decoded.{Decoded}
-use Rattle.results.specs.declared.Decoded.TheVariants as decoded
-use Rattle.results.specs.declared.Encoded.{Encoded}
-use Rattle.results.specs.declared.Encoded.TheVariants as encoded
+use Rattle.results.specs.Results.{DecodeAnswer, Encoded}
+use Rattle.results.specs.Results as decoded
 use Rattle.telling.specs.Forms.{line}
 use Rattle.telling.specs.Refusals.{refused_line, refused_words}
 
@@ -49,17 +47,17 @@ stopped_line packets count left dirty words frame =
     (line stopped_dirty_form (packets ∷ count ∷ left ∷ dirty ∷ frame ∷ []) words)
 
 -- a decoder's answer to an input of so many packets and bytes
-abbrev pub decoded_line : ℕ → ℕ → Decoded → List ℕ
+abbrev pub decoded_line : ℕ → ℕ → DecodeAnswer → List ℕ
 decoded_line packets bytes (decoded.Packets count left dirty) = packets_line packets count left dirty
 decoded_line packets bytes decoded.Waiting = line waiting_form (bytes ∷ []) []
-decoded_line packets bytes (decoded.Refused refusal) = refused_line refusal
+decoded_line packets bytes (Err refusal) = refused_line refusal
 decoded_line packets bytes (decoded.Stopped count left dirty refusal frame) =
     stopped_line packets count left dirty (refused_words refusal) frame
 
 -- an encoder's answer
 abbrev pub encoded_line : Encoded → List ℕ
-encoded_line (encoded.Written n) = line written_form (n ∷ []) []
-encoded_line (encoded.Refused refusal) = refused_line refusal
+encoded_line (Ok n) = line written_form (n ∷ []) []
+encoded_line (Err refusal) = refused_line refusal
 
 -- the version
 abbrev pub version_line : ℕ → ℕ → ℕ → List ℕ

@@ -1,12 +1,9 @@
 -- The line for a record that is looked at.
-use Rattle.std.specs.Prelude.{List, [], ◌∷◌, ◌++◌ as ◌+++◌, ℕ, ◌/◌, ◌%◌, ℤ, pos, negsuc, nat_abs}
+use Rattle.std.specs.Prelude.{List, [], ◌∷◌, ◌++◌ as ◌+++◌, ℕ, ◌/◌, ◌%◌, ℤ, pos, negsuc, nat_abs, Err, Ok}
 use Prim.Native.String.{String, ◌++◌}
 use Rattle.node.specs.Records.{kind_at, end_at}
 use Rattle.values.specs.Look.{look_at, started_at}
-use Rattle.values.specs.declared.look.Looked.{Looked}
-use Rattle.values.specs.declared.look.Looked.TheVariants as looked
-use Rattle.values.specs.declared.look.Started.{Started}
-use Rattle.values.specs.declared.look.Started.TheVariants as started
+use Rattle.values.specs.Results.{Looked, Started}
 use Rattle.values.specs.declared.value.OscType.{OscType}
 use Rattle.values.specs.declared.value.OscType.TheVariants as value
 use Rattle.telling.specs.Forms.{line}
@@ -46,8 +43,8 @@ value_line i k e value.Array = shown_as i k e "" []
 
 -- the value, or the refusal
 abbrev pub looked_line : ℕ → ℕ → ℕ → Looked → List ℕ
-looked_line i k e (looked.Value x) = value_line i k e x
-looked_line i k e (looked.Refused refusal) = refused_line refusal
+looked_line i k e (Ok x) = value_line i k e x
+looked_line i k e (Err refusal) = refused_line refusal
 
 -- record i of a table
 unfoldable pub record_line : List ℕ → ℕ → List ℕ
@@ -59,13 +56,13 @@ start_form = "start %\n"
 
 -- the start, or the refusal
 abbrev pub started_line : Started → List ℕ
-started_line (started.At start) = line start_form (start ∷ []) []
-started_line (started.Refused refusal) = refused_line refusal
+started_line (Ok start) = line start_form (start ∷ []) []
+started_line (Err refusal) = refused_line refusal
 
 -- it is said of a record that is shown; after a refusal nothing more is said
 abbrev pub after_look : Started → Looked → List ℕ
-after_look s (looked.Value x) = started_line s
-after_look s (looked.Refused refusal) = []
+after_look s (Ok x) = started_line s
+after_look s (Err refusal) = []
 
 -- of record i of a table
 unfoldable pub start_line : List ℕ → ℕ → List ℕ

@@ -9,17 +9,9 @@ fn put(out: &mut [u8], at: usize, bytes: &[u8]) -> usize
     requires { at ≤ length out.old }
     ensures { PutAfter bytes.now at out.old out.new result }
 {
-    let mut end = at;
-    let mut i = 0;
-    while i < bytes.len() {
-        if out.len() <= end {
-            return end;
-        }
-        out[end] = bytes[i];
-        end += 1;
-        i += 1;
-    }
-    end
+    let n = bytes.len().min(out.len() - at);
+    out[at..at + n].copy_from_slice(&bytes[..n]);
+    at + n
 }
 
 // Puts a number in decimal.
@@ -70,10 +62,7 @@ fn taken_by(mark: u8) -> usize
 fn number_at(numbers: &[u64], k: usize) -> u64
     ensures { result ≡ get_or numbers.now k 0 }
 {
-    if k < numbers.len() {
-        return numbers[k];
-    }
-    0
+    numbers.get(k).copied().unwrap_or(0)
 }
 
 // Puts a form with its marks filled in at the front of `out`, and answers how long it is. What has no room is left out.
@@ -84,12 +73,9 @@ pub fn fill_in(form: &[u8], numbers: &[u64], text: &[u8], out: &mut [u8]) -> usi
 {
     let mut at = 0;
     let mut k = 0;
-    let mut i = 0;
-    while i < form.len() {
-        let mark = form[i];
-        at = put_piece(out, at, mark, number_at(numbers, k), text);
-        k += taken_by(mark);
-        i += 1;
+    for mark in form {
+        at = put_piece(out, at, *mark, number_at(numbers, k), text);
+        k += taken_by(*mark);
     }
     at
 }

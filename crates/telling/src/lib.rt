@@ -2,8 +2,6 @@
 #![tactic(auto)]
 
 mod form; // form.rt: a text whose marks are filled in
-mod lines; // lines.rt: a text cut into lines
-mod line; // line.rt: a line before it is written
 mod refusals; // refusals.rt: the line for a refusal
 mod replies; // replies.rt: the line for an answer of the library
 mod shown; // shown.rt: the line for a record that is looked at

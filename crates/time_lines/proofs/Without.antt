@@ -1,4 +1,5 @@
 -- The values that have no time.
+use Rattle.std.specs.Prelude.{None}
 use mathlib.Core.Path.{◌≡◌, refl}
 use mathlib.Core.List.{List, [], ◌∷◌}
 use Prim.Native.Nat.{ℕ}
@@ -7,7 +8,6 @@ use denote.Enum.Declared.{tag_of}
 use Rattle.values.specs.declared.value.OscType.{OscType}
 use Rattle.values.specs.declared.value.OscType.TheVariants as value
 use Rattle.values.specs.contracts.value.OscType as kinds
-use Rattle.time_lines.specs.declared.TimeIn.TheVariants.{Without}
 use Rattle.time_lines.specs.TimeLines.{time_in}
 
 -- their cases in the enum, by their places
@@ -15,7 +15,7 @@ abbrev untimed : List ℕ
 untimed = 0 ∷ 2 ∷ 3 ∷ 4 ∷ 5 ∷ 7 ∷ 8 ∷ 9 ∷ 10 ∷ 11 ∷ 12 ∷ 13 ∷ 14 ∷ 15 ∷ []
 
 -- a value of such a case has no time
-pub no_time : (v : OscType) → OneOf untimed (tag_of kinds.the_type v) → Without ≡ time_in v
+pub no_time : (v : OscType) → OneOf untimed (tag_of kinds.the_type v) → None ≡ time_in v
 no_time (value.Message x y) h = refl
 no_time (value.Bundle x) h = absurd (miss untimed 1 tt h)
 no_time (value.Int x) h = refl

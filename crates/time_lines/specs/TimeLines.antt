@@ -1,13 +1,11 @@
 -- The line for a time: the Unix time, the tag and the UTC date (document 02, Ticket 7), or the refusal.
-use Rattle.std.specs.Prelude.{List, [], ◌∷◌, ℕ, ◌+◌, ◌*◌, ◌/◌, ◌%◌, ℤ, nat_abs}
+use Rattle.std.specs.Prelude.{Option, Some, None, Ok, Err, List, [], ◌∷◌, ℕ, ◌+◌, ◌*◌, ◌/◌, ◌%◌, ℤ, nat_abs}
 use Prim.Native.String.{String}
 use Rattle.clock.specs.Clock.{clock_number, tag_for, unix_for}
 use Rattle.clock.specs.declared.Rule.{Rule}
 use Rattle.clock.specs.declared.OutOfRange.{OutOfRange}
-use Rattle.clock.specs.declared.Tagged.{Tagged}
-use Rattle.clock.specs.declared.Tagged.TheVariants as tagged
-use Rattle.clock.specs.declared.Unix.{Unix}
-use Rattle.clock.specs.declared.Unix.TheVariants as unix
+use Rattle.clock.specs.Results.{Tagged, Unix}
+use Rattle.values.specs.Results.{Looked}
 use Rattle.dates.specs.Dates.{date_of}
 use Rattle.dates.specs.declared.Date.{Date}
 use Rattle.telling.specs.Forms.{line}
@@ -15,13 +13,9 @@ use Rattle.telling.specs.Refusals.{numbered_line}
 use Rattle.time_words.specs.declared.seconds.Moment.{Moment}
 use Rattle.time_words.specs.declared.seconds.Moment.TheVariants as moment
 use Rattle.values.specs.Look.{look_at}
-use Rattle.values.specs.declared.look.Looked.{Looked}
-use Rattle.values.specs.declared.look.Looked.TheVariants as looked
 use Rattle.values.specs.declared.value.OscTime.{OscTime}
 use Rattle.values.specs.declared.value.OscType.{OscType}
 use Rattle.values.specs.declared.value.OscType.TheVariants as value
-use Rattle.time_lines.specs.declared.TimeIn.{TimeIn}
-use Rattle.time_lines.specs.declared.TimeIn.TheVariants as time
 
 -- the seconds and nine digits, the tag in hexadecimal, and the date with the time of the day
 abbrev pub time_form : String
@@ -61,13 +55,13 @@ out_of_range reason = numbered_line (clock_number reason) 0
 
 -- a tag and its Unix time
 abbrev pub with_unix : ℕ → Unix → List ℕ
-with_unix tag (unix.At seconds nanos) = time_line (nat_abs seconds) nanos tag
-with_unix tag (unix.Refused reason) = out_of_range reason
+with_unix tag (Ok time) = time_line (nat_abs time.seconds) time.nanos tag
+with_unix tag (Err reason) = out_of_range reason
 
 -- a Unix time and its tag
 abbrev pub with_tag : ℤ → ℕ → Tagged → List ℕ
-with_tag seconds nanos (tagged.Tag tag) = time_line (nat_abs seconds) nanos tag
-with_tag seconds nanos (tagged.Refused reason) = out_of_range reason
+with_tag seconds nanos (Ok tag) = time_line (nat_abs seconds) nanos tag
+with_tag seconds nanos (Err reason) = out_of_range reason
 
 -- what is said of a tag, by a rule
 abbrev pub tag_line : Rule → ℕ → List ℕ
@@ -83,33 +77,33 @@ abbrev pub tag_bits : OscTime → ℕ
 tag_bits t = t.seconds * 0x1_0000_0000 + t.fractional
 
 -- the time of a value: a time tag and a bundle have one
-abbrev pub time_in : OscType → TimeIn
-time_in (value.Bundle t) = time.Tag (tag_bits t)
-time_in (value.Time t) = time.Tag (tag_bits t)
-time_in (value.Message offset n) = time.Without
-time_in (value.Int z) = time.Without
-time_in (value.Float bits x) = time.Without
-time_in (value.String offset n) = time.Without
-time_in (value.Blob offset n) = time.Without
-time_in (value.Long z) = time.Without
-time_in (value.Double bits x) = time.Without
-time_in (value.Char x) = time.Without
-time_in (value.Color c) = time.Without
-time_in (value.Midi m) = time.Without
-time_in (value.Bool x) = time.Without
-time_in value.Nil = time.Without
-time_in value.Inf = time.Without
-time_in value.Array = time.Without
+abbrev pub time_in : OscType → Option ℕ
+time_in (value.Bundle t) = Some (tag_bits t)
+time_in (value.Time t) = Some (tag_bits t)
+time_in (value.Message offset n) = None
+time_in (value.Int z) = None
+time_in (value.Float bits x) = None
+time_in (value.String offset n) = None
+time_in (value.Blob offset n) = None
+time_in (value.Long z) = None
+time_in (value.Double bits x) = None
+time_in (value.Char x) = None
+time_in (value.Color c) = None
+time_in (value.Midi m) = None
+time_in (value.Bool x) = None
+time_in value.Nil = None
+time_in value.Inf = None
+time_in value.Array = None
 
 -- the line for it; none where there is no time
-abbrev pub time_in_line : Rule → TimeIn → List ℕ
-time_in_line rule (time.Tag tag) = tag_line rule tag
-time_in_line rule time.Without = []
+abbrev pub time_in_line : Rule → Option ℕ → List ℕ
+time_in_line rule (Some tag) = tag_line rule tag
+time_in_line rule None = []
 
 -- what `osc look` says of a record by a rule, after its own lines: nothing where the record is refused
 abbrev pub looked_time : Rule → Looked → List ℕ
-looked_time rule (looked.Value x) = time_in_line rule (time_in x)
-looked_time rule (looked.Refused refusal) = []
+looked_time rule (Ok x) = time_in_line rule (time_in x)
+looked_time rule (Err refusal) = []
 
 unfoldable pub record_time : Rule → List ℕ → ℕ → List ℕ
 record_time rule table i = looked_time rule (look_at table i)

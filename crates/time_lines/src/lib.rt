@@ -7,11 +7,11 @@ ghost use Rattle.time_lines.specs.TimeLines.{time_line, tag_line, with_tag, mome
 ghost use Rattle.time_lines.specs.TimeLines.{tag_bits, time_in, time_in_line, record_time};
 ghost use Rattle.clock.specs.Clock.{tag_for};
 
-use clock::{Rule, Tagged, Unix, number_of, tag_of, unix_of};
+use clock::{Rule, number_of, tag_of, unix_of};
 use dates::date_of;
 use telling::{fill_in, tell_numbered};
 use time_words::Moment;
-use values::look::{Looked, look};
+use values::look::look;
 use values::value::{OscTime, OscType};
 use words::written::magnitude;
 
@@ -74,8 +74,8 @@ fn tell_tag(rule: Rule, tag: u64, out: &mut [u8]) -> usize
     ensures { Says (tag_line rule tag) out.new result }
 {
     match unix_of(rule, tag) {
-        Unix::At { seconds, nanos } => tell_time(magnitude(seconds), nanos, tag, out),
-        Unix::Refused(reason) => tell_numbered(number_of(reason), 0, out),
+        Ok(time) => tell_time(magnitude(time.seconds), time.nanos, tag, out),
+        Err(reason) => tell_numbered(number_of(reason), 0, out),
     }
 }
 
@@ -84,8 +84,8 @@ fn tell_unix(rule: Rule, seconds: i64, nanos: u64, out: &mut [u8]) -> usize
     ensures { Says (with_tag seconds nanos (tag_for rule seconds nanos)) out.new result }
 {
     match tag_of(rule, seconds, nanos) {
-        Tagged::Tag(tag) => tell_time(magnitude(seconds), nanos, tag, out),
-        Tagged::Refused(reason) => tell_numbered(number_of(reason), 0, out),
+        Ok(tag) => tell_time(magnitude(seconds), nanos, tag, out),
+        Err(reason) => tell_numbered(number_of(reason), 0, out),
     }
 }
 
@@ -101,13 +101,6 @@ pub fn tell_moment(rule: Rule, moment: Moment, out: &mut [u8]) -> usize
     }
 }
 
-// The time of a value, if it has one.
-#[derive(Clone, Copy)]
-pub enum TimeIn {
-    Tag(u64),
-    Without,
-}
-
 // The 64 bits of a time tag.
 fn tag_bits(time: OscTime) -> u64
     ensures { result ≡ tag_bits time }
@@ -115,26 +108,26 @@ fn tag_bits(time: OscTime) -> u64
     time.seconds as u64 * 0x1_0000_0000 + time.fractional as u64
 }
 
-// The time of a value.
+// The time of a value, if it has one.
 //
 // Ruled out: the fraction above the seconds; none for a bundle.
-fn time_in(value: OscType) -> TimeIn
+fn time_in(value: OscType) -> Option<u64>
     ensures { result ≡ time_in value }
 {
     match value {
-        OscType::Bundle(time) => TimeIn::Tag(tag_bits(time)),
-        OscType::Time(time) => TimeIn::Tag(tag_bits(time)),
-        _ => TimeIn::Without,
+        OscType::Bundle(time) => Some(tag_bits(time)),
+        OscType::Time(time) => Some(tag_bits(time)),
+        _ => None,
     }
 }
 
 // Puts the line for a time, where there is one.
-fn tell_time_in(rule: Rule, time: TimeIn, out: &mut [u8]) -> usize
+fn tell_time_in(rule: Rule, time: Option<u64>, out: &mut [u8]) -> usize
     ensures { Says (time_in_line rule time) out.new result }
 {
     match time {
-        TimeIn::Tag(tag) => tell_tag(rule, tag, out),
-        TimeIn::Without => 0,
+        Some(tag) => tell_tag(rule, tag, out),
+        None => 0,
     }
 }
 
@@ -145,7 +138,7 @@ pub fn tell_record_time(rule: Rule, table: &[u8], index: usize, out: &mut [u8]) 
     ensures { Says (record_time rule table.now index) out.new result }
 {
     match look(table, index) {
-        Looked::Value(value) => tell_time_in(rule, time_in(value), out),
-        Looked::Refused(_) => 0,
+        Ok(value) => tell_time_in(rule, time_in(value), out),
+        Err(_) => 0,
     }
 }

@@ -1,4 +1,5 @@
 -- Hexadecimal digits read from left to right, and the parts of a word.
+use Rattle.std.specs.Prelude.{Some, None}
 use mathlib.Core.Path.{◌≡◌, sym, ap, ◌∙◌}
 use mathlib.Core.List.{List}
 use Prim.Native.Nat.{ℕ, ◌+◌, ◌*◌, ◌^◌, ◌≤◌, ◌<◌}
@@ -8,7 +9,6 @@ use native.Mathlib.Omega.{arith}
 use lib.ListN.{length, drop, get_or}
 use lib.Seq.{drop-cons, drop-length}
 use borrow.Author.Tests.{eq-eqb, ne_eqb}
-use Rattle.words.specs.declared.numeral.Numeral.TheVariants.{Is, Unclear}
 use Rattle.time_words.specs.Tags.{hex_of, hex_more, tag_in}
 
 -- a number of i digits is below 16 to the power of i; so one digit more fits, as long as there are at most 16
@@ -20,7 +20,7 @@ digit-fits x d i h k l =
 
 module _ (word : List ℕ) (i x : ℕ) where
   -- a byte that is no digit
-  pub no-hex : i < length word → hex_of (get_or word i 0) ≡ 16 → hex_more (drop i word) x ≡ Unclear
+  pub no-hex : i < length word → hex_of (get_or word i 0) ≡ 16 → hex_more (drop i word) x ≡ None
   unfolding hex_more
   no-hex h e = rw (drop-cons word i 0 h, eq-eqb _ _ e)
 
@@ -31,7 +31,7 @@ module _ (word : List ℕ) (i x : ℕ) where
   hex-read h e = rw (drop-cons word i 0 h, ne_eqb _ _ e, add-one)
 
   -- all digits are read
-  pub hex-all : i ≡ length word → hex_more (drop i word) x ≡ Is x
+  pub hex-all : i ≡ length word → hex_more (drop i word) x ≡ Some x
   unfolding hex_more
   hex-all h = rw (h, drop-length)
 

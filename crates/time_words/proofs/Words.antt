@@ -1,25 +1,21 @@
 -- The parts of a word that says a Unix time.
+use Rattle.std.specs.Prelude.{Option, None}
 use mathlib.Core.Path.{◌≡◌, refl, ap, ap₂, ◌∙◌}
 use mathlib.Core.List.{List, [], ◌∷◌}
-use Prim.Native.Nat.{ℕ, suc, ◌+◌, ◌-◌, ◌<◌, ◌≤◌}
+use Prim.Native.Nat.{ℕ, ◌+◌, ◌-◌, ◌<◌}
 use native.Mathlib.Nat.{zero-add, sub-zero}
 use native.Mathlib.Omega.{arith}
-use lib.IntN.{ℤ, pos, negsuc, neg_ℤ}
 use lib.ListN.{length, take, drop, get_or}
 use borrow.Author.Tests.{eq-eqb, ne_eqb}
-use mir.Syntax.{w64}
-use mir.Val.{to_z, of_z}
-use mir.Facts.{to_z-of_z}
 use Rattle.wire.proofs.Parts.{tail}
 use Rattle.words.specs.Tables.{until_byte}
 use Rattle.words.specs.Numeral.{numeral_of}
-use Rattle.words.specs.declared.numeral.Numeral.{Numeral}
-use Rattle.time_words.specs.declared.seconds.Timed.TheVariants.{Unclear}
 use Rattle.time_words.specs.Seconds.{nanos_after, together, plain_of, since_it, before_it, seconds_in}
+use Rattle.time_words.specs.declared.seconds.Plain.{Plain}
 
 module _ (word : List ℕ) (dot : ℕ) (found : dot ≡ 0 + length (until_byte 46 (drop 0 word))) where
   -- what stands before the dot, and what stands from there on
-  pub plain_by : {x y : Numeral} → x ≡ numeral_of (take (dot - 0) (drop 0 word))
+  pub plain_by : {x y : Option ℕ} → x ≡ numeral_of (take (dot - 0) (drop 0 word))
       → y ≡ nanos_after (take (length word - dot) (drop dot word)) → together x y ≡ plain_of word
   unfolding plain_of
   plain_by {x} {y} p q =
@@ -31,7 +27,7 @@ module _ (word : List ℕ) (dot : ℕ) (found : dot ≡ 0 + length (until_byte 4
       ap₂ together p' q'
 
 -- a word of no bytes
-pub no_word : (word : List ℕ) → length word ≡ 0 → Unclear ≡ seconds_in word
+pub no_word : (word : List ℕ) → length word ≡ 0 → None ≡ seconds_in word
 unfolding seconds_in
 no_word [] h = refl
 no_word (c ∷ word) h = absurd (omega arith)
@@ -49,11 +45,11 @@ unfolding seconds_in
 no_minus [] h e = absurd (omega arith)
 no_minus (c ∷ word) h e = rw (ne_eqb c 45 e)
 
--- a number below 0, as the machine reads it back
-pub read_below : {z : ℤ} (k : ℕ) → z ≡ negsuc k → k < 0x8000_0000_0000_0000 → to_z w64 (of_z w64 z) ≡ negsuc k
-read_below {z} k e h = rw e (to_z-of_z {w = w64} {z = negsuc k} (record { sfits = h }))
+-- what has no number has no time
+pub since_none : {p : Option Plain} → p ≡ None → since_it p ≡ None
+unfolding since_it
+since_none e = rw e
 
--- minus a number that is not 0
-pub minus_one : (s : ℕ) → 0 < s → negsuc (s - 1) ≡ neg_ℤ (pos s)
-minus_one Prim.Native.Nat.zero h = elim h [ ]
-minus_one (suc k) h = let e : suc k - 1 ≡ k = omega arith in rw e
+pub before_none : {p : Option Plain} → p ≡ None → before_it p ≡ None
+unfolding before_it
+before_none e = rw e

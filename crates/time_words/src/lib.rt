@@ -5,100 +5,75 @@ mod tags; // tags.rt: a word as a time tag
 mod seconds; // seconds.rt: a word as a Unix time
 
 ghost use Rattle.std.specs.Prelude.{◌≡◌};
-ghost use Rattle.time_words.specs.Asked.{rule_named, moment_of, time_with, time_asked, look_ruled};
+ghost use Rattle.time_words.specs.Asked.{rule_named, moment_of, time_asked, look_ruled};
 
 use clock::Rule;
-use seconds::{Timed, seconds_of};
+use seconds::seconds_of;
 pub use seconds::{Moment, Plain, plain_of};
 pub use tags::tag_in;
-use troubles::Trouble;
-use words::line::place_of;
-use words::numeral::Numeral;
+use troubles::{Blame, Trouble};
+use words::lookup::beside;
 
-// A word read as a rule.
+// What time is asked.
 #[derive(Clone, Copy)]
-pub enum Ruled {
-    As(Rule),
-    Unclear,
+pub struct Timing {
+    pub rule: Rule,
+    pub moment: Moment,
 }
 
-// What the words of time ask; or what is wrong with them, and with which.
-#[derive(Clone, Copy)]
-pub enum TimeAsked {
-    Of(Rule, Moment),
-    Wrong(Trouble, usize),
-}
-
-// The rule that look is given, if any; or what is wrong with it, and with which word.
-#[derive(Clone, Copy)]
-pub enum LookRuled {
-    Not,
-    By(Rule),
-    Wrong(Trouble, usize),
-}
+// The words of the rules.
+const RULES: [(&[u8], Rule); 2] = [(b"a", Rule::A), (b"b", Rule::B)];
 
 // The rule that a word names.
 //
 // Ruled out: rule B for the word a; a rule for every word.
-fn rule_of(word: &[u8]) -> Ruled
+#[tactic(auto, unfolding(crate::specs::Asked::rule_named))]
+fn rule_of(word: &[u8]) -> Option<Rule>
     ensures { result ≡ rule_named word.now }
 {
-    let at = place_of(b"a b", word);
-    let named = [Ruled::As(Rule::A), Ruled::As(Rule::B), Ruled::Unclear];
-    named[at]
+    beside(&RULES, word)
 }
 
 // The time that a word says: 16 hexadecimal digits are a tag, and every other word is read as seconds.
 //
 // Ruled out: seconds for 16 digits; a tag for 15 of them.
-fn moment_of(word: &[u8]) -> Timed
+#[tactic(auto, unfolding(crate::specs::Asked::moment_of))]
+fn moment_of(word: &[u8]) -> Option<Moment>
     ensures { result ≡ moment_of word.now }
 {
     match tag_in(word) {
-        Numeral::Is(tag) => Timed::As(Moment::Tag(tag)),
-        Numeral::Unclear => seconds_of(word),
-    }
-}
-
-// What a rule and a time ask.
-fn time_with(ruled: Ruled, timed: Timed) -> TimeAsked
-    ensures { result ≡ time_with ruled timed }
-{
-    match ruled {
-        Ruled::As(rule) => match timed {
-            Timed::As(moment) => TimeAsked::Of(rule, moment),
-            Timed::Unclear => TimeAsked::Wrong(Trouble::NoTime, 3),
-        },
-        Ruled::Unclear => TimeAsked::Wrong(Trouble::NoRule, 2),
+        Some(tag) => Some(Moment::Tag(tag)),
+        None => seconds_of(word),
     }
 }
 
 // What time is asked, of whose words there are `count`: word 2 is the rule, and word 3 the time.
 //
 // Ruled out: the other rule; a word too many.
-pub fn time_asked(count: usize, rule: &[u8], word: &[u8]) -> TimeAsked
+pub fn time_asked(count: usize, rule: &[u8], word: &[u8]) -> Result<Timing, Blame>
     ensures { result ≡ time_asked count rule.now word.now }
 {
-    if count == 4 {
-        return time_with(rule_of(rule), moment_of(word));
+    if count != 4 {
+        return Err(Trouble::TimeWords.at(0));
     }
-    TimeAsked::Wrong(Trouble::TimeWords, 0)
+    let rule = rule_of(rule).ok_or(Trouble::NoRule.at(2))?;
+    let moment = moment_of(word).ok_or(Trouble::NoTime.at(3))?;
+    Ok(Timing { rule, moment })
 }
 
-// The rule that look is given, of whose words there are `count`, where word 4 is --rule and word 5 names it.
+// The rule that look is given, if any, of whose words there are `count`, where word 4 is --rule and word 5 names it.
 //
 // Ruled out: a rule where there is no --rule; none where there is.
-pub fn look_ruled(count: usize, name: &[u8], word: &[u8]) -> LookRuled
+#[tactic(auto, using(words::proofs::Beside::equal_turned))]
+pub fn look_ruled(count: usize, name: &[u8], word: &[u8]) -> Result<Option<Rule>, Blame>
     ensures { result ≡ look_ruled count name.now word.now }
 {
-    if count == 6 {
-        if check::same(b"--rule", name) {
-            return match rule_of(word) {
-                Ruled::As(rule) => LookRuled::By(rule),
-                Ruled::Unclear => LookRuled::Wrong(Trouble::NoRule, 5),
-            };
-        }
-        return LookRuled::Not;
+    if count != 6 {
+        return Ok(None);
     }
-    LookRuled::Not
+    if name != b"--rule".as_slice() {
+        return Ok(None);
+    }
+    let rule = rule_of(word).ok_or(Trouble::NoRule.at(5))?;
+    Ok(Some(rule))
 }

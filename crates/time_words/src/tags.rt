@@ -2,41 +2,40 @@
 ghost use Rattle.std.specs.Prelude.{◌≡◌, ◌≤◌};
 ghost use Rattle.time_words.specs.Tags.{hex_of, tag_in};
 
-use words::numeral::{Numeral, digit};
+use words::numeral::digit;
 
 // The value of a hexadecimal digit in either case, or 16 for a byte that is none.
 //
 // Ruled out: 10 for the byte before 'a'; a value for the byte after 'f'.
+#[tactic(auto, unfolding(crate::specs::Tags::hex_of, words::specs::Numeral::digit_of, words::specs::Numeral::digit_in))]
 fn hex_value(byte: u8) -> u64
     ensures { (result ≡ hex_of byte) × (result ≤ 16) }
 {
-    if byte < b'a' {
-        return digit(byte) as u64;
+    match byte {
+        b'a'..=b'f' => (byte - b'a') as u64 + 10,
+        _ => match digit(byte) {
+            Some(value) => value as u64,
+            None => 16,
+        },
     }
-    if byte <= b'f' {
-        return byte as u64 - 87;
-    }
-    16
 }
 
 // The tag of a word, which has exactly 16 digits.
 //
 // Ruled out: a tag for 15 digits; the digits from right to left.
-pub fn tag_in(word: &[u8]) -> Numeral
+pub fn tag_in(word: &[u8]) -> Option<u64>
     ensures { result ≡ tag_in word.now }
 {
     if word.len() != 16 {
-        return Numeral::Unclear;
+        return None;
     }
     let mut tag = 0;
-    let mut i = 0;
-    while i < word.len() {
-        let value = hex_value(word[i]);
+    for byte in word {
+        let value = hex_value(*byte);
         if value == 16 {
-            return Numeral::Unclear;
+            return None;
         }
         tag = tag * 16 + value;
-        i += 1;
     }
-    Numeral::Is(tag)
+    Some(tag)
 }

@@ -1,6 +1,5 @@
 // The command check: whether an index is that of a recording.
-use commands::{NamesAsked, check_asked};
-use files::Opened;
+use commands::check_asked;
 use std::fs::File;
 use telling::tell_checked;
 use tool_files::{named, say};
@@ -22,7 +21,7 @@ fn check_with(rt: &HostRuntime, file: &File, name: &[u8]) {
     if m == 0 {
         return;
     }
-    if let Opened::At(index) = files::open(rt, &index_name[..m]) {
+    if let Ok(index) = files::open(rt, &index_name[..m]) {
         check_open(rt, file, name, &index, &index_name[..m]);
         files::close(index);
     }
@@ -35,7 +34,7 @@ fn check_file(rt: &HostRuntime) {
     if n == 0 {
         return;
     }
-    if let Opened::At(file) = files::open(rt, &name[..n]) {
+    if let Ok(file) = files::open(rt, &name[..n]) {
         check_with(rt, &file, &name[..n]);
         files::close(file);
     }
@@ -43,7 +42,7 @@ fn check_file(rt: &HostRuntime) {
 
 pub fn run(rt: &HostRuntime, count: usize) {
     match check_asked(count) {
-        NamesAsked::Good => check_file(rt),
-        NamesAsked::Wrong(trouble, i) => say::trouble(rt, trouble, i, 0),
+        Ok(()) => check_file(rt),
+        Err(blame) => say::blame(rt, blame),
     }
 }

@@ -2,11 +2,10 @@
 ghost use Rattle.std.specs.Prelude.{◌≡◌, ◌*◌, take, drop};
 ghost use Rattle.cues.specs.Cues.{entry_size};
 
-use commands::{CueAsked, cue_asked};
+use commands::cue_asked;
 use cues::{ENTRY_SIZE, cue_at};
 use files::Kind;
-use outcomes::{Jump, cue_told, frame_told};
-use results::CueAt;
+use outcomes::{cue_told, frame_told};
 use std::fs::File;
 use tool_files::typed::word;
 use tool_files::{named, say};
@@ -45,11 +44,9 @@ fn decode_at(
     is_replacing: bool,
 ) {
     let mut bytes = io::large_buffer();
-    let got = files::read_at(file, name, offset, &mut bytes);
-    if !got.is_read {
+    let Ok(n) = files::read_at(file, name, offset, &mut bytes) else {
         return;
-    }
-    let n = got.count;
+    };
     if n < size as usize + 4 {
         say::trouble(rt, Trouble::Shorter, 2, 0);
         return;
@@ -82,17 +79,12 @@ fn decode_cue(
     is_replacing: bool,
 ) {
     let mut entry = [0u8; ENTRY_SIZE];
-    let got = files::read_at(index, index_name, entry_start(k), &mut entry);
-    if !got.is_read {
+    let Ok(n) = files::read_at(index, index_name, entry_start(k), &mut entry) else {
         return;
-    }
-    match cue_at(front(&entry, got.count), 0) {
-        CueAt::At {
-            offset,
-            size,
-            records: _,
-        } => decode_at(rt, file, name, offset, size, is_replacing),
-        CueAt::Refused(_) => say::trouble(rt, Trouble::Shorter, 3, 0),
+    };
+    match cue_at(front(&entry, n), 0) {
+        Ok(cue) => decode_at(rt, file, name, cue.offset, cue.size, is_replacing),
+        Err(_) => say::trouble(rt, Trouble::Shorter, 3, 0),
     }
 }
 
@@ -109,8 +101,8 @@ fn cue_open(
     if let Judged::As(checked, _, _) = judge(rt, file, name, index, index_name) {
         let mut line = io::buffer();
         match cue_told(checked, k, &mut line) {
-            Jump::To(k) => decode_cue(rt, file, name, index, index_name, k, is_replacing),
-            Jump::Not(told) => named::keep_both(rt, 5, 6, is_replacing, told, b"", b"", &line),
+            Ok(k) => decode_cue(rt, file, name, index, index_name, k, is_replacing),
+            Err(told) => named::keep_both(rt, 5, 6, is_replacing, told, b"", b"", &line),
         }
     }
 }
@@ -170,7 +162,7 @@ pub fn run(rt: &HostRuntime, count: usize, is_replacing: bool) {
     let mut number = io::buffer();
     let n = word(rt, 4, &mut number);
     match cue_asked(count, &number[..n]) {
-        CueAsked::As(k) => cue_file(rt, k, is_replacing),
-        CueAsked::Wrong(trouble, i) => say::trouble(rt, trouble, i, 0),
+        Ok(k) => cue_file(rt, k, is_replacing),
+        Err(blame) => say::blame(rt, blame),
     }
 }

@@ -1,7 +1,7 @@
 // The command index: the cue index of a recording.
 ghost use Rattle.tool_recordings.specs.CodeCame.{LowCame};
 
-use commands::{NamesAsked, index_asked};
+use commands::index_asked;
 use files::Kind;
 use std::fs::File;
 use telling::tell_index;
@@ -58,7 +58,7 @@ fn index_file(rt: &HostRuntime, is_replacing: bool) {
 // Of its words there are `count`, --replace not counted.
 pub fn run(rt: &HostRuntime, count: usize, is_replacing: bool) {
     match index_asked(count) {
-        NamesAsked::Good => index_file(rt, is_replacing),
-        NamesAsked::Wrong(trouble, i) => say::trouble(rt, trouble, i, 0),
+        Ok(()) => index_file(rt, is_replacing),
+        Err(blame) => say::blame(rt, blame),
     }
 }

@@ -1,11 +1,11 @@
 // The files that words of a command name.
-ghost use Rattle.std.specs.Prelude.{◌≡◌, ◌%◌, ◌≤◌, ◌<◌, length};
+ghost use Rattle.std.specs.Prelude.{◌≡◌, ◌%◌, ◌≤◌, ◌<◌, IfSome, length};
 ghost use Rattle.io.specs.Counts.{IsPrefixLen};
 ghost use Rattle.tool_files.specs.CodeRecords.{WholeTable, InRoom};
 
 use crate::say;
 use crate::typed::{reason_of, word};
-use files::{Begun, Got, Kind, Opened, Place, Stored};
+use files::{Kind, Refused, Unread};
 use node::record::RECORD_SIZE;
 use outcomes::Told;
 use std::env::Env;
@@ -41,61 +41,54 @@ pub fn name_word(rt: &HostRuntime, i: usize, path: &mut [u8]) -> usize
     }
 }
 
+// Says that word `i` names the file that is to be written; of a call of the system that failed, why is said already.
+fn say_unread(rt: &HostRuntime, unread: Unread, i: usize) {
+    match unread {
+        Unread::Output => say::trouble(rt, Trouble::OneFile, i, 0),
+        Unread::Failed => {}
+    }
+}
+
 // Opens the file that word `i` names; none where it cannot, or where word `output` names the same file, and then says why.
 pub fn open_word(rt: &HostRuntime, i: usize, output: usize, path: &[u8]) -> Option<File> {
     let mut other = io::buffer();
     let m = word(rt, output, &mut other);
-    match files::open_apart(rt, path, &other[..m]) {
-        Opened::At(file) => return Some(file),
-        Opened::Output => say::trouble(rt, Trouble::OneFile, i, 0),
-        Opened::Failed => {}
-    }
-    None
+    files::open_apart(rt, path, &other[..m])
+        .inspect_err(|unread| say_unread(rt, *unread, i))
+        .ok()
 }
 
-// Nothing was read.
-fn unread() -> Got
-    ensures { result.count ≡ 0 }
-{
-    Got {
-        is_read: false,
-        count: 0,
-        is_output: false,
-    }
-}
-
-// Reads the file that word `i` names, as much of it as the buffer holds; not where word `output` names the same file.
+// Reads the file that word `i` names, as much of it as the buffer holds; none where it cannot, or where word `output` names the same file,
+// and then says why.
 //
 // Ruled out: a count past the buffer's end; the length of the whole file where the buffer holds less of it.
-pub fn read_word(rt: &HostRuntime, i: usize, output: usize, buf: &mut [u8]) -> Got
-    ensures { IsPrefixLen result.count buf.new }
+pub fn read_word(rt: &HostRuntime, i: usize, output: usize, buf: &mut [u8]) -> Option<usize>
+    ensures { IfSome result (λ n. IsPrefixLen n buf.new) }
 {
     let mut path = io::buffer();
     let n = name_word(rt, i, &mut path);
     if n == 0 {
-        return unread();
+        return None;
     }
     let mut other = io::buffer();
     let m = word(rt, output, &mut other);
-    let got = files::read_apart(rt, &path[..n], &other[..m], buf);
-    if got.is_output {
-        say::trouble(rt, Trouble::OneFile, i, 0);
-    }
-    got
+    files::read_apart(rt, &path[..n], &other[..m], buf)
+        .inspect_err(|unread| say_unread(rt, *unread, i))
+        .ok()
 }
 
-// Reads all of the file that word `i` names: it has to leave the buffer's last byte free.
+// Reads all of the file that word `i` names: it has to leave the buffer's last byte free. None where it cannot, and then says why.
 //
 // Ruled out: a count past the buffer's end; bytes counted of a file that is too large.
-pub fn read_whole(rt: &HostRuntime, i: usize, output: usize, buf: &mut [u8]) -> Got
-    ensures { IsPrefixLen result.count buf.new × ((0 < length buf.new) → result.count < length buf.new) }
+pub fn read_whole(rt: &HostRuntime, i: usize, output: usize, buf: &mut [u8]) -> Option<usize>
+    ensures { IfSome result (λ n. IsPrefixLen n buf.new × (n < length buf.new)) }
 {
-    let got = read_word(rt, i, output, buf);
-    if got.count < buf.len() {
-        return got;
+    let n = read_word(rt, i, output, buf)?;
+    if n < buf.len() {
+        return Some(n);
     }
-    say::trouble(rt, Trouble::TooLarge, i, got.count);
-    unread()
+    say::trouble(rt, Trouble::TooLarge, i, n);
+    None
 }
 
 // How the reading of a table into a room went.
@@ -132,16 +125,14 @@ fn read_records(
     requires { kept ≤ length room.old }
     ensures { InRoom room.new result }
 {
-    let got = files::read_on(&file, name, room, kept);
-    let count = got.count;
+    let Ok(count) = files::read_on(&file, name, room, kept) else {
+        return Records::Failed;
+    };
     if count == room.len() {
         return Records::More(file);
     }
     files::close(file);
-    if got.is_read {
-        return records_of(rt, count, i);
-    }
-    Records::Failed
+    records_of(rt, count, i)
 }
 
 // Opens the table that word `i` names; none where it cannot, or where word `output` names the same file, and then says why.
@@ -198,16 +189,25 @@ pub fn is_apart(rt: &HostRuntime, file: &File, i: usize, output: usize) -> bool 
     true
 }
 
-// Whether a file was written or removed. What is wrong with its name, or with the file that has it, is said here.
-fn is_done(rt: &HostRuntime, stored: Stored, i: usize) -> bool {
-    match stored {
-        Stored::Whole => return true,
-        Stored::LongName => say::trouble(rt, Trouble::LongName, i, 0),
-        Stored::NoFile => say::trouble(rt, Trouble::NoFile, i, 0),
-        Stored::Unfit(trouble, size) => say::trouble(rt, trouble, i, size as usize),
-        Stored::Failed => {}
+// Says what is wrong with the name that word `i` is, or with the file that has it.
+fn say_refused(rt: &HostRuntime, refused: Refused, i: usize) {
+    match refused {
+        Refused::LongName => say::trouble(rt, Trouble::LongName, i, 0),
+        Refused::NoFile => say::trouble(rt, Trouble::NoFile, i, 0),
+        Refused::Unfit(trouble, size) => say::trouble(rt, trouble, i, size as usize),
+        Refused::Failed => {}
     }
-    false
+}
+
+// What was answered of the file that word `i` names; none where it was refused, and then says why.
+fn unless_refused<T>(rt: &HostRuntime, answered: Result<T, Refused>, i: usize) -> Option<T> {
+    match answered {
+        Ok(given) => Some(given),
+        Err(refused) => {
+            say_refused(rt, refused, i);
+            None
+        }
+    }
 }
 
 // Begins the file that word `i` names, and answers the file beside and how long its name is, which is at the start of `part`; none where it
@@ -222,14 +222,9 @@ pub fn begin_word(
 ) -> Option<Draft>
     requires { 4095 ≤ length part.old }
 {
-    match files::begin(rt, path, kind, is_replacing, part) {
-        Begun::At(file, length) => return Some(Draft { file, length }),
-        Begun::LongName => say::trouble(rt, Trouble::LongName, i, 0),
-        Begun::NoFile => say::trouble(rt, Trouble::NoFile, i, 0),
-        Begun::Unfit(trouble, size) => say::trouble(rt, trouble, i, size as usize),
-        Begun::Failed => {}
-    }
-    None
+    let begun = files::begin(rt, path, kind, is_replacing, part);
+    let (file, length) = unless_refused(rt, begun, i)?;
+    Some(Draft { file, length })
 }
 
 // Whether the file that word `i` names may be written or removed; where it may not, says why. Nothing is changed.
@@ -239,14 +234,8 @@ pub fn may_take(rt: &HostRuntime, i: usize, kind: Kind, is_replacing: bool) -> b
     if n == 0 {
         return false;
     }
-    match files::place_of(rt, &path[..n], kind, is_replacing) {
-        Place::Free => return true,
-        Place::Held => return true,
-        Place::NoFile => say::trouble(rt, Trouble::NoFile, i, 0),
-        Place::Unfit(trouble, size) => say::trouble(rt, trouble, i, size as usize),
-        Place::Failed => {}
-    }
-    false
+    let place = files::place_of(rt, &path[..n], kind, is_replacing);
+    unless_refused(rt, place, i).is_some()
 }
 
 // Writes the file that word `i` names, or removes it where nothing is kept; whether that was done.
@@ -263,14 +252,12 @@ fn store(
     if n == 0 {
         return false;
     }
-    if is_kept {
-        return is_done(
-            rt,
-            files::write(rt, &path[..n], kind, is_replacing, bytes),
-            i,
-        );
-    }
-    is_done(rt, files::remove(rt, &path[..n], kind, is_replacing), i)
+    let stored = if is_kept {
+        files::write(rt, &path[..n], kind, is_replacing, bytes)
+    } else {
+        files::remove(rt, &path[..n], kind, is_replacing)
+    };
+    unless_refused(rt, stored, i).is_some()
 }
 
 // Leaves what is told to be kept in the file that word `i` names, and then says the line.

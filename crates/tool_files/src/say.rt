@@ -2,7 +2,7 @@
 use crate::typed::word;
 use std::io::IsTerminal;
 use telling::{tell_progress, tell_trouble, tell_version};
-use troubles::Trouble;
+use troubles::{Blame, Trouble};
 use words::line::front;
 
 // The number of standard error.
@@ -28,6 +28,11 @@ pub fn trouble(rt: &HostRuntime, trouble: Trouble, i: usize, number: usize) {
     let mut line = io::large_buffer();
     let m = tell_trouble(trouble, number as u64, front(&shown, s), &mut line);
     io::write_all(STDERR, &line[..m]);
+}
+
+// Trouble with a word.
+pub fn blame(rt: &HostRuntime, blame: Blame) {
+    trouble(rt, blame.trouble, blame.word, 0);
 }
 
 // Writes to standard error where that is a terminal.

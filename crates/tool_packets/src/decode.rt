@@ -4,18 +4,16 @@ ghost use Rattle.node.specs.Records.{record_size, most_records};
 
 use crate::rooms;
 use crate::rooms::Work;
-use commands::{DecodeAsked, Options, decode_asked, options_of};
-use edition::Framing;
+use commands::{Decoding, decode_asked, options_of};
 use files::Kind;
-use outcomes::{Tried, decode_told, decode_tried};
+use outcomes::{decode_told, decode_tried};
 use tool_files::typed::word;
 use tool_files::{named, say};
 
 // Decodes bytes to the file that word 4 names, in a room for any table.
 pub fn go_on(
     rt: &HostRuntime,
-    framing: Framing,
-    options: Options,
+    decoding: Decoding,
     is_replacing: bool,
     input: &[u8],
     room: &mut [u8],
@@ -23,47 +21,34 @@ pub fn go_on(
     requires { record_size * most_records ≤ length room.old }
 {
     let mut line = io::buffer();
-    let told = decode_told(framing, options, input, room, &mut line);
+    let told = decode_told(decoding.framing, decoding.options, input, room, &mut line);
     named::keep(rt, 4, Kind::Table, is_replacing, told, room, &line);
 }
 
 // The same in a room that may be too small; whether it was enough.
 pub fn begin(
     rt: &HostRuntime,
-    framing: Framing,
-    options: Options,
+    decoding: Decoding,
     is_replacing: bool,
     input: &[u8],
     room: &mut [u8],
 ) -> bool {
     let mut line = io::buffer();
-    match decode_tried(framing, options, input, room, &mut line) {
-        Tried::With(told) => {
-            named::keep(rt, 4, Kind::Table, is_replacing, told, room, &line);
-            true
-        }
-        Tried::Full => false,
+    let tried = decode_tried(decoding.framing, decoding.options, input, room, &mut line);
+    if let Some(told) = tried {
+        named::keep(rt, 4, Kind::Table, is_replacing, told, room, &line);
     }
+    tried.is_some()
 }
 
 // Decodes the file that word 3 names. Of a file that is too large the library sees a byte too many, and refuses it.
-fn decode_file(rt: &HostRuntime, framing: Framing, options: Options, is_replacing: bool) {
+fn decode_file(rt: &HostRuntime, decoding: Decoding, is_replacing: bool) {
     let mut input = io::large_buffer();
-    let got = named::read_word(rt, 3, 4, &mut input);
-    if !got.is_read {
+    let Some(n) = named::read_word(rt, 3, 4, &mut input) else {
         return;
-    }
-    let n = got.count;
-    if !rooms::begin(
-        rt,
-        Work::Decode(framing, options, is_replacing),
-        &input[..n],
-    ) {
-        rooms::go_on(
-            rt,
-            Work::Decode(framing, options, is_replacing),
-            &input[..n],
-        );
+    };
+    if !rooms::begin(rt, Work::Decode(decoding, is_replacing), &input[..n]) {
+        rooms::go_on(rt, Work::Decode(decoding, is_replacing), &input[..n]);
     }
 }
 
@@ -87,7 +72,7 @@ pub fn run(rt: &HostRuntime, count: usize, is_replacing: bool) {
         &second_number[..t],
     );
     match decode_asked(chosen, &framing[..f]) {
-        DecodeAsked::As(framing, options) => decode_file(rt, framing, options, is_replacing),
-        DecodeAsked::Wrong(trouble, i) => say::trouble(rt, trouble, i, 0),
+        Ok(decoding) => decode_file(rt, decoding, is_replacing),
+        Err(blame) => say::blame(rt, blame),
     }
 }

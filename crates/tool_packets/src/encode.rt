@@ -4,7 +4,7 @@ ghost use Rattle.node.specs.Records.{record_size, most_records};
 
 use crate::rooms;
 use crate::rooms::Work;
-use commands::{EncodeAsked, Writing, encode_asked};
+use commands::{Writing, encode_asked};
 use files::Kind;
 use outcomes::encode_told;
 use std::fs::File;
@@ -16,11 +16,9 @@ use words::line::front;
 // Encodes with the texts of the file that word 4 names to the one that word 5 names.
 fn encode_with_source(rt: &HostRuntime, writing: Writing, is_replacing: bool, table: &[u8]) {
     let mut source = io::large_buffer();
-    let got = named::read_whole(rt, 4, 5, &mut source);
-    if !got.is_read {
+    let Some(n) = named::read_whole(rt, 4, 5, &mut source) else {
         return;
-    }
-    let n = got.count;
+    };
     let mut out = io::large_buffer();
     let mut line = io::buffer();
     let told = encode_told(writing, table, &source[..n], &mut out, &mut line);
@@ -59,11 +57,11 @@ pub fn run(rt: &HostRuntime, count: usize, is_replacing: bool) {
     let mut framing = io::buffer();
     let n = word(rt, 2, &mut framing);
     match encode_asked(count, &framing[..n]) {
-        EncodeAsked::As(writing) => {
+        Ok(writing) => {
             if let Some(file) = named::open_table(rt, 3, 5) {
                 rooms::run(rt, Work::Encode(writing, is_replacing, file));
             }
         }
-        EncodeAsked::Wrong(trouble, i) => say::trouble(rt, trouble, i, 0),
+        Err(blame) => say::blame(rt, blame),
     }
 }

@@ -5,18 +5,17 @@ ghost use Rattle.std.specs.Prelude.{◌*◌, ◌≤◌, length};
 ghost use Rattle.node.specs.Records.{record_size, most_records};
 
 use crate::{decode, encode, look};
-use commands::{Options, Writing};
-use edition::Framing;
+use clock::Rule;
+use commands::{Decoding, Writing};
 use std::fs::File;
-use time_words::LookRuled;
 use tool_files::space;
 
 // What the words of a command ask, and the open table that it reads. The `bool` says whether any file may be replaced.
 #[derive(Drop)]
 pub enum Work {
-    Decode(Framing, Options, bool),
+    Decode(Decoding, bool),
     Encode(Writing, bool, File),
-    Look(usize, LookRuled, File),
+    Look(usize, Option<Rule>, File),
 }
 
 // Runs a command in the small room: decode with the bytes that it read, the others with their table. Whether decode has room; the others go
@@ -24,8 +23,8 @@ pub enum Work {
 pub fn begin(rt: &HostRuntime, work: Work, bytes: &[u8]) -> bool {
     let mut room = space::small_table();
     match work {
-        Work::Decode(framing, options, is_replacing) => {
-            return decode::begin(rt, framing, options, is_replacing, bytes, &mut room);
+        Work::Decode(decoding, is_replacing) => {
+            return decode::begin(rt, decoding, is_replacing, bytes, &mut room);
         }
         Work::Encode(writing, is_replacing, file) => encode::begin(
             rt,
@@ -46,14 +45,9 @@ pub fn go_on(rt: &HostRuntime, work: Work, bytes: &[u8])
 {
     let mut room = space::table();
     match work {
-        Work::Decode(framing, options, is_replacing) => decode::go_on(
-            rt,
-            framing,
-            options,
-            is_replacing,
-            bytes,
-            &mut room,
-        ),
+        Work::Decode(decoding, is_replacing) => {
+            decode::go_on(rt, decoding, is_replacing, bytes, &mut room);
+        }
         Work::Encode(writing, is_replacing, file) => encode::go_on(
             rt,
             writing,
@@ -69,7 +63,7 @@ pub fn go_on(rt: &HostRuntime, work: Work, bytes: &[u8])
 // How long the table is that a command reads; 0 where the system does not tell, or it reads none.
 fn size_of(work: &Work) -> u64 {
     match work {
-        Work::Decode(_, _, _) => 0,
+        Work::Decode(_, _) => 0,
         Work::Encode(_, _, file) => files::length_of(file),
         Work::Look(_, _, file) => files::length_of(file),
     }

@@ -1,14 +1,13 @@
 // The command time: a time tag or a Unix time, and the other of the two by a rule.
-use clock::Rule;
 use time_lines::tell_moment;
-use time_words::{Moment, TimeAsked, time_asked};
+use time_words::{Timing, time_asked};
 use tool_files::say;
 use tool_files::typed::word;
 
 // Says a time by a rule.
-fn say_time(rt: &HostRuntime, rule: Rule, moment: Moment) {
+fn say_time(rt: &HostRuntime, timing: Timing) {
     let mut line = io::buffer();
-    let n = tell_moment(rule, moment, &mut line);
+    let n = tell_moment(timing.rule, timing.moment, &mut line);
     say::answer(rt, &line[..n]);
 }
 
@@ -19,7 +18,7 @@ pub fn run(rt: &HostRuntime, count: usize) {
     let n = word(rt, 2, &mut rule);
     let m = word(rt, 3, &mut moment);
     match time_asked(count, &rule[..n], &moment[..m]) {
-        TimeAsked::Of(rule, moment) => say_time(rt, rule, moment),
-        TimeAsked::Wrong(trouble, i) => say::trouble(rt, trouble, i, 0),
+        Ok(timing) => say_time(rt, timing),
+        Err(blame) => say::blame(rt, blame),
     }
 }

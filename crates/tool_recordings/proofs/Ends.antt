@@ -9,8 +9,8 @@ use lib.Dec.{ltb}
 use lib.ListN.{take}
 use Rattle.wire.specs.Limits.{longest}
 use Rattle.cues.specs.Checks.{compared, numbered_from}
-use Rattle.results.specs.declared.Checked.{Checked}
-use Rattle.results.specs.declared.Checked.TheVariants as checked
+use Rattle.results.specs.Results.{Checked}
+use Rattle.std.specs.Prelude.{Ok, Err}
 use Rattle.results.specs.declared.End.{End}
 use Rattle.walks.specs.Walks.{WalkStep}
 use Rattle.walks.proofs.Steps.{goes_further}
@@ -35,8 +35,8 @@ Stands (Differs k) = ⊥
 Stands Failed = ⊥
 
 as-compared : (c : Checked) (next r : Came) → Stands r → r ≡ came_if c next → r ≡ next
-as-compared (checked.Fits k) next r s e = e
-as-compared (checked.Differs k) next r s e = absurd (subst Stands e s)
+as-compared (Ok k) next r s e = e
+as-compared (Err differs) next r s e = absurd (subst Stands e s)
 
 -- where it stands after its records are handed on, it stood before
 as-handed : {aim : Aim} {before : ℕ} {fresh there : List ℕ} {next : Came} (r : Came) → Stands r → HandedOn aim before fresh there next r

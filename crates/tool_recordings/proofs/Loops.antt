@@ -6,9 +6,10 @@ use native.Mathlib.Omega.{arith}
 use lib.ListN.{length, take, drop, take-append-drop}
 use lib.Seq.{take-take}
 use Rattle.wire.specs.Limits.{longest}
-use Rattle.files.specs.Rest.{ReadsOn}
-use Rattle.results.specs.declared.Checked.{Checked}
-use Rattle.results.specs.declared.Checked.TheVariants as checked
+use Rattle.files.specs.Rest.{ReadsOn, ReadOn}
+use Rattle.files.specs.declared.pieces.Unread.{Unread}
+use Rattle.results.specs.Results.{Checked}
+use Rattle.std.specs.Prelude.{Result, Ok, Err}
 use Rattle.cues.specs.Checks.{compared, numbered_from}
 use Rattle.outcomes.specs.Cued.{ChecksPart}
 use Rattle.walks.specs.Walks.{WalkStep, LowAfter}
@@ -29,6 +30,10 @@ pub compared-came : (n : ℕ) {next : Came} {before : ℕ} {fresh there given : 
 compared-came n {next} {before} {fresh} few part f e =
     loops.compared_with n few
     (ap (λ (x : Checked). came_if x next) (sym e ∙ part.answers ∙ ap (λ (l : List ℕ). numbered_from before (compared fresh l)) f))
+
+-- what a read that did not fail does to a buffer
+pub read-on : {kept n : ℕ} {buf after : List ℕ} {r : Result ℕ Unread} → ReadOn kept buf after r → r ≡ Ok n → ReadsOn kept buf after n
+read-on {kept} {buf = buf} {after} reads e = subst (ReadOn kept buf after) e reads
 
 -- the first bytes of a buffer are those that were kept and those that were read after them
 pub holds : (from : Position) (before buf : List ℕ) (count : ℕ) → ReadsOn from.kept before buf count
@@ -67,8 +72,8 @@ turn-or-fails (fails e) t = no-turn e
 -- ---- numbers stay low
 
 low-if : (least : ℕ) (c : Checked) (next : Came) → LowCame least next → LowCame least (came_if c next)
-low-if least (checked.Fits k) next low = low
-low-if least (checked.Differs k) next low = tt
+low-if least (Ok k) next low = low
+low-if least (Err differs) next low = tt
 
 -- what was so of a walk is still so where its records are handed on
 pub handed-low : {aim : Aim} {before : ℕ} {fresh there : List ℕ} {next r : Came} (least : ℕ)

@@ -1,13 +1,13 @@
 -- The program's loop over a recording, document 02, Ticket 5: a buffer is read, walked over (crates/walks), and its records are written or
 -- compared; then the next buffer comes. What is said here is what each turn of it hands on.
-use Rattle.std.specs.Prelude.{◌≡◌, List, [], ◌∷◌, ℕ, ◌≤◌, length, take}
+use Rattle.std.specs.Prelude.{◌≡◌, List, [], ◌∷◌, ℕ, ◌≤◌, length, take, Ok, Err}
 use denote.Ref.{Bor}
 use Rattle.std.specs.declared.fs.File.{File}
 use Rattle.wire.specs.Limits.{longest}
 use Rattle.folding.specs.Folding.{joined_bytes}
 use Rattle.cues.specs.Checks.{compared, numbered_from}
-use Rattle.results.specs.declared.Checked.{Checked}
-use Rattle.results.specs.declared.Checked.TheVariants as checked
+use Rattle.results.specs.Results.{Checked}
+use Rattle.results.specs.Results as checked
 use Rattle.results.specs.declared.End.{End}
 use Rattle.results.specs.declared.End.TheVariants as end
 use Rattle.walks.specs.Walks.{WalkStep}
@@ -36,8 +36,8 @@ came_by walked.TooLong = Failed
 
 -- records that were compared: where they fit, the walk stands there, and otherwise it is over
 abbrev pub came_if : Checked → Came → Came
-came_if (checked.Fits k) next = next
-came_if (checked.Differs k) next = Differs k
+came_if (Ok k) next = next
+came_if (Err differs) next = Differs differs.at
 
 -- records are compared, before which stand `before` others, with the first bytes of what was read of the index, at most as many as they
 -- have; what went wrong was said

@@ -13,7 +13,7 @@ ghost use Rattle.tool_recordings.specs.Loops.{ComparedOn, HandedOn, TurnsTo, Loo
 
 use cues::{ENTRY_SIZE, MOST_ENTRIES};
 use outcomes::check_part;
-use results::{Checked, End};
+use results::{End, IndexDiffers};
 use std::fs::File;
 use tool_files::say;
 use troubles::Trouble;
@@ -48,7 +48,7 @@ pub enum Came {
 pub enum Judged {
     // How the index is, at which offset of the recording its last frame ends, and why no more; 0 and `Whole` of an index that differs
     // before.
-    As(Checked, u64, End),
+    As(Result<usize, IndexDiffers>, u64, End),
     // What went wrong was said.
     Failed,
 }
@@ -80,13 +80,12 @@ fn compare(
     ensures { ComparedOn before fresh.now given.new next result }
 {
     let m = fresh.len();
-    let got = files::read_on(file, index_name, &mut given[..m], 0);
-    if !got.is_read {
+    let Ok(count) = files::read_on(file, index_name, &mut given[..m], 0) else {
         return Came::Failed;
-    }
-    match check_part(before, fresh, front(given, got.count)) {
-        Checked::Fits(_) => next,
-        Checked::Differs(k) => Came::Differs(k),
+    };
+    match check_part(before, fresh, front(given, count)) {
+        Ok(_) => next,
+        Err(differs) => Came::Differs(differs.at),
     }
 }
 
@@ -151,11 +150,9 @@ fn walk_on(
     requires { Room buf.old out.old given.old × LowPosition from }
     ensures { TurnsTo aim.entry from buf.old buf.new out.old out.new given.new result }
 {
-    let got = files::read_on(file, name, buf, from.kept);
-    if !got.is_read {
+    let Ok(count) = files::read_on(file, name, buf, from.kept) else {
         return Came::Failed;
-    }
-    let count = got.count;
+    };
     let before = from.records;
     match walk_step(from, buf, count, out) {
         Walked::On { written, next } => hand_on(
@@ -242,11 +239,10 @@ fn judge_rest(file: &File, index_name: &[u8], last: Position, end: End) -> Judge
     ensures { JudgedAt last end result × LowJudged result }
 {
     let mut more = [0u8; 1];
-    let got = files::read_on(file, index_name, &mut more, 0);
-    if !got.is_read {
+    let Ok(count) = files::read_on(file, index_name, &mut more, 0) else {
         return Judged::Failed;
-    }
-    let checked = check_part(last.records, b"", front(&more, got.count));
+    };
+    let checked = check_part(last.records, b"", front(&more, count));
     Judged::As(checked, last.at, end)
 }
 
@@ -256,7 +252,7 @@ fn judge_open(rt: &HostRuntime, file: &File, name: &[u8], index: &File, index_na
 {
     match walk_over(rt, file, name, Aim::Compare(index), index_name) {
         Came::Ended(last, end) => judge_rest(index, index_name, last, end),
-        Came::Differs(k) => Judged::As(Checked::Differs(k), 0, End::Whole),
+        Came::Differs(k) => Judged::As(Err(IndexDiffers { at: k }), 0, End::Whole),
         Came::On(_) => Judged::Failed,
         Came::Failed => Judged::Failed,
     }

@@ -10,7 +10,7 @@ ghost use Rattle.tool_walks.specs.Runs.{begun};
 ghost use Rattle.tool_recordings.specs.CodeCame.{LowCame};
 ghost use Rattle.tool_shifts.specs.Slid.{slid_by, SlideRoom, CanStand, StandsAfter, SlidesTo, SlidesAt};
 
-use asked::{ShiftAsked, shift_asked};
+use asked::shift_asked;
 use files::Kind;
 use results::End;
 use slide_steps::TABLE_SIZE;
@@ -74,11 +74,9 @@ fn slide_on(
     requires { SlideRoom buf.old table.old × LowPosition from }
     ensures { SlidesTo by from buf.old buf.new result }
 {
-    let got = files::read_on(file, name, buf, from.kept);
-    if !got.is_read {
+    let Ok(count) = files::read_on(file, name, buf, from.kept) else {
         return Came::Failed;
-    }
-    let count = got.count;
+    };
     if LONGEST_RECORDING - from.at < count as u64 {
         say::trouble(rt, Trouble::TooLarge, 2, count);
         return Came::Failed;
@@ -203,7 +201,7 @@ pub fn run(rt: &HostRuntime, count: usize, is_replacing: bool) {
     let mut amount = io::buffer();
     let n = word(rt, 4, &mut amount);
     match shift_asked(count, &amount[..n]) {
-        ShiftAsked::By(by) => shift_file(rt, by, is_replacing),
-        ShiftAsked::Wrong(trouble, i) => say::trouble(rt, trouble, i, 0),
+        Ok(by) => shift_file(rt, by, is_replacing),
+        Err(blame) => say::blame(rt, blame),
     }
 }

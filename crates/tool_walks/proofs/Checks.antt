@@ -7,8 +7,8 @@ use lib.ListN.{length, take, drop}
 use Rattle.cues.specs.Cues.{entry_size}
 use Rattle.cues.specs.Checks.{compared, compared_at, numbered_from, followed_by}
 use Rattle.cues.proofs.Checks.{fits_exactly, numbered-twice, numbered-none, compared-stops}
-use Rattle.results.specs.declared.Checked.{Checked}
-use Rattle.results.specs.declared.Checked.TheVariants.{Fits, Differs}
+use Rattle.results.specs.Results.{Checked, Differs}
+use Rattle.std.specs.Prelude.{Ok, Err}
 use Rattle.recordings.specs.Recordings.{checked_in_parts}
 use Rattle.recordings.proofs.Walks.{walk_checks}
 use Rattle.tool_walks.specs.Runs.{begun, CheckRun, none_left, part_fits, part_differs, CheckRuns, RunChecks}
@@ -25,17 +25,17 @@ by-one-byte (x ∷ given) =
 
 -- a part of n records that fits is followed by record n
 module _ (part given : List ℕ) (from n : ℕ) (long : length part ≡ entry_size * n) where
-  by_answer : (c : Checked) → compared part given ≡ c → {next : ℕ} → Fits next ≡ numbered_from from c → c ≡ Fits n
-  by_answer (Fits k) e f = let w = (fits_exactly part given).counts k e in let same : k ≡ n = omega (arith, w.0, w.1) in rw same
-  by_answer (Differs k) e f = let z : ◌≡◌ {A = ℕ} 0 1 = cc in absurd (omega arith)
+  by_answer : (c : Checked) → compared part given ≡ c → {next : ℕ} → Ok next ≡ numbered_from from c → c ≡ Ok n
+  by_answer (Ok k) e f = let w = (fits_exactly part given).counts k e in let same : k ≡ n = omega (arith, w.0, w.1) in rw same
+  by_answer (Err differs) e f = let z : ◌≡◌ {A = ℕ} 0 1 = cc in absurd (omega arith)
 
-  fits_all : {next : ℕ} → Fits next ≡ numbered_from from (compared part given) → compared part given ≡ Fits n
+  fits_all : {next : ℕ} → Ok next ≡ numbered_from from (compared part given) → compared part given ≡ Ok n
   fits_all f = by_answer (compared part given) refl f
 
 -- one that differs ends the check
 differs-here : (from : ℕ) {k : ℕ} (c rest : Checked) → Differs k ≡ numbered_from from c → Differs k ≡ numbered_from from (followed_by c rest)
-differs-here from (Fits n) rest e = let z : ◌≡◌ {A = ℕ} 0 1 = cc in absurd (omega arith)
-differs-here from (Differs j) rest e = e
+differs-here from (Ok n) rest e = let z : ◌≡◌ {A = ℕ} 0 1 = cc in absurd (omega arith)
+differs-here from (Err differs) rest e = e
 
 check-run : {from : ℕ} {parts : List (List ℕ)} {given : List ℕ} {r : Checked} → CheckRun from parts given r
     → r ≡ numbered_from from (checked_in_parts parts given)

@@ -7,9 +7,9 @@ use lib.ListN.{replicate}
 use Rattle.folding.specs.Folding.{joined_bytes}
 use Rattle.folding.proofs.Examples.{whole-number}
 use Rattle.cues.specs.Checks.{compared_at, checked_as}
-use Rattle.results.specs.declared.Checked.TheVariants.{Fits, Differs}
+use Rattle.results.specs.Results.{Differs, Written}
+use Rattle.std.specs.Prelude.{Ok}
 use Rattle.results.specs.declared.End.TheVariants as end
-use Rattle.results.specs.declared.Indexed.TheVariants.{Written}
 use Rattle.recordings.proofs.Examples.{entry, first_step}
 use Rattle.walks.specs.Walks.{WalkStep}
 use Rattle.walks.specs.declared.Position.{Position}
@@ -42,7 +42,7 @@ writes : WritesWhole (joined_bytes (whole-number ∷ [])) (joined_bytes (entry 0
 writes = run_writes [] (whole-number ∷ []) (entry 0 ∷ []) last end.Whole the-run
 
 -- its part against that index, and against one that has another number in its first record
-fitting : CheckRun 0 (entry 0 ∷ []) (entry 0) (Fits 1)
+fitting : CheckRun 0 (entry 0 ∷ []) (entry 0) (Ok 1)
 unfolding compared_at
 fitting = part_fits {next = 1} 1 refl refl (none_left refl)
 
@@ -50,8 +50,8 @@ differing : CheckRun 0 (entry 0 ∷ []) (entry 1) (Differs 0)
 unfolding compared_at
 differing = part_differs refl
 
-fits : Fits 1 ≡ checked_as (joined_bytes (whole-number ∷ [])) (entry 0)
-fits = run_checks [] (whole-number ∷ []) (entry 0 ∷ []) last end.Whole (entry 0) (Fits 1) the-run fitting
+fits : Ok 1 ≡ checked_as (joined_bytes (whole-number ∷ [])) (entry 0)
+fits = run_checks [] (whole-number ∷ []) (entry 0 ∷ []) last end.Whole (entry 0) (Ok 1) the-run fitting
 
 differs : Differs 0 ≡ checked_as (joined_bytes (whole-number ∷ [])) (entry 1)
 differs = run_checks [] (whole-number ∷ []) (entry 0 ∷ []) last end.Whole (entry 1) (Differs 0) the-run differing

@@ -12,7 +12,7 @@ use Rattle.folding.specs.Walks.{MayContinue, WalkStops, Walk, reads_on as read_o
 use Rattle.cues.specs.Cues.{entry_size, indexing, Index, index, index_of, Indexes, IndexStep}
 use Rattle.results.specs.declared.End.{End}
 use Rattle.results.specs.declared.End.TheVariants as end
-use Rattle.results.specs.declared.Indexed.TheVariants.{Written}
+use Rattle.results.specs.Results.{Written}
 use Rattle.recordings.proofs.Walks.{every_walk}
 use Rattle.walks.specs.Walks.{is_last, reads_on}
 use Rattle.walks.proofs.Steps.{goes_further}

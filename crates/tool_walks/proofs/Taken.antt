@@ -10,8 +10,8 @@ use lib.Seq.{length-take-le}
 use Rattle.cues.specs.Cues.{entry_size, index, index_of, Indexes}
 use Rattle.cues.proofs.Steps.{stepped}
 use Rattle.results.specs.declared.End.{End}
-use Rattle.results.specs.declared.Indexed.{Indexed}
-use Rattle.results.specs.declared.Indexed.TheVariants.{Written, Refused}
+use Rattle.results.specs.Results.{IndexAnswer, Written}
+use Rattle.std.specs.Prelude.{Err, Ok}
 use Rattle.walks.specs.Walks.{is_last, reads_on, further, walked_by, keeps_unused, WalkStep}
 use Rattle.walks.specs.declared.Position.{Position}
 use Rattle.walks.specs.declared.Walked.{Walked}
@@ -71,26 +71,26 @@ module _ (from : Position) (buf : List ℕ) (count : ℕ) (out kept after : List
   came b m used why =
       cond b (On (m * entry_size) (further from m used (count - used))) (Ended (m * entry_size) (further from m used (count - used)) why)
 
-  on-by : (x : Indexed) → Indexes (take count buf) from.at out x after → On n next ≡ walked_by from count x → keeps_unused buf count x kept
+  on-by : (x : IndexAnswer) → Indexes (take count buf) from.at out x after → On n next ≡ walked_by from count x → keeps_unused buf count x kept
       → TakenOn from buf count out kept after n next
-  on-by (Written m used why) s e k = by-test (reads_on (is_last count) why) refl e
+  on-by (Ok indexed) s e k = by-test (reads_on (is_last count) indexed.end) refl e
     where
-      by-test : (b : Bool) → reads_on (is_last count) why ≡ b → On n next ≡ came b m used why → TakenOn from buf count out kept after n next
-      by-test true t e = record { why = why; taken = made m used s (cc) (cc) k; reads = t }
+      by-test : (b : Bool) → reads_on (is_last count) indexed.end ≡ b → On n next ≡ came b indexed.records indexed.used indexed.end → TakenOn from buf count out kept after n next
+      by-test true t e = record { why = indexed.end; taken = made indexed.records indexed.used s (cc) (cc) k; reads = t }
       by-test false t e = let z : ◌≡◌ {A = ℕ} 0 1 = cc in absurd (omega arith)
-  on-by (Refused k) s e h = let z : ◌≡◌ {A = ℕ} 0 1 = cc in absurd (omega arith)
+  on-by (Err k) s e h = let z : ◌≡◌ {A = ℕ} 0 1 = cc in absurd (omega arith)
 
-  last-by : (why : End) (x : Indexed) → Indexes (take count buf) from.at out x after → Ended n next why ≡ walked_by from count x
+  last-by : (why : End) (x : IndexAnswer) → Indexes (take count buf) from.at out x after → Ended n next why ≡ walked_by from count x
       → keeps_unused buf count x kept → TakenLast from buf count out kept after n next why
-  last-by why (Written m used end) s e k = by-test (reads_on (is_last count) end) refl e
+  last-by why (Ok indexed) s e k = by-test (reads_on (is_last count) indexed.end) refl e
     where
-      by-test : (b : Bool) → reads_on (is_last count) end ≡ b → Ended n next why ≡ came b m used end
+      by-test : (b : Bool) → reads_on (is_last count) indexed.end ≡ b → Ended n next why ≡ came b indexed.records indexed.used indexed.end
           → TakenLast from buf count out kept after n next why
       by-test true t e = let z : ◌≡◌ {A = ℕ} 0 1 = cc in absurd (omega arith)
       by-test false t e =
-          let same : end ≡ why = cc in
-          subst (TakenLast from buf count out kept after n next) same (record { taken = made m used s (cc) (cc) k; reads = t })
-  last-by why (Refused k) s e h = let z : ◌≡◌ {A = ℕ} 0 1 = cc in absurd (omega arith)
+          let same : indexed.end ≡ why = cc in
+          subst (TakenLast from buf count out kept after n next) same (record { taken = made indexed.records indexed.used s (cc) (cc) k; reads = t })
+  last-by why (Err k) s e h = let z : ◌≡◌ {A = ℕ} 0 1 = cc in absurd (omega arith)
 
 module _ {from : Position} {buf : List ℕ} {count : ℕ} {out kept after : List ℕ} {n : ℕ} {next : Position} where
   pub taken-on : WalkStep from buf count out (On n next) kept after → TakenOn from buf count out kept after n next

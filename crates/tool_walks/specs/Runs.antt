@@ -1,14 +1,13 @@
 -- The program's walk over a recording, document 02, Ticket 5: over the contract of its step (crates/walks), whose position goes from one
 -- step to the next. The loop around it reads portions and writes, or checks, what the steps have written.
-use Rattle.std.specs.Prelude.{◌≡◌, List, [], ◌∷◌, ◌++◌, ℕ, ◌+◌, ◌*◌, ◌<◌, length, take, drop}
+use Rattle.std.specs.Prelude.{◌≡◌, List, [], ◌∷◌, ◌++◌, ℕ, ◌+◌, ◌*◌, ◌<◌, length, take, drop, Ok}
 use Rattle.wire.specs.Limits.{longest}
 use Rattle.folding.specs.Folding.{joined_bytes}
 use Rattle.folding.specs.Walks.{MayContinue, Walk, Reached}
 use Rattle.cues.specs.Cues.{entry_size, indexing, index, index_of, IndexStep}
 use Rattle.cues.specs.Checks.{compared, checked_as, numbered_from}
 use Rattle.results.specs.declared.End.{End}
-use Rattle.results.specs.declared.Checked.{Checked}
-use Rattle.results.specs.declared.Checked.TheVariants.{Fits, Differs}
+use Rattle.results.specs.Results.{Checked, Differs}
 use Rattle.recordings.specs.Recordings.{checked_in_parts}
 use Rattle.walks.specs.Walks.{WalkStep}
 use Rattle.walks.specs.declared.Position.{Position}
@@ -94,7 +93,7 @@ RunWrites =
 pub data CheckRun : ℕ → List (List ℕ) → List ℕ → Checked → Type 0 where
   none_left : {from : ℕ} {given : List ℕ} {r : Checked} → r ≡ numbered_from from (compared [] (take 1 given)) → CheckRun from [] given r
   part_fits : {from next : ℕ} {part given : List ℕ} {later : List (List ℕ)} {r : Checked} (n : ℕ) → length part ≡ entry_size * n
-      → Fits next ≡ numbered_from from (compared part (take (length part) given))
+      → Ok next ≡ numbered_from from (compared part (take (length part) given))
       → CheckRun (from + n) later (drop (length part) given) r → CheckRun from (part ∷ later) given r
   part_differs : {from k : ℕ} {part given : List ℕ} {later : List (List ℕ)}
       → Differs k ≡ numbered_from from (compared part (take (length part) given)) → CheckRun from (part ∷ later) given (Differs k)

@@ -1,1 +1,1 @@
-pub mod CodePlaces
+pub mod Blames

@@ -2,7 +2,8 @@
 // says it do not stand on each other.
 #![tactic(auto)]
 
-ghost use Rattle.troubles.specs.CodePlaces.{PlacedAt};
+ghost use Rattle.std.specs.Prelude.{◌≡◌};
+ghost use Rattle.troubles.specs.Blames.{blame};
 
 #[derive(Clone, Copy)]
 pub enum Trouble {
@@ -40,44 +41,23 @@ pub enum Trouble {
     NoAmount,
 }
 
-// The place of a trouble among the others.
-//
-// Ruled out: the place of the next trouble; one place for two.
-pub fn place_of(trouble: Trouble) -> usize
-    ensures { PlacedAt trouble result }
-{
-    match trouble {
-        Trouble::NoCommand => 0,
-        Trouble::DecodeWords => 1,
-        Trouble::EncodeWords => 2,
-        Trouble::LookWords => 3,
-        Trouble::NoFraming => 4,
-        Trouble::OnePacket => 5,
-        Trouble::NoOption => 6,
-        Trouble::Twice => 7,
-        Trouble::NoNumber => 8,
-        Trouble::ManyRecords => 9,
-        Trouble::NoName => 10,
-        Trouble::LongName => 11,
-        Trouble::NoFile => 12,
-        Trouble::OneFile => 13,
-        Trouble::TooLarge => 14,
-        Trouble::NoTable => 15,
-        Trouble::IndexWords => 16,
-        Trouble::CheckWords => 17,
-        Trouble::CueWords => 18,
-        Trouble::Shorter => 19,
-        Trouble::NoReplace => 20,
-        Trouble::IndexLength => 21,
-        Trouble::IndexFront => 22,
-        Trouble::TableLength => 23,
-        Trouble::TableFront => 24,
-        Trouble::Exists => 25,
-        Trouble::TwoNames => 26,
-        Trouble::TimeWords => 27,
-        Trouble::NoRule => 28,
-        Trouble::NoTime => 29,
-        Trouble::ShiftWords => 30,
-        Trouble::NoAmount => 31,
+// A trouble, and the word of the command that is to blame; word 0 is the name of the program.
+#[derive(Clone, Copy)]
+pub struct Blame {
+    pub trouble: Trouble,
+    pub word: usize,
+}
+
+impl Trouble {
+    // The trouble with this word.
+    //
+    // Ruled out: the word after it; no word at all.
+    pub fn at(self, word: usize) -> Blame
+        ensures { result ≡ blame self word }
+    {
+        Blame {
+            trouble: self,
+            word,
+        }
     }
 }

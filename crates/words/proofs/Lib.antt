@@ -1,3 +1,4 @@
 pub mod Numerals
-pub mod Signs
 pub mod Tables
+pub mod Pushed
+pub mod Beside

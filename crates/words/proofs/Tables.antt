@@ -1,40 +1,64 @@
 -- The words of a line, one after another, and what stands beside a key of a table, by the place of that key.
 use mathlib.Core.Path.{◌≡◌, refl, sym, ap, subst, ◌∙◌}
-use mathlib.Core.Bool.{Bool, true, false, cond, false≢true}
-use mathlib.Core.List.{List, [], ◌∷◌, ◌++◌, map}
+use mathlib.Core.Bool.{Bool, true, false, cond, not, false≢true}
+use Rattle.std.specs.Prelude.{Option, nat_eq, ltb, ◌&&◌, unwrap_or}
+use Rattle.std.specs.List.{position, position_or_len}
+use Rattle.std.proofs.lemmas.List.Sums.{prefix_len-le-length}
+use Rattle.std.proofs.lemmas.Bool.{ltb-false}
+use mathlib.Core.List.{List, [], ◌∷◌, map}
 use Prim.Native.Nat.{ℕ, zero, suc, ◌+◌, ◌-◌, ◌≤◌, ◌<◌}
-use Prim.Native.String.{String}
 use native.Mathlib.Nat.{zero-add}
-use native.Mathlib.Numerals.{add-one}
 use native.Mathlib.Omega.{arith}
 use borrow.Author.Tests.{eq-eqb, ne_eqb, eqb-true}
 use lib.Dec.{eqb}
+use lib.Pointwise.{pointwise}
 use lib.ListN.{length, get_or, take, drop, drop_of_length-le, length-drop}
-use lib.Seq.{drop-cons, drop-drop}
+use lib.Seq.{drop-drop}
 use Rattle.wire.specs.Same.{same_bytes}
-use Rattle.wire.proofs.Choices.{by-test, by_both}
-use Rattle.words.specs.Ascii.{ascii}
-use Rattle.words.specs.Tables.{paired_with, is_word, until_byte, longer, words_in, place_in}
+use Rattle.wire.proofs.Choices.{by-test}
+use Rattle.words.specs.Tables.{paired_with, until_byte, longer, words_in, place_in}
 
 -- ---- where a byte is found
 
--- here
-pub byte-here : (s : List ℕ) (i byte : ℕ) → i < length s → get_or s i 0 ≡ byte → length (until_byte byte (drop i s)) ≡ 0
-unfolding until_byte
-byte-here s i byte h e = rw (drop-cons s i 0 h, eq-eqb _ _ e)
+-- one byte before it or none, by a test
+before-step : (c : ℕ) (t : Bool) (s : List ℕ) {n : ℕ} → length s ≡ n → length (cond t [] (c ∷ s)) ≡ cond (not t) (1 + n) 0
+before-step c true s e = refl
+before-step c false s e = omega arith
 
--- further on
-pub byte-on : (s : List ℕ) (i byte : ℕ) → i < length s → (get_or s i 0 ≡ byte → ⊥)
-    → i + length (until_byte byte (drop i s)) ≡ i + 1 + length (until_byte byte (drop (i + 1) s))
+-- the bytes before the first such byte are the longest front without it
+front_without : (byte : ℕ) (s : List ℕ) → length (until_byte byte s) ≡ position_or_len (λ x. nat_eq x byte) s
 unfolding until_byte
-byte-on s i byte h e = rw (add-one, drop-cons s i 0 h, ne_eqb _ _ e) (omega arith)
+front_without byte [] = refl
+front_without byte (c ∷ s) = before-step c (eqb c byte) _ (front_without byte s)
 
--- nowhere
-pub byte-none : (s : List ℕ) (i byte : ℕ) → length s ≤ i → length (until_byte byte (drop i s)) ≡ 0
-unfolding until_byte
-byte-none s i byte h = rw (drop_of_length-le s h)
+-- so many as the place of that byte, or all
+pub place_before : (byte : ℕ) (s : List ℕ) → unwrap_or (position (λ x. nat_eq x byte) s) (length s) ≡ length (until_byte byte s)
+place_before byte s =
+    let n = position_or_len (λ (x : ℕ). nat_eq x byte) s in
+    let most : n ≤ length s = prefix_len-le-length (λ (x : ℕ). not (nat_eq x byte)) s in
+    by-test (λ (o : Option ℕ). unwrap_or o (length s) ≡ n) (ltb n (length s)) (λ _. refl)
+    (λ e. let h : length s ≤ n = ltb-false n (length s) e in omega arith)
+    ∙ sym (front_without byte s)
 
 -- ---- the words of a line
+
+-- no more than there are
+pub until-le : (byte : ℕ) (s : List ℕ) → length (until_byte byte s) ≤ length s
+until-le byte s =
+    let most : position_or_len (λ (x : ℕ). nat_eq x byte) s ≤ length s = prefix_len-le-length (λ (x : ℕ). not (nat_eq x byte)) s in
+    omega (arith, front_without byte s)
+
+-- two tests, the second of which has another form
+both-or_none : (t : Bool) {x y : Bool} → x ≡ y → (t && x) ≡ cond t y false
+both-or_none true e = e
+both-or_none false e = refl
+
+-- what finds two slices equal
+pub equal-same : (a b : List ℕ) → pointwise eqb a b ≡ same_bytes a b
+equal-same [] [] = refl
+equal-same [] (y ∷ b) = refl
+equal-same (x ∷ a) [] = refl
+equal-same (x ∷ a) (y ∷ b) = both-or_none (eqb x y) (equal-same a b)
 
 -- a word is a part of its line
 word-front : (byte : ℕ) (s : List ℕ) → take (length (until_byte byte s)) s ≡ until_byte byte s
@@ -95,38 +119,11 @@ pub place_none : (names word : List ℕ) (at : ℕ) → length names ≤ at → 
 unfolding words_in place_in
 place_none names word at h = rw (drop_of_length-le names h)
 
--- no place is past the last
-place-within : (names : List (List ℕ)) (word : List ℕ) → place_in names word ≤ length names
-unfolding place_in
-place-within [] word = omega arith
-place-within (name ∷ names) word =
-    by-test (λ (n : ℕ). n ≤ suc (length names)) (same_bytes name word) (λ _. omega arith) (λ _. omega (arith, place-within names word))
-
 -- ---- a table
 
--- its keys, and what stands beside them
-abbrev pub keys_of : {A : Type 0} → List (String × A) → List (List ℕ)
-keys_of rows = map (λ row. ascii row.0) rows
-
+-- what stands beside its keys
 abbrev pub beside_of : {K A : Type 0} → List (K × A) → List A
 beside_of rows = map (λ row. row.1) rows
-
--- what stands beside a word is found by the word's place, where the other stands last
-paired-place : {A : Type 0} (word : List ℕ) (other d : A) (rows : List (String × A))
-    → get_or (beside_of rows ++ (other ∷ [])) (place_in (keys_of rows) word) d ≡ paired_with (is_word word) other rows
-unfolding place_in
-paired-place word other d [] = refl
-paired-place {A} word other d (row ∷ rows) =
-    by_both (λ (n : ℕ) (x : A). get_or (beside_of (row ∷ rows) ++ (other ∷ [])) n d ≡ x) (is_word word row.0) refl
-    (paired-place word other d rows)
-
-module _ {A : Type 0} (rows : List (String × A)) (word : List ℕ) {at : ℕ} (place : at ≡ place_in (keys_of rows) word) where
-  pub named-at : (other d : A) → get_or (beside_of rows ++ (other ∷ [])) at d ≡ paired_with (is_word word) other rows
-  named-at other d = ap (λ (n : ℕ). get_or (beside_of rows ++ (other ∷ [])) n d) place ∙ paired-place word other d rows
-
-  -- and there is one for every word
-  pub named-within : at < suc (length (keys_of rows))
-  named-within = omega (arith, place-within (keys_of rows) word)
 
 -- keys whose numbers count up
 abbrev pub counts_up : {K A : Type 0} → (K → ℕ) → ℕ → List (K × A) → Bool

@@ -1,5 +1,6 @@
 -- A table: keys, and what stands beside each. And the words of a line, which a program searches for a key.
-use Rattle.std.specs.Prelude.{Bool, cond, List, [], ◌∷◌, ℕ, suc, eqb}
+use Rattle.std.specs.Prelude.{Bool, cond, List, [], ◌∷◌, ℕ, suc, eqb, Option, Some, None}
+use Rattle.std.specs.Borrow.{Bor}
 use Prim.Native.String.{String}
 use Rattle.wire.specs.Same.{same_bytes}
 use Rattle.words.specs.Ascii.{ascii}
@@ -12,6 +13,11 @@ paired_with meant other (row ∷ rows) = cond (meant row.0) row.1 (paired_with m
 -- a word is this one
 abbrev pub is_word : List ℕ → String → Bool
 is_word word text = same_bytes (ascii text) word
+
+-- what stands beside a word in a table of words that a program has, where the word is there
+abbrev pub beside : {A : Type 0} → List ℕ → List (Bor (List ℕ) × A) → Option A
+beside word [] = None
+beside word (row ∷ rows) = cond (same_bytes row.0.now word) (Some row.1) (beside word rows)
 
 -- the bytes of a text before the first of these
 unfoldable pub until_byte : ℕ → List ℕ → List ℕ

@@ -1,5 +1,6 @@
 // A line cut into words, each of which ends with a space.
-ghost use Rattle.std.specs.Prelude.{◌≡◌, ◌+◌, ◌≤◌, length, take, drop};
+ghost use Rattle.std.specs.Prelude.{◌≡◌, ◌+◌, ◌≤◌, ◌==◌, length, take, drop};
+ghost use Rattle.std.specs.List.{position};
 ghost use Rattle.words.specs.Tables.{until_byte, words_in, place_in};
 
 // The first `n` bytes; all where there are fewer.
@@ -8,10 +9,14 @@ ghost use Rattle.words.specs.Tables.{until_byte, words_in, place_in};
 pub fn front(bytes: &[u8], n: usize) -> &[u8]
     ensures { result.now ≡ take n bytes.now }
 {
-    if n <= bytes.len() {
-        return &bytes[0..n];
-    }
-    bytes
+    &bytes[..n.min(bytes.len())]
+}
+
+// The place of the first `byte`.
+fn first(s: &[u8], byte: u8) -> Option<usize>
+    ensures { result ≡ position (λ x. x == byte) s.now }
+{
+    s.iter().position(|b| *b == byte)
 }
 
 // Where the first `byte` from `from` on stands; the end where there is none.
@@ -21,14 +26,8 @@ pub fn until(s: &[u8], from: usize, byte: u8) -> usize
     requires { from ≤ length s.now }
     ensures { (from ≤ result) × (result ≤ length s.now) × (result ≡ from + length (until_byte byte (drop from s.now))) }
 {
-    let mut i = from;
-    while i < s.len() {
-        if s[i] == byte {
-            return i;
-        }
-        i += 1;
-    }
-    i
+    let rest = &s[from..];
+    from + first(rest, byte).unwrap_or(rest.len())
 }
 
 // What stands after the byte at `at`.
@@ -58,10 +57,8 @@ pub fn start(s: &[u8], n: usize) -> usize
     ensures { result ≤ length s.now }
 {
     let mut at = 0;
-    let mut left = n;
-    while 0 < left {
+    for _ in 0..n {
         at = next(s, at);
-        left -= 1;
     }
     at
 }
@@ -83,7 +80,7 @@ pub fn place_of(names: &[u8], name: &[u8]) -> usize
     let mut n = 0;
     while at < names.len() {
         let end = until(names, at, b' ');
-        if check::same(&names[at..end], name) {
+        if &names[at..end] == name {
             return n;
         }
         n += 1;

@@ -1,26 +1,21 @@
 -- `amounts::amount_of` meets its contract. What the word begins with decides how it is read.
-use Rattle.wire.proofs.Parts.{tail}
-use Rattle.wire.proofs.Same.{is_same}
+use Rattle.std.proofs.Common.{ap, ◌∙◌}
+use Rattle.amounts.specs.Amounts.{joined_as, opposite_of}
 use Rattle.amounts.proofs.Said.{amount-hex, amount-minus, amount-plain}
 use Rattle.amounts.proofs.amount_of.Goals as goal
 
-pub returns-then-same : goal.returns-then-same
-returns-then-same c =
-    amount-hex c.args.word.now c.front.ensures (is_same c.same.result _ _ c.same.ensures)
-    c.if-same.true
-    (tail c.args.word.now 4) c.tag_in.ensures
+pub returns-in-Some : goal.returns-in-Some
+returns-in-Some c =
+    let k = c.in-Some.ensures.cases in
+    c.tag_in.ensures ∙ amount-hex c.args.word.now k.0 k.1
 
-pub returns-then-same-2 : goal.returns-then-same-2
-returns-then-same-2 c =
-    amount-minus c.args.word.now c.front.ensures (is_same c.same.result _ _ c.same.ensures)
-    c.if-same.false
-    c.front-2.ensures (is_same c.same-2.result _ _ c.same-2.ensures) c.if-same-2.true
-    (tail c.args.word.now 1)
-    c.plain_of.ensures c.joined.ensures c.opposite_of.ensures
+pub returns-in-Some-strip_prefix : goal.returns-in-Some-strip_prefix
+returns-in-Some-strip_prefix c =
+    let k = c.in-Some-strip_prefix.ensures.cases in
+    c.opposite_of.ensures ∙ ap opposite_of (c.joined.ensures ∙ ap joined_as c.plain_of.ensures)
+    ∙ amount-minus c.args.word.now c.in-None.ensures.cases k.0 k.1
 
-pub returns : goal.returns
-returns c =
-    amount-plain c.args.word.now c.front.ensures (is_same c.same.result _ _ c.same.ensures)
-    c.if-same.false
-    c.front-2.ensures (is_same c.same-2.result _ _ c.same-2.ensures) c.if-same-2.false
-    c.plain_of-2.ensures c.joined-2.ensures
+pub returns-in-None-strip_prefix : goal.returns-in-None-strip_prefix
+returns-in-None-strip_prefix c =
+    c.joined-in-None-strip_prefix.ensures ∙ ap joined_as c.plain_of-in-None-strip_prefix.ensures
+    ∙ amount-plain c.args.word.now c.in-None.ensures.cases c.in-None-strip_prefix.ensures.cases

@@ -1,7 +1,7 @@
 -- `tool_recordings::judge_open` meets its contract: where the walk ended is what the rest of the index is judged by.
 use mathlib.Core.Path.{◌≡◌, refl, subst⁻¹}
 use Prim.Native.Nat.{ℕ}
-use Rattle.results.specs.declared.Checked.TheVariants as checked
+use Rattle.results.specs.Results as checked
 use Rattle.results.specs.declared.End.TheVariants as end
 use Rattle.tool_recordings.specs.Loops.{JudgedBy, judges}
 use Rattle.tool_recordings.specs.declared.Came.{Came}

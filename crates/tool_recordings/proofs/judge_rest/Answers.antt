@@ -1,6 +1,6 @@
 -- `tool_recordings::judge_rest` meets its contract: by the check of what the index still has.
 use mathlib.Core.Path.{ap}
-use Rattle.results.specs.declared.Checked.{Checked}
+use Rattle.results.specs.Results.{Checked}
 use Rattle.tool_recordings.specs.Loops.{rest_checked}
 use Rattle.tool_recordings.specs.declared.Judged.TheVariants.{As}
 use Rattle.tool_recordings.proofs.judge_rest.Goals as goal

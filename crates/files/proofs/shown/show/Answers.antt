@@ -38,6 +38,6 @@ returns c =
     let name = c.args.name.now in
     let all : c.loop-i.i ≡ length name = omega (arith, c.loop-i.invariant.0, c.loop-i-test.false) in
     record {
-      count = all ∙ sym (as_many shown_byte name);
+      count = sym (as_many shown_byte name);
       wrote = rw (take_all c.loop-i.i name (omega (arith, all))) at c.loop-i.invariant.1;
     }

@@ -1,9 +1,6 @@
--- `spelled::listed::put_records` meets its contract. The invariant: what was put so far fits; the measure is the times that are left.
+-- `spelled::listed::put_records` meets its contract. The invariant: what was put so far fits.
 use Rattle.spelled.specs.Put.{Put}
 use Rattle.spelled.proofs.listed.put_records.Given as goal
 
-abbrev pub invariant-loop-left : goal.invariant-loop-left
-invariant-loop-left l = Put l.at l.initial.out l.out
-
-abbrev pub decreases-loop-left : goal.decreases-loop-left
-decreases-loop-left l = l.left
+abbrev pub invariant-loop : goal.invariant-loop
+invariant-loop l = Put l.at l.initial.out l.out

@@ -6,4 +6,4 @@ use Rattle.telling.proofs.refusals.put_words.Goals as goal
 pub returns : goal.returns
 returns c =
     let r = c.args.refusal in
-    words-front r _ c.tell_refused-n.result (omega arith) c.tell_refused-n.ensures
+    rw c.saturating_sub.ensures (words-front r _ c.tell_refused.result (omega arith) c.tell_refused.ensures)

@@ -15,22 +15,20 @@ returns-then-capacity_of-index c =
     let i = a.index in
     says-as (ap (looked_line i (kind_at t i) (end_at t i)) (no_record t i (search rules))) c.tell_refused.ensures
 
-pub returns-in-Value : goal.returns-in-Value
+pub returns-in-Ok : goal.returns-in-Ok
 unfolding record_line
-returns-in-Value c =
+returns-in-Ok c =
     let a = c.args in
     let t = a.table.now in
     let i = a.index in
     says-as
-    (c.value_line-line.ensures _
-    ∙ rw (c.kind_at.ensures, c.field_at-end.ensures)
-    (ap (looked_line i (kind_at t i) (end_at t i)) (sym c.in-Value.is ∙ c.look.ensures)))
+    (rw (c.kind_at.ensures, c.field_at.ensures) (ap (looked_line i (kind_at t i) (end_at t i)) (sym c.in-Ok.is ∙ c.look.ensures)))
     c.tell.ensures
 
-pub returns-in-Refused : goal.returns-in-Refused
+pub returns-in-Err : goal.returns-in-Err
 unfolding record_line
-returns-in-Refused c =
+returns-in-Err c =
     let a = c.args in
     let t = a.table.now in
     let i = a.index in
-    says-as (ap (looked_line i (kind_at t i) (end_at t i)) (sym c.in-Refused.is ∙ c.look.ensures)) c.tell_refused-in-Refused.ensures
+    says-as (ap (looked_line i (kind_at t i) (end_at t i)) (sym c.in-Err.is ∙ c.look.ensures)) c.tell_refused-in-Err.ensures

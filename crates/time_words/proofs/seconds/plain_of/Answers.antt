@@ -3,17 +3,17 @@ use mathlib.Core.Path.{refl, sym, ◌∙◌}
 use Rattle.time_words.proofs.Words.{plain_by}
 use Rattle.time_words.proofs.seconds.plain_of.Goals as goal
 
-pub returns-in-Is-nanos_after : goal.returns-in-Is-nanos_after
-returns-in-Is-nanos_after c =
-    plain_by c.args.word.now c.until-dot.result c.until-dot.ensures.2
-    (sym c.in-Is.is ∙ c.decimal.ensures) (sym c.in-Is-nanos_after.is ∙ c.nanos_after.ensures)
+pub returns-in_err-seconds : goal.returns-in_err-seconds
+returns-in_err-seconds c =
+    c.from_residual.ensures ∙ plain_by c.args.word.now c.until-dot.result c.until-dot.ensures.2
+    (sym c.in_err-seconds.was ∙ c.decimal.ensures) refl
 
-pub returns-in-Unclear-nanos_after : goal.returns-in-Unclear-nanos_after
-returns-in-Unclear-nanos_after c =
-    plain_by c.args.word.now c.until-dot.result c.until-dot.ensures.2
-    (sym c.in-Is.is ∙ c.decimal.ensures) (sym c.in-Unclear-nanos_after.is ∙ c.nanos_after.ensures)
+pub returns-in_err-nanos : goal.returns-in_err-nanos
+returns-in_err-nanos c =
+    c.from_residual-in_err-nanos.ensures ∙ plain_by c.args.word.now c.until-dot.result c.until-dot.ensures.2
+    (sym c.in_ok-seconds.was ∙ c.decimal.ensures) (sym c.in_err-nanos.was ∙ c.nanos_after.ensures)
 
-pub returns-in-Unclear : goal.returns-in-Unclear
-returns-in-Unclear c =
+pub returns : goal.returns
+returns c =
     plain_by c.args.word.now c.until-dot.result c.until-dot.ensures.2
-    (sym c.in-Unclear.is ∙ c.decimal.ensures) refl
+    (sym c.in_ok-seconds.was ∙ c.decimal.ensures) (sym c.in_ok-nanos.was ∙ c.nanos_after.ensures)

@@ -1,22 +1,32 @@
 -- `words::line::until` meets its contract.
-use mathlib.Core.Path.{◌∙◌}
+use mathlib.Core.Path.{◌≡◌, ap, ◌∙◌}
+use mathlib.Core.List.{List}
+use Prim.Native.Nat.{ℕ, ◌-◌}
 use native.Mathlib.Omega.{arith}
-use Rattle.words.proofs.Tables.{byte-here, byte-on, byte-none}
+use lib.ListN.{length, take, drop, length-drop}
+use Rattle.std.specs.Prelude.{Option, unwrap_or}
+use Rattle.wire.proofs.Parts.{tail}
+use Rattle.words.specs.Tables.{until_byte}
+use Rattle.words.proofs.Tables.{place_before, until-le}
 use Rattle.words.proofs.line.until.Goals as goal
 
-pub returns-then-s-i : goal.returns-then-s-i
-returns-then-s-i c =
-    let a = c.args in
-    let h = byte-here a.s.now c.loop-i.i a.byte (omega arith) c.if-s-i.true in
-    (omega arith, omega arith, omega (arith, h, c.loop-i.invariant.2))
+-- how far the byte is from the start
+found : (c : goal.After-unwrap_or) → c.unwrap_or.result ≡ length (until_byte c.args.byte (drop c.args.from c.args.s.now))
+found c =
+    let rest = take (length c.args.s.now - c.args.from) (drop c.args.from c.args.s.now) in
+    c.unwrap_or.ensures
+    ∙ ap (λ (o : Option ℕ). unwrap_or o (length rest)) c.first.ensures
+    ∙ place_before c.args.byte rest
+    ∙ ap (λ (s : List ℕ). length (until_byte c.args.byte s)) (tail c.args.s.now c.args.from)
 
-pub loop-i-preserved : goal.loop-i-preserved
-loop-i-preserved c =
-    let a = c.args in
-    (omega arith, omega arith, c.loop-i.invariant.2 ∙ byte-on a.s.now c.loop-i.i a.byte (omega arith) c.if-s-i.false)
+pub overflow_add-result : goal.overflow_add-result
+overflow_add-result c =
+    let h = found c in
+    let s = drop c.args.from c.args.s.now in
+    record { fits = omega (arith, until-le c.args.byte s, length-drop c.args.from c.args.s.now) }
 
 pub returns : goal.returns
 returns c =
-    let a = c.args in
-    let h = byte-none a.s.now c.loop-i.i a.byte (omega arith) in
-    (omega arith, omega arith, omega (arith, h, c.loop-i.invariant.2))
+    let h = found c in
+    let s = drop c.args.from c.args.s.now in
+    (omega arith, omega (arith, until-le c.args.byte s, length-drop c.args.from c.args.s.now), omega arith)

@@ -1,33 +1,36 @@
 -- `words::numeral::decimal` meets its contract.
-use borrow.Author.Rules.{rules}
-use mathlib.Core.Path.{sym}
+use mathlib.Core.Path.{◌∙◌, sym, ap}
 use Prim.Native.Nat.{◌+◌}
 use native.Mathlib.Omega.{arith}
 use lib.ListN.{drop}
-use Rattle.words.specs.declared.numeral.Numeral.TheVariants.{Is}
-use Rattle.words.proofs.Numerals.{none_read, some_read, still-unclear, byte-read, all_read}
+use Rattle.std.specs.Prelude.{Some}
+use Rattle.words.specs.Numeral.{all_more}
+use Rattle.words.proofs.Numerals.{none_read, some_read, still_none, byte-read, all_read}
 use Rattle.words.proofs.numeral.decimal.Goals as goal
 
-pub returns-then-word-eq0 : goal.returns-then-word-eq0
-returns-then-word-eq0 c = sym (none_read _ c.if-word-eq0.true)
+pub returns-then-is_empty : goal.returns-then-is_empty
+returns-then-is_empty c = grind (arith, none_read)
 
-pub loop-i-init : goal.loop-i-init
-loop-i-init c = (search rules, some_read _ (omega arith))
+pub loop-byte-init : goal.loop-byte-init
+loop-byte-init c = grind (arith, some_read)
 
-pub returns-in_default : goal.returns-in_default
-returns-in_default c =
+pub returns-in_err-x : goal.returns-in_err-x
+returns-in_err-x c =
     let word = c.args.word.now in
-    let i = c.loop-i.i in
-    let x = c.loop-i.x in
-    cc (byte-read word i (Is x) (omega arith), still-unclear (drop (i + 1) word))
+    let i = c.loop-byte.byte-index in
+    c.from_residual.ensures
+    ∙ sym (c.loop-byte.invariant ∙ byte-read word i (Some c.loop-byte.x) (omega arith)
+    ∙ ap (all_more (drop (i + 1) word)) (sym c.appended.ensures ∙ c.in_err-x.was)
+    ∙ still_none (drop (i + 1) word))
 
-pub loop-i-preserved : goal.loop-i-preserved
-loop-i-preserved c =
+pub loop-byte-preserved : goal.loop-byte-preserved
+loop-byte-preserved c =
     let word = c.args.word.now in
-    let i = c.loop-i.i in
-    let x = c.loop-i.x in
-    (search rules, cc (byte-read word i (Is x) (omega arith)))
+    let i = c.loop-byte.byte-index in
+    c.loop-byte.invariant ∙ byte-read word i (Some c.loop-byte.x) (omega arith)
+    ∙ ap (all_more (drop (i + 1) word)) (sym c.appended.ensures ∙ c.in_ok-x.was)
 
 pub returns : goal.returns
 returns c =
-    cc (all_read c.args.word.now c.loop-i.i (Is c.loop-i.x) (omega arith))
+    let i = c.loop-byte.byte-index in
+    sym (c.loop-byte.invariant ∙ all_read c.args.word.now i (Some c.loop-byte.x) (omega arith))
