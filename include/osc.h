@@ -2,7 +2,7 @@
  *
  * No function allocates, keeps a pointer or has a state. Every pointer may be to any bytes, and a length may be 0, with a NULL pointer
  * too; slices that a call may write must not overlap the others. A `uint64_t *` or an `int64_t *` is to one number, aligned as C has
- * it. A call that is refused changes no byte of a slice. Each call ends within 29,456 bytes of stack, an encoder of packets within 14,240,
+ * it. A call that is refused changes no byte of a slice. Each call ends within 29,456 bytes of stack, an encoder of packets within 13,184,
  * and a call on one record, cue, text, number, time or part of an index within 5,168, whatever it is given (measured by c/stack.c on
  * x86-64).
  *
@@ -15,8 +15,8 @@
 
 /* The version of the library that this header belongs to, and the same as a number: the major in bits 32 to 47, the minor in bits 16 to
  * 31, the patch in bits 0 to 15. osc_fits says whether the library that is linked fits. */
-#define SENNORBAI_VERSION "0.16.0"
-#define OSC_VERSION (UINT64_C(0) << 32 | UINT64_C(16) << 16 | UINT64_C(0))
+#define SENNORBAI_VERSION "0.16.1"
+#define OSC_VERSION (UINT64_C(0) << 32 | UINT64_C(16) << 16 | UINT64_C(1))
 
 #include <stddef.h>
 #include <stdint.h>

@@ -10,10 +10,10 @@ const SOURCE: &str = include_str!("../../../crates/telling/src/refusals.rt");
 /// The lines of that table.
 fn table() -> Vec<&'static str> {
     let (_, table) = SOURCE.split_once("const REFUSALS: ").expect("the table of the refusals");
-    let (_, text) = table.split_once("*b\"").expect("its first byte");
-    let (text, _) = text.split_once("\";").expect("its last");
-    assert!(!text.contains('\\'), "the lines stand in the source as they are");
-    text.lines().collect()
+    let (_, lines) = table.split_once(" = [\n").expect("its first line");
+    let (lines, _) = lines.split_once("\n];").expect("its last");
+    let line = |line: &'static str| line.trim().strip_prefix("b\"")?.strip_suffix("\\n\",");
+    lines.lines().map(|text| line(text).expect("a line of text that ends")).collect()
 }
 
 /// What `osc` says: a form whose marks stand for these numbers.
