@@ -1,6 +1,7 @@
 // A file, read into a lent buffer.
-ghost use Rattle.std.specs.Prelude.{◌≡◌, IfOk};
+ghost use Rattle.std.specs.Prelude.{◌≡◌, ◌<◌, IfOk, IfErr, length};
 ghost use Rattle.io.specs.Counts.{IsPrefixLen};
+ghost use Rattle.files.specs.Rest.{Before, count_of};
 
 use crate::pieces::{Unread, failed, open, open_apart, read_on};
 use std::fs::File;
@@ -13,13 +14,16 @@ fn read_once(mut file: &File, path: &[u8], buf: &mut [u8]) -> Result<usize, Unre
     file.read(buf).map_err(|error| failed(path, &error))
 }
 
-// Reads until the buffer is full or the file ends, or says why it cannot.
-pub fn read_up(file: &File, path: &[u8], buf: &mut [u8]) -> Result<usize, Unread>
-    ensures { IfOk result (λ n. IsPrefixLen n buf.new) }
+// Reads until the buffer is full or the file ends. Where it cannot, it says why, and answers how many bytes were read before.
+pub fn read_up(file: &File, path: &[u8], buf: &mut [u8]) -> Result<usize, usize>
+    ensures read { IfOk result (λ n. IsPrefixLen n buf.new) }
+    ensures before { IfErr result (λ n. n < length buf.new) }
 {
     let mut done = 0;
     while done < buf.len() {
-        let n = read_once(file, path, &mut buf[done..])?;
+        let Ok(n) = read_once(file, path, &mut buf[done..]) else {
+            return Err(done);
+        };
         if n == 0 {
             break;
         }
@@ -32,7 +36,8 @@ pub fn read_up(file: &File, path: &[u8], buf: &mut [u8]) -> Result<usize, Unread
 //
 // Ruled out: a count past the buffer's end; what was read first counted again with each read after it.
 pub fn read(rt: &HostRuntime, path: &[u8], buf: &mut [u8]) -> Result<usize, Unread>
-    ensures { IfOk result (λ n. IsPrefixLen n buf.new) }
+    ensures read { IfOk result (λ n. IsPrefixLen n buf.new) }
+    ensures before { IfErr result (λ unread. Before buf.new (count_of unread)) }
 {
     let file = open(rt, path)?;
     read_on(&file, path, buf, 0)
@@ -47,7 +52,8 @@ pub fn read_apart(
     output: &[u8],
     buf: &mut [u8],
 ) -> Result<usize, Unread>
-    ensures { IfOk result (λ n. IsPrefixLen n buf.new) }
+    ensures read { IfOk result (λ n. IsPrefixLen n buf.new) }
+    ensures before { IfErr result (λ unread. Before buf.new (count_of unread)) }
 {
     let file = open_apart(rt, path, output)?;
     read_on(&file, path, buf, 0)

@@ -1,8 +1,8 @@
 // A file that is read in pieces: it is opened once, and each piece is put after the bytes that are still needed.
-ghost use Rattle.std.specs.Prelude.{◌≡◌, ◌≤◌, IfOk, length};
+ghost use Rattle.std.specs.Prelude.{◌≡◌, ◌≤◌, IfOk, IfErr, length};
 ghost use Rattle.io.specs.Counts.{IsPrefixLen};
 ghost use Rattle.files.specs.Numbers.{place_of, ends_early, has_lost};
-ghost use Rattle.files.specs.Rest.{ReadOn};
+ghost use Rattle.files.specs.Rest.{Before, ReadOn, count_of};
 
 use crate::fail;
 use crate::input::read_up;
@@ -16,23 +16,29 @@ use std::io::{Error, Seek, SeekFrom};
 pub enum Unread {
     // It is the one to be written, or cannot be told from it.
     Output,
-    // A call of the system failed, and it was said why.
-    Failed,
+    // A call of the system failed, and it was said why: `count` bytes stand at the start of the buffer by then.
+    Failed { count: usize },
 }
 
-// Says why a call of the system failed.
-pub fn failed(path: &[u8], error: &Error) -> Unread {
+// Says why a call of the system failed, before which nothing was read.
+pub fn failed(path: &[u8], error: &Error) -> Unread
+    ensures { count_of result ≡ 0 }
+{
     fail(path, error);
-    Unread::Failed
+    Unread::Failed { count: 0 }
 }
 
 // Opens a file to read it; it is closed where it is let go.
-pub fn open(rt: &HostRuntime, path: &[u8]) -> Result<File, Unread> {
+pub fn open(rt: &HostRuntime, path: &[u8]) -> Result<File, Unread>
+    ensures { IfErr result (λ unread. count_of unread ≡ 0) }
+{
     open_read(rt, path).map_err(|error| failed(path, &error))
 }
 
 // The same of a file that is not the one to be written, or can be told from it.
-pub fn open_apart(rt: &HostRuntime, path: &[u8], output: &[u8]) -> Result<File, Unread> {
+pub fn open_apart(rt: &HostRuntime, path: &[u8], output: &[u8]) -> Result<File, Unread>
+    ensures { IfErr result (λ unread. count_of unread ≡ 0) }
+{
     let file = open(rt, path)?;
     if is_output(rt, &file, output) {
         return Err(Unread::Output);
@@ -48,15 +54,18 @@ pub fn read_on(file: &File, path: &[u8], buf: &mut [u8], kept: usize) -> Result<
     requires { kept ≤ length buf.old }
     ensures { ReadOn kept buf.old buf.new result }
 {
-    let n = read_up(file, path, &mut buf[kept..])?;
-    Ok(kept + n)
+    match read_up(file, path, &mut buf[kept..]) {
+        Ok(n) => Ok(kept + n),
+        Err(n) => Err(Unread::Failed { count: kept + n }),
+    }
 }
 
 // Reads from an offset of the file until the buffer is full or the file ends, or says why it cannot.
 //
 // Ruled out: a count past the buffer's end; the offset counted with the bytes that are read.
 pub fn read_at(file: &File, path: &[u8], offset: u64, buf: &mut [u8]) -> Result<usize, Unread>
-    ensures { IfOk result (λ n. IsPrefixLen n buf.new) }
+    ensures read { IfOk result (λ n. IsPrefixLen n buf.new) }
+    ensures before { IfErr result (λ unread. Before buf.new (count_of unread)) }
 {
     let from = SeekFrom::Start(place_of(offset).cast_unsigned());
     seek(file, from).map_err(|error| failed(path, &error))?;

@@ -1,6 +1,7 @@
 // The files that words of a command name.
-ghost use Rattle.std.specs.Prelude.{◌≡◌, ◌%◌, ◌≤◌, ◌<◌, IfSome, length};
+ghost use Rattle.std.specs.Prelude.{◌≡◌, ◌%◌, ◌≤◌, ◌<◌, IfOk, IfErr, length};
 ghost use Rattle.io.specs.Counts.{IsPrefixLen};
+ghost use Rattle.files.specs.Rest.{Before, count_of};
 ghost use Rattle.tool_files.specs.CodeRecords.{WholeTable, InRoom};
 
 use crate::say;
@@ -45,7 +46,7 @@ pub fn name_word(rt: &HostRuntime, i: usize, path: &mut [u8]) -> usize
 fn say_unread(rt: &HostRuntime, unread: Unread, i: usize) {
     match unread {
         Unread::Output => say::trouble(rt, Trouble::OneFile, i, 0),
-        Unread::Failed => {}
+        Unread::Failed { .. } => {}
     }
 }
 
@@ -58,37 +59,45 @@ pub fn open_word(rt: &HostRuntime, i: usize, output: usize, path: &[u8]) -> Opti
         .ok()
 }
 
-// Reads the file that word `i` names, as much of it as the buffer holds; none where it cannot, or where word `output` names the same file,
-// and then says why.
+// Reads the file that word `i` names, as much of it as the buffer holds. Where it cannot, or where word `output` names the same file, it
+// says why.
 //
 // Ruled out: a count past the buffer's end; the length of the whole file where the buffer holds less of it.
-pub fn read_word(rt: &HostRuntime, i: usize, output: usize, buf: &mut [u8]) -> Option<usize>
-    ensures { IfSome result (λ n. IsPrefixLen n buf.new) }
+pub fn read_word(rt: &HostRuntime, i: usize, output: usize, buf: &mut [u8]) -> Result<usize, Unread>
+    ensures read { IfOk result (λ n. IsPrefixLen n buf.new) }
+    ensures before { IfErr result (λ unread. Before buf.new (count_of unread)) }
 {
     let mut path = io::buffer();
     let n = name_word(rt, i, &mut path);
     if n == 0 {
-        return None;
+        return Err(Unread::Failed { count: 0 });
     }
     let mut other = io::buffer();
     let m = word(rt, output, &mut other);
-    files::read_apart(rt, &path[..n], &other[..m], buf)
-        .inspect_err(|unread| say_unread(rt, *unread, i))
-        .ok()
+    files::read_apart(rt, &path[..n], &other[..m], buf).inspect_err(|unread| say_unread(
+        rt, *unread, i,
+    ))
 }
 
-// Reads all of the file that word `i` names: it has to leave the buffer's last byte free. None where it cannot, and then says why.
+// Reads all of the file that word `i` names: it has to leave the buffer's last byte free. Where it cannot, it says why; of a file that is
+// too large no byte is counted.
 //
 // Ruled out: a count past the buffer's end; bytes counted of a file that is too large.
-pub fn read_whole(rt: &HostRuntime, i: usize, output: usize, buf: &mut [u8]) -> Option<usize>
-    ensures { IfSome result (λ n. IsPrefixLen n buf.new × (n < length buf.new)) }
+pub fn read_whole(
+    rt: &HostRuntime,
+    i: usize,
+    output: usize,
+    buf: &mut [u8],
+) -> Result<usize, Unread>
+    ensures read { IfOk result (λ n. IsPrefixLen n buf.new × (n < length buf.new)) }
+    ensures before { IfErr result (λ unread. Before buf.new (count_of unread)) }
 {
     let n = read_word(rt, i, output, buf)?;
     if n < buf.len() {
-        return Some(n);
+        return Ok(n);
     }
     say::trouble(rt, Trouble::TooLarge, i, n);
-    None
+    Err(Unread::Failed { count: 0 })
 }
 
 // How the reading of a table into a room went.

@@ -44,7 +44,7 @@ pub fn begin(
 // Decodes the file that word 3 names. Of a file that is too large the library sees a byte too many, and refuses it.
 fn decode_file(rt: &HostRuntime, decoding: Decoding, is_replacing: bool) {
     let mut input = io::large_buffer();
-    let Some(n) = named::read_word(rt, 3, 4, &mut input) else {
+    let Ok(n) = named::read_word(rt, 3, 4, &mut input) else {
         return;
     };
     if !rooms::begin(rt, Work::Decode(decoding, is_replacing), &input[..n]) {

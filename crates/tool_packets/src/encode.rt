@@ -16,7 +16,7 @@ use words::line::front;
 // Encodes with the texts of the file that word 4 names to the one that word 5 names.
 fn encode_with_source(rt: &HostRuntime, writing: Writing, is_replacing: bool, table: &[u8]) {
     let mut source = io::large_buffer();
-    let Some(n) = named::read_whole(rt, 4, 5, &mut source) else {
+    let Ok(n) = named::read_whole(rt, 4, 5, &mut source) else {
         return;
     };
     let mut out = io::large_buffer();
