@@ -205,21 +205,28 @@ fn name_answer(out: &mut Answer, asked: &[u8]) -> Result {
     )
 }
 
-// The answer to a question: its numbers stand first, then its bytes.
-pub fn answer(question: Question, asked: &[u8], out: &mut Answer) -> Result {
+// The answer to a question whose last word has its bytes.
+fn bytes_answer(question: Question, asked: &[u8], out: &mut Answer) -> Result {
     let mut space = [0u8; 256];
     let bytes = bytes_of(asked, question::numbers(question) + 1, &mut space);
     let x = numeral::number(asked, 1);
     match question {
-        Question::Utf8 => utf8_answer(out, bytes),
         Question::Lead => lead_answer(out, bytes),
-        Question::Pad => pad_answer(out, x),
         Question::U32 => u32_answer(out, bytes),
         Question::U64 => u64_answer(out, bytes),
         Question::Text => text_answer(out, x, bytes),
-        Question::Record => record_answer(out, asked),
         Question::Look => look_answer(out, x, bytes),
-        Question::Name => name_answer(out, asked),
         Question::Start => start_answer(out, x, bytes),
+        _ => utf8_answer(out, bytes),
+    }
+}
+
+// The answer to a question: its numbers stand first, then its bytes.
+pub fn answer(question: Question, asked: &[u8], out: &mut Answer) -> Result {
+    match question {
+        Question::Pad => pad_answer(out, numeral::number(asked, 1)),
+        Question::Record => record_answer(out, asked),
+        Question::Name => name_answer(out, asked),
+        _ => bytes_answer(question, asked, out),
     }
 }

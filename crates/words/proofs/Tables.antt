@@ -119,6 +119,13 @@ pub place_none : (names word : List ℕ) (at : ℕ) → length names ≤ at → 
 unfolding words_in place_in
 place_none names word at h = rw (drop_of_length-le names h)
 
+-- no place is past the last
+pub place-within : (names : List (List ℕ)) (word : List ℕ) → place_in names word ≤ length names
+unfolding place_in
+place-within [] word = omega arith
+place-within (name ∷ names) word =
+    by-test (λ (n : ℕ). n ≤ suc (length names)) (same_bytes name word) (λ _. omega arith) (λ _. omega (arith, place-within names word))
+
 -- ---- a table
 
 -- what stands beside its keys

@@ -32,17 +32,24 @@ pub fn bytes(word: &[u8], out: &mut [u8]) -> usize
     count
 }
 
+// The digits.
+const DIGITS: [&str; 16] = [
+    "0", "1", "2", "3", "4", "5", "6", "7", "8", "9", "A", "B", "C", "D", "E", "F",
+];
+
 // Bytes as they are written.
 #[derive(Clone, Copy)]
 pub struct Hex<'a>(pub &'a [u8]);
 
 impl fmt::Display for Hex<'_> {
+    // Each digit is put by itself: `{byte:02X}` takes twice as long.
     fn fmt<W: fmt::Write>(&self, f: &mut fmt::Formatter<W>) -> fmt::Result {
         if self.0.is_empty() {
-            return write!(f, "-");
+            return f.write_str("-");
         }
         for byte in self.0 {
-            write!(f, "{byte:02X}")?;
+            f.write_str(DIGITS[(byte / 16) as usize])?;
+            f.write_str(DIGITS[(byte % 16) as usize])?;
         }
         Ok(())
     }

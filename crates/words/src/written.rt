@@ -7,7 +7,7 @@ use std::fmt;
 const ROOM: usize = 256;
 
 // An answer: the first `len` of the bytes. `write!` puts text after them, and what has no room is left out.
-#[derive(Drop)]
+#[derive(Clone, Copy)]
 pub struct Answer {
     pub bytes: [u8; ROOM],
     pub len: usize,
