@@ -15,8 +15,8 @@
 
 /* The version of the library that this header belongs to, and the same as a number: the major in bits 32 to 47, the minor in bits 16 to
  * 31, the patch in bits 0 to 15. osc_fits says whether the library that is linked fits. */
-#define SENNORBAI_VERSION "0.16.1"
-#define OSC_VERSION (UINT64_C(0) << 32 | UINT64_C(16) << 16 | UINT64_C(1))
+#define SENNORBAI_VERSION "0.16.2"
+#define OSC_VERSION (UINT64_C(0) << 32 | UINT64_C(16) << 16 | UINT64_C(2))
 
 #include <stddef.h>
 #include <stdint.h>

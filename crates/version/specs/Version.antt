@@ -7,7 +7,7 @@ packed major minor patch = major * 0x1_0000_0000 + minor * 0x1_0000 + patch
 
 -- the version of this state: src/lib.rt has the same three numbers
 abbrev pub version_number : ℕ
-version_number = packed 0 16 1
+version_number = packed 0 16 2
 
 -- a part has 16 bits
 abbrev pub Part : ℕ → Type 0

@@ -8,7 +8,7 @@ pub const MAJOR: u16 = 0;
 
 pub const MINOR: u16 = 16;
 
-pub const PATCH: u16 = 1;
+pub const PATCH: u16 = 2;
 
 // Three parts as one number: the major in bits 32 to 47, the minor in bits 16 to 31, the patch in bits 0 to 15.
 //
